@@ -1,0 +1,1 @@
+// Nodes and the head of the block table, and its format.

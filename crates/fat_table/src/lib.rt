@@ -1,0 +1,1 @@
+// Soundness of the block table, and its layouts.

@@ -1,0 +1,50 @@
+// The answers that a call can give, by document 01's names.
+ghost use mathlib.Core.Path.{_≡_};
+ghost use Rattle.order.specs.Answer.{numberOf};
+
+pub enum Answer {
+    Done,
+    SizeMismatch,
+    InvalidValue,
+    WorkTooShort,
+    BrokenFat,
+    NotAFile,
+    NoSpace,
+    OutOfBound,
+    ListTooShort,
+    BrokenTree,
+    NotFound,
+    AlreadyExist,
+    Busy,
+    DeletingRoot,
+    NotEmpty,
+    IntoItself,
+    NotOpen,
+    TooManyOpens,
+}
+
+// The answer's number, as a technician reads it and the C interface gives it.
+pub fn number(answer: Answer) -> u32
+    ensures { λ r. ⌜ r ≡ numberOf answer ⌝ }
+{
+    match answer {
+        Answer::Done => 0,
+        Answer::SizeMismatch => 1,
+        Answer::InvalidValue => 2,
+        Answer::WorkTooShort => 3,
+        Answer::BrokenFat => 4,
+        Answer::NotAFile => 5,
+        Answer::NoSpace => 6,
+        Answer::OutOfBound => 7,
+        Answer::ListTooShort => 8,
+        Answer::BrokenTree => 9,
+        Answer::NotFound => 10,
+        Answer::AlreadyExist => 11,
+        Answer::Busy => 12,
+        Answer::DeletingRoot => 13,
+        Answer::NotEmpty => 14,
+        Answer::IntoItself => 15,
+        Answer::NotOpen => 16,
+        Answer::TooManyOpens => 17,
+    }
+}
