@@ -1,1 +1,5 @@
 pub mod Sound
+pub mod Chain
+pub mod Layout
+pub mod Steps
+pub mod Holds
