@@ -3,6 +3,7 @@ use mathlib.Core.Path.{_≡_, sym, _∙_}
 use mathlib.Core.List.{List, [], _∷_, _++_}
 use mathlib.Core.Logic.{_⊎_, inl, inr}
 use Rattle.order.specs.First.{Row, First}
+use Rattle.order.specs.Given.{Given, None}
 
 -- a promise and its input leave one answer
 pub one : {A : Type 0} (rs : List (Row A)) (d o o′ : A) → First rs d o → First rs d o′ → o ≡ o′
@@ -11,16 +12,6 @@ one (r ∷ rs) d o o′ (inl p) (inl q) = p .1 ∙ sym (q .1)
 one (r ∷ rs) d o o′ (inl p) (inr q) = absurd (q .0 (p .0))
 one (r ∷ rs) d o o′ (inr p) (inl q) = absurd (p .0 (q .0))
 one (r ∷ rs) d o o′ (inr p) (inr q) = one rs d o o′ (p .1) (q .1)
-
--- some row applies, and o is what the first such row gives
-abbrev pub Given : {A : Type 0} → List (Row A) → A → Type 0
-Given [] o = ⊥
-Given (r ∷ rs) o = (r .when × (o ≡ r .gives)) ⊎ ((r .when → ⊥) × Given rs o)
-
--- no row applies
-abbrev pub None : {A : Type 0} → List (Row A) → Type 0
-None [] = Unit {0}
-None (r ∷ rs) = (r .when → ⊥) × None rs
 
 -- what the front rows give is given, whatever stands after them
 pub front : {A : Type 0} (rs qs : List (Row A)) (d o : A) → Given rs o → First (rs ++ qs) d o

@@ -18,3 +18,11 @@ gate refuse misfit invalid short unsound broken k work =
     ∷ row short (refuse WorkTooShort work)
     ∷ row unsound (refuse broken (cleared k work))
     ∷ []
+
+-- a refusal by itself: the answer, and the work list afterwards
+pub record Refusal : Type 0 where
+  pub answer : Answer
+  pub work : List ℕ
+
+abbrev pub refusal : Answer → List ℕ → Refusal
+refusal answer work = record { answer = answer; work = work }

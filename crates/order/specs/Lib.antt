@@ -1,3 +1,4 @@
 pub mod Answer
 pub mod First
 pub mod Gate
+pub mod Given

@@ -1,0 +1,31 @@
+-- The rows that the calls on a block table begin with: sizes, work list, soundness, in document 01's order. Assumes nothing.
+use mathlib.Core.Path.{_≡_}
+use mathlib.Core.List.{List}
+use mathlib.Core.Logic.{_⊎_}
+use Prim.Native.Nat.{ℕ, _*_, _<_}
+use lib.ListN.{length}
+use Rattle.order.specs.First.{Row}
+use Rattle.order.specs.Gate.{gate}
+use Rattle.order.specs.declared.Answer.{Answer}
+use Rattle.order.specs.declared.Answer.the-variants.{BrokenFat}
+use Rattle.fat_node.specs.Entry.{Bytes}
+use Rattle.fat_table.specs.Sound.{Sound}
+use Rattle.fat_test.specs.Sizes.{blocks, Misfit, Outside}
+
+-- of the test, which takes the table alone; refuse a w is what the call gives with the answer a and the work list w
+abbrev pub testGate : {A : Type 0} → (Answer → List ℕ → A) → Bytes → List ℕ → List (Row A)
+testGate refuse t work =
+    gate refuse (Misfit t) (Outside t) (length work < blocks t) (Sound t (blocks t) → ⊥) BrokenFat (blocks t) work
+
+-- of every call that takes data also: d is the length of the data, l the block length. All of row 1 comes before any of row 2, and n x l is a number
+-- with no bound.
+abbrev pub blockGate : {A : Type 0} → (Answer → List ℕ → A) → Bytes → ℕ → ℕ → List ℕ → List (Row A)
+blockGate refuse t d l work =
+    gate refuse
+    (Misfit t ⊎ (d ≡ blocks t * l → ⊥))
+    (Outside t ⊎ (l < 1) ⊎ (65536 < l))
+    (length work < blocks t)
+    (Sound t (blocks t) → ⊥)
+    BrokenFat
+    (blocks t)
+    work
