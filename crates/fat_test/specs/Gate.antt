@@ -10,7 +10,7 @@ use Rattle.order.specs.declared.Answer.{Answer}
 use Rattle.order.specs.declared.Answer.the-variants.{BrokenFat}
 use Rattle.fat_node.specs.Entry.{Bytes}
 use Rattle.fat_table.specs.Sound.{Sound}
-use Rattle.fat_test.specs.Sizes.{blocks, Misfit, Outside}
+use Rattle.fat_node.specs.Sizes.{blocks, Misfit, Outside}
 
 -- of the test, which takes the table alone; refuse a w is what the call gives with the answer a and the work list w
 abbrev pub testGate : {A : Type 0} → (Answer → List ℕ → A) → Bytes → List ℕ → List (Row A)
