@@ -1,0 +1,5 @@
+pub mod Layouts
+pub mod Chains
+pub mod Laying
+pub mod Stepped
+pub mod Writes
