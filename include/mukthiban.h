@@ -1,0 +1,371 @@
+/* The C interface of Mukthiban: the block table and the entry tables of a
+ * saved-game volume, over memory that the caller lends.
+ *
+ * What every function here promises:
+ *  - It may be called with any bytes, lengths and numbers. What does not fit is
+ *    refused by a number (see MUKTHIBAN_DONE and the rest); nothing else is
+ *    required of the caller but what C itself asks (next paragraph).
+ *  - It ends, and touches no memory but what it was lent.
+ *  - A refusal changes no table, no data, no buffer, no list and no open count,
+ *    and every other field of its answer is 0 (lookup's `compared` with
+ *    MUKTHIBAN_NOT_FOUND, which is kept, is the one exception).
+ *  - Once sizes and work list have passed (numbers 1, 2 for a size, 3), the
+ *    work places that the call names are 0 on return, whatever the answer. The
+ *    places behind them stay. Before that the work list is untouched.
+ *
+ * What C must see to: a pointer is never NULL, also where its length is 0; it
+ * is aligned for its type; what is lent without `const` overlaps nothing else
+ * that is lent in the same call.
+ *
+ * A slice is a pointer and a length IN ELEMENTS: bytes for uint8_t, u32s for
+ * uint32_t. Stored numbers are little-endian u32, whatever the machine.
+ *
+ * Names of parameters:
+ *  table        the block table; n = table_len / 8 - 1 blocks, 1 to 1,000,000
+ *  data         the blocks' bytes; data_len = n * block_len
+ *  block_len    bytes in a block, 1 to 65,536
+ *  work         room for the call's own use: n places for block calls; for tree
+ *               calls the two rooms added (room: table length / entry width)
+ *  first_block  a file's first block (a block number, from 0)
+ *  dir_hash, dir_table, file_hash, file_table
+ *               the four tables of the tree; directory entries are 40 bytes
+ *               wide, file entries 48; a bucket is 4 bytes
+ *  opens        open counts, one place an inode, at least the room of that
+ *               call's own table (directories or files)
+ *  inode        1 is the root directory; file inode 1 is an ordinary file
+ *  parent       the inode of a directory
+ *  name         16 bytes, all of them compared
+ */
+#ifndef MUKTHIBAN_H
+#define MUKTHIBAN_H
+
+#include <stddef.h>
+#include <stdint.h>
+
+#ifdef __cplusplus
+extern "C" {
+#endif
+
+/* The numbers that a call can answer. */
+enum {
+    MUKTHIBAN_DONE = 0,
+    MUKTHIBAN_SIZE_MISMATCH = 1,  /* a length that fits no table, or does not fit the others */
+    MUKTHIBAN_INVALID_VALUE = 2,  /* a size or a number outside its bounds; 0 blocks asked for */
+    MUKTHIBAN_WORK_TOO_SHORT = 3, /* the work list or the open counts have too few places */
+    MUKTHIBAN_BROKEN_FAT = 4,     /* the block table is not sound */
+    MUKTHIBAN_NOT_A_FILE = 5,     /* the block is no file's first block */
+    MUKTHIBAN_NO_SPACE = 6,       /* too few free blocks, or no free entry */
+    MUKTHIBAN_OUT_OF_BOUND = 7,   /* position plus length passes the file's end */
+    MUKTHIBAN_LIST_TOO_SHORT = 8, /* the lent list can't hold the whole answer */
+    MUKTHIBAN_BROKEN_TREE = 9,    /* the entry tables are not sound */
+    MUKTHIBAN_NOT_FOUND = 10,     /* no live entry with that inode or key */
+    MUKTHIBAN_ALREADY_EXIST = 11, /* another live entry of that table has the key */
+    MUKTHIBAN_BUSY = 12,          /* delete with more than one open */
+    MUKTHIBAN_DELETING_ROOT = 13, /* delete or rename of directory 1 */
+    MUKTHIBAN_NOT_EMPTY = 14,     /* delete of a directory with children */
+    MUKTHIBAN_INTO_ITSELF = 15,   /* a directory moved to itself or below itself */
+    MUKTHIBAN_NOT_OPEN = 16,      /* close, delete or rename at open count 0 */
+    MUKTHIBAN_TOO_MANY_OPENS = 17 /* open at 65,535 opens or more */
+};
+
+/* The kinds of mukthiban_tree_name. */
+enum { MUKTHIBAN_DIRECTORY = 0, MUKTHIBAN_FILE = 1 };
+
+/* The answer of a call that gives nothing else. */
+typedef struct {
+    uint32_t answer;
+} mukthiban_plain;
+
+/* The test of the block table: its free blocks, and its files (chains other than the free one). */
+typedef struct {
+    uint32_t answer;
+    size_t free;
+    size_t files;
+} mukthiban_tested;
+
+/* Create: the new file's first block. */
+typedef struct {
+    uint32_t answer;
+    size_t first_block;
+} mukthiban_created;
+
+/* Open list and listing: how many places of the lent list hold the answer. */
+typedef struct {
+    uint32_t answer;
+    size_t count;
+} mukthiban_listed;
+
+/* Make: the new entry's inode. */
+typedef struct {
+    uint32_t answer;
+    uint32_t inode;
+} mukthiban_made;
+
+/* Lookup: the entry's inode, and how many entries of its bucket were compared:
+ * the match's place from 1, or the bucket's length with MUKTHIBAN_NOT_FOUND. */
+typedef struct {
+    uint32_t answer;
+    uint32_t inode;
+    uint32_t compared;
+} mukthiban_found;
+
+/* Stat: entries in all and entries still free, of directories and of files. */
+typedef struct {
+    uint32_t answer;
+    size_t dir_total;
+    size_t dir_free;
+    size_t file_total;
+    size_t file_free;
+} mukthiban_stat;
+
+/* Name: where the 16 bytes begin in the table that the kind selects. */
+typedef struct {
+    uint32_t answer;
+    size_t offset;
+} mukthiban_named;
+
+/* ---- The block table ---- */
+
+/* Makes one free node of all n blocks. Entries between that node's own are left as they were. Answers 1, 2. */
+mukthiban_plain mukthiban_fat_format(uint8_t *table, size_t table_len);
+
+/* Tests whether the block table is sound, and counts. Answers 1, 2, 3, 4. */
+mukthiban_tested mukthiban_fat_test(const uint8_t *table, size_t table_len,
+                                    uint32_t *work, size_t work_len);
+
+/* Writes the file's blocks to list, in chain order. Places of list past them stay. Answers 1, 2, 3, 4, 5, 8. */
+mukthiban_listed mukthiban_fat_open_list(const uint8_t *table, size_t table_len,
+                                         const uint8_t *data, size_t data_len, size_t block_len,
+                                         uint32_t *work, size_t work_len,
+                                         size_t first_block,
+                                         uint32_t *list, size_t list_len);
+
+/* Makes a file of block_count blocks from the front of the free chain. Answers 1, 2, 3, 4, 2 (count 0), 6. */
+mukthiban_created mukthiban_fat_create(uint8_t *table, size_t table_len,
+                                       const uint8_t *data, size_t data_len, size_t block_len,
+                                       uint32_t *work, size_t work_len,
+                                       size_t block_count);
+
+/* Grows or shrinks a file to block_count blocks; its first block stays. Answers 1, 2, 3, 4, 5, 2 (count 0), 6. */
+mukthiban_plain mukthiban_fat_resize(uint8_t *table, size_t table_len,
+                                     const uint8_t *data, size_t data_len, size_t block_len,
+                                     uint32_t *work, size_t work_len,
+                                     size_t first_block, size_t block_count);
+
+/* Gives a whole file back to the front of the free chain. Answers 1, 2, 3, 4, 5. */
+mukthiban_plain mukthiban_fat_delete(uint8_t *table, size_t table_len,
+                                     const uint8_t *data, size_t data_len, size_t block_len,
+                                     uint32_t *work, size_t work_len,
+                                     size_t first_block);
+
+/* Reads buf_len bytes of the file from position pos into buf. Answers 1, 2, 3, 4, 5, 7. */
+mukthiban_plain mukthiban_fat_read(const uint8_t *table, size_t table_len,
+                                   const uint8_t *data, size_t data_len, size_t block_len,
+                                   uint32_t *work, size_t work_len,
+                                   size_t first_block, size_t pos,
+                                   uint8_t *buf, size_t buf_len);
+
+/* Writes buf's bytes to the file from position pos on. Answers 1, 2, 3, 4, 5, 7. */
+mukthiban_plain mukthiban_fat_write(const uint8_t *table, size_t table_len,
+                                    uint8_t *data, size_t data_len, size_t block_len,
+                                    uint32_t *work, size_t work_len,
+                                    size_t first_block, size_t pos,
+                                    const uint8_t *buf, size_t buf_len);
+
+/* ---- The entry tables ---- */
+
+/* Makes an empty tree: the root directory alone. dir_max (2 to 65,536) and file_max (1 to 65,536) are the
+ * entries that the tables may hold, entry 0 included. Takes no work list. Answers 1, 2. */
+mukthiban_plain mukthiban_tree_format(uint8_t *dir_hash, size_t dir_hash_len,
+                                      uint8_t *dir_table, size_t dir_table_len, size_t dir_max,
+                                      uint8_t *file_hash, size_t file_hash_len,
+                                      uint8_t *file_table, size_t file_table_len, size_t file_max);
+
+/* Tests whether the entry tables are sound. Answers 1, 2, 3, 9. */
+mukthiban_plain mukthiban_tree_test(const uint8_t *dir_hash, size_t dir_hash_len,
+                                    const uint8_t *dir_table, size_t dir_table_len,
+                                    const uint8_t *file_hash, size_t file_hash_len,
+                                    const uint8_t *file_table, size_t file_table_len,
+                                    uint32_t *work, size_t work_len);
+
+/* Finds the directory with that parent and name. The root is parent 0 and the zero name. Answers 1, 2, 3, 9, 10. */
+mukthiban_found mukthiban_tree_lookup_dir(const uint8_t *dir_hash, size_t dir_hash_len,
+                                          const uint8_t *dir_table, size_t dir_table_len,
+                                          const uint8_t *file_hash, size_t file_hash_len,
+                                          const uint8_t *file_table, size_t file_table_len,
+                                          uint32_t *work, size_t work_len,
+                                          uint32_t parent, const uint8_t name[16]);
+
+/* Finds the file with that parent and name. Answers 1, 2, 3, 9, 10. */
+mukthiban_found mukthiban_tree_lookup_file(const uint8_t *dir_hash, size_t dir_hash_len,
+                                           const uint8_t *dir_table, size_t dir_table_len,
+                                           const uint8_t *file_hash, size_t file_hash_len,
+                                           const uint8_t *file_table, size_t file_table_len,
+                                           uint32_t *work, size_t work_len,
+                                           uint32_t parent, const uint8_t name[16]);
+
+/* Makes a directory with those 4 carried bytes (its padding) and open count 1. opens: the directories'.
+ * Answers 1, 2, 3, 9, 10 (parent), 11, 6. */
+mukthiban_made mukthiban_tree_make_dir(uint8_t *dir_hash, size_t dir_hash_len,
+                                       uint8_t *dir_table, size_t dir_table_len,
+                                       const uint8_t *file_hash, size_t file_hash_len,
+                                       const uint8_t *file_table, size_t file_table_len,
+                                       uint32_t *work, size_t work_len,
+                                       uint32_t *opens, size_t opens_len,
+                                       uint32_t parent, const uint8_t name[16], const uint8_t carried[4]);
+
+/* Makes a file entry with those 20 carried bytes and open count 1. opens: the files'.
+ * Answers 1, 2, 3, 9, 10 (parent), 11, 6. */
+mukthiban_made mukthiban_tree_make_file(const uint8_t *dir_hash, size_t dir_hash_len,
+                                        uint8_t *dir_table, size_t dir_table_len,
+                                        uint8_t *file_hash, size_t file_hash_len,
+                                        uint8_t *file_table, size_t file_table_len,
+                                        uint32_t *work, size_t work_len,
+                                        uint32_t *opens, size_t opens_len,
+                                        uint32_t parent, const uint8_t name[16], const uint8_t carried[20]);
+
+/* Gives an open directory another parent and name; inode, carried bytes, children and open count stay.
+ * opens: the directories'. Answers 1, 2, 3, 9, 10 (subject), 16, 13, 10 (parent), 15, 11, 6. */
+mukthiban_plain mukthiban_tree_rename_dir(uint8_t *dir_hash, size_t dir_hash_len,
+                                          uint8_t *dir_table, size_t dir_table_len,
+                                          const uint8_t *file_hash, size_t file_hash_len,
+                                          const uint8_t *file_table, size_t file_table_len,
+                                          uint32_t *work, size_t work_len,
+                                          const uint32_t *opens, size_t opens_len,
+                                          uint32_t inode, uint32_t parent, const uint8_t name[16]);
+
+/* Gives an open file another parent and name; inode, carried bytes and open count stay. opens: the files'.
+ * Answers 1, 2, 3, 9, 10 (subject), 16, 10 (parent), 11, 6. */
+mukthiban_plain mukthiban_tree_rename_file(const uint8_t *dir_hash, size_t dir_hash_len,
+                                           uint8_t *dir_table, size_t dir_table_len,
+                                           uint8_t *file_hash, size_t file_hash_len,
+                                           uint8_t *file_table, size_t file_table_len,
+                                           uint32_t *work, size_t work_len,
+                                           const uint32_t *opens, size_t opens_len,
+                                           uint32_t inode, uint32_t parent, const uint8_t name[16]);
+
+/* Deletes a directory without children, opened exactly once; its open count becomes 0. opens: the directories'.
+ * Answers 1, 2, 3, 9, 10, 16, 12, 13, 14. */
+mukthiban_plain mukthiban_tree_delete_dir(uint8_t *dir_hash, size_t dir_hash_len,
+                                          uint8_t *dir_table, size_t dir_table_len,
+                                          const uint8_t *file_hash, size_t file_hash_len,
+                                          const uint8_t *file_table, size_t file_table_len,
+                                          uint32_t *work, size_t work_len,
+                                          uint32_t *opens, size_t opens_len,
+                                          uint32_t inode);
+
+/* Deletes a file entry, opened exactly once; its open count becomes 0. Its blocks are the caller's to give back.
+ * opens: the files'. Answers 1, 2, 3, 9, 10, 16, 12. */
+mukthiban_plain mukthiban_tree_delete_file(const uint8_t *dir_hash, size_t dir_hash_len,
+                                           uint8_t *dir_table, size_t dir_table_len,
+                                           uint8_t *file_hash, size_t file_hash_len,
+                                           uint8_t *file_table, size_t file_table_len,
+                                           uint32_t *work, size_t work_len,
+                                           uint32_t *opens, size_t opens_len,
+                                           uint32_t inode);
+
+/* Writes the inodes of the directories in directory inode to list, in list order. Answers 1, 2, 3, 9, 10, 8. */
+mukthiban_listed mukthiban_tree_list_dirs(const uint8_t *dir_hash, size_t dir_hash_len,
+                                          const uint8_t *dir_table, size_t dir_table_len,
+                                          const uint8_t *file_hash, size_t file_hash_len,
+                                          const uint8_t *file_table, size_t file_table_len,
+                                          uint32_t *work, size_t work_len,
+                                          uint32_t inode, uint32_t *list, size_t list_len);
+
+/* Writes the inodes of the files in directory inode to list, in list order. Answers 1, 2, 3, 9, 10, 8. */
+mukthiban_listed mukthiban_tree_list_files(const uint8_t *dir_hash, size_t dir_hash_len,
+                                           const uint8_t *dir_table, size_t dir_table_len,
+                                           const uint8_t *file_hash, size_t file_hash_len,
+                                           const uint8_t *file_table, size_t file_table_len,
+                                           uint32_t *work, size_t work_len,
+                                           uint32_t inode, uint32_t *list, size_t list_len);
+
+/* Entries in all (maximum - 1) and entries still free, of both tables. Answers 1, 2, 3, 9. */
+mukthiban_stat mukthiban_tree_stat(const uint8_t *dir_hash, size_t dir_hash_len,
+                                   const uint8_t *dir_table, size_t dir_table_len,
+                                   const uint8_t *file_hash, size_t file_hash_len,
+                                   const uint8_t *file_table, size_t file_table_len,
+                                   uint32_t *work, size_t work_len);
+
+/* Where the 16 name bytes of a live inode begin, in dir_table (kind 0) or file_table (kind 1). Another kind is
+ * 2, judged with the sizes, after them. Answers 1, 2, 3, 9, 10. */
+mukthiban_named mukthiban_tree_name(const uint8_t *dir_hash, size_t dir_hash_len,
+                                    const uint8_t *dir_table, size_t dir_table_len,
+                                    const uint8_t *file_hash, size_t file_hash_len,
+                                    const uint8_t *file_table, size_t file_table_len,
+                                    uint32_t *work, size_t work_len,
+                                    uint32_t kind, uint32_t inode);
+
+/* Writes a directory's 4 carried bytes to carried; zeros where refused. Answers 1, 2, 3, 9, 10. */
+mukthiban_plain mukthiban_tree_carried_dir(const uint8_t *dir_hash, size_t dir_hash_len,
+                                           const uint8_t *dir_table, size_t dir_table_len,
+                                           const uint8_t *file_hash, size_t file_hash_len,
+                                           const uint8_t *file_table, size_t file_table_len,
+                                           uint32_t *work, size_t work_len,
+                                           uint32_t inode, uint8_t carried[4]);
+
+/* Writes a file's 20 carried bytes to carried; zeros where refused. Answers 1, 2, 3, 9, 10. */
+mukthiban_plain mukthiban_tree_carried_file(const uint8_t *dir_hash, size_t dir_hash_len,
+                                            const uint8_t *dir_table, size_t dir_table_len,
+                                            const uint8_t *file_hash, size_t file_hash_len,
+                                            const uint8_t *file_table, size_t file_table_len,
+                                            uint32_t *work, size_t work_len,
+                                            uint32_t inode, uint8_t carried[20]);
+
+/* Sets a directory's 4 carried bytes. Answers 1, 2, 3, 9, 10. */
+mukthiban_plain mukthiban_tree_set_carried_dir(const uint8_t *dir_hash, size_t dir_hash_len,
+                                               uint8_t *dir_table, size_t dir_table_len,
+                                               const uint8_t *file_hash, size_t file_hash_len,
+                                               const uint8_t *file_table, size_t file_table_len,
+                                               uint32_t *work, size_t work_len,
+                                               uint32_t inode, const uint8_t carried[4]);
+
+/* Sets a file's 20 carried bytes. Answers 1, 2, 3, 9, 10. */
+mukthiban_plain mukthiban_tree_set_carried_file(const uint8_t *dir_hash, size_t dir_hash_len,
+                                                const uint8_t *dir_table, size_t dir_table_len,
+                                                const uint8_t *file_hash, size_t file_hash_len,
+                                                uint8_t *file_table, size_t file_table_len,
+                                                uint32_t *work, size_t work_len,
+                                                uint32_t inode, const uint8_t carried[20]);
+
+/* Adds 1 to a directory's open count. opens: the directories'. Answers 1, 2, 3, 9, 10, 17. */
+mukthiban_plain mukthiban_tree_open_dir(const uint8_t *dir_hash, size_t dir_hash_len,
+                                        const uint8_t *dir_table, size_t dir_table_len,
+                                        const uint8_t *file_hash, size_t file_hash_len,
+                                        const uint8_t *file_table, size_t file_table_len,
+                                        uint32_t *work, size_t work_len,
+                                        uint32_t *opens, size_t opens_len,
+                                        uint32_t inode);
+
+/* Adds 1 to a file's open count. opens: the files'. Answers 1, 2, 3, 9, 10, 17. */
+mukthiban_plain mukthiban_tree_open_file(const uint8_t *dir_hash, size_t dir_hash_len,
+                                         const uint8_t *dir_table, size_t dir_table_len,
+                                         const uint8_t *file_hash, size_t file_hash_len,
+                                         const uint8_t *file_table, size_t file_table_len,
+                                         uint32_t *work, size_t work_len,
+                                         uint32_t *opens, size_t opens_len,
+                                         uint32_t inode);
+
+/* Takes 1 from a directory's open count. opens: the directories'. Answers 1, 2, 3, 9, 10, 16. */
+mukthiban_plain mukthiban_tree_close_dir(const uint8_t *dir_hash, size_t dir_hash_len,
+                                         const uint8_t *dir_table, size_t dir_table_len,
+                                         const uint8_t *file_hash, size_t file_hash_len,
+                                         const uint8_t *file_table, size_t file_table_len,
+                                         uint32_t *work, size_t work_len,
+                                         uint32_t *opens, size_t opens_len,
+                                         uint32_t inode);
+
+/* Takes 1 from a file's open count. opens: the files'. Answers 1, 2, 3, 9, 10, 16. */
+mukthiban_plain mukthiban_tree_close_file(const uint8_t *dir_hash, size_t dir_hash_len,
+                                          const uint8_t *dir_table, size_t dir_table_len,
+                                          const uint8_t *file_hash, size_t file_hash_len,
+                                          const uint8_t *file_table, size_t file_table_len,
+                                          uint32_t *work, size_t work_len,
+                                          uint32_t *opens, size_t opens_len,
+                                          uint32_t inode);
+
+#ifdef __cplusplus
+}
+#endif
+
+#endif
