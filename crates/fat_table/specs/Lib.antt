@@ -3,3 +3,4 @@ pub mod Chain
 pub mod Layout
 pub mod Steps
 pub mod Holds
+pub mod Counts

@@ -1,0 +1,37 @@
+-- What the test of the block table promises, and what its gate does. Assumes nothing.
+use mathlib.Core.Path.{_≡_}
+use mathlib.Core.List.{List}
+use Prim.Native.Nat.{ℕ}
+use Rattle.order.specs.Gate.{cleared, Refusal, refusal}
+use Rattle.order.specs.Given.{Given, None}
+use Rattle.order.specs.declared.Answer.{Answer}
+use Rattle.order.specs.declared.Answer.the-variants.{Done}
+use Rattle.fat_node.specs.Entry.{Bytes}
+use Rattle.fat_node.specs.Sizes.{blocks}
+use Rattle.fat_table.specs.Counts.{freeBlocks, otherChains}
+use Rattle.fat_test.specs.Gate.{blockGate}
+use Rattle.fat_test.specs.declared.Tested.{Tested}
+use Rattle.fat_test.specs.declared.Gated.{Gated}
+use Rattle.fat_test.specs.declared.Gated.the-variants.{Open, Refused}
+
+-- the test gives its answer with the counts, and the work list afterwards
+abbrev pub tested : Answer → ℕ → ℕ → List ℕ → Tested × List ℕ
+tested answer free files work = (record { answer = answer; free = free; files = files }, work)
+
+-- a refusal's counts are 0
+abbrev pub testRefused : Answer → List ℕ → Tested × List ℕ
+testRefused answer work = tested answer 0 0 work
+
+-- Done: the free blocks and the number of other chains
+abbrev pub testDone : Bytes → List ℕ → Tested × List ℕ
+testDone t work = tested Done (freeBlocks (blocks t) t) (otherChains (blocks t) t) (cleared (blocks t) work)
+
+-- the gate of a call with data of length d and block length l is open: no row applies, the counts are the table's, and the work list is cleared; or
+-- the first row that applies refuses
+abbrev pub GateOf : Bytes → ℕ → ℕ → List ℕ → List ℕ → Gated → Type 0
+GateOf t d l work work′ (Open free files) =
+    None (blockGate refusal t d l work)
+    × (work′ ≡ cleared (blocks t) work)
+    × (free ≡ freeBlocks (blocks t) t)
+    × (files ≡ otherChains (blocks t) t)
+GateOf t d l work work′ (Refused answer) = Given (blockGate refusal t d l work) (refusal answer work′)
