@@ -1,0 +1,1 @@
+// One entry table at any width: the steps of fs_meta.rs's MetaTable.
