@@ -270,6 +270,23 @@ module _ (t : Bytes) (r : Run) (p q : ℕ) (pos : 1 ≤ r .size) (n b s : ℕ) (
       (λ k. (setNode-apart (b + 2) (omega arith) (omega arith), setNode-apart (b + s) (omega arith) (omega arith)))
       w
 
+-- the flag of v tells whether a node has one block
+pub size-one : (t : Bytes) (n b s : ℕ) → NodeAt t n b s → vAt t (b + 1) < top → s ≡ 1
+size-one t n b s w h =
+    ⊎-elim
+    (λ e. e)
+    (λ e. let z : ⊥ = omega (arith, h, w .more (omega (arith, e, w .some)) .0) in absurd z)
+    (one-or-more s)
+
+pub size-more : (t : Bytes) (n b s : ℕ) → NodeAt t n b s → top ≤ vAt t (b + 1) → (1 < s) × (b + 2 ≤ n) × (vAt t (b + 2) ≡ b + s)
+size-more t n b s w h =
+    ⊎-elim
+    (λ e. let z : ⊥ = omega (arith, h, w .one e) in absurd z)
+    (λ e.
+    let m : 1 < s = omega (arith, e, w .some) in
+    (m, omega (arith, m, w .within), w .more m .1 .1))
+    (one-or-more s)
+
 -- a node has one size
 pub node-one : (t : Bytes) (n b s s′ : ℕ) → NodeAt t n b s → NodeAt t n b s′ → s ≡ s′
 node-one t n b s s′ w w′ =

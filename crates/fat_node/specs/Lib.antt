@@ -1,3 +1,4 @@
 pub mod Entry
 pub mod Node
 pub mod Sizes
+pub mod Reads

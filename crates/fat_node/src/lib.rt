@@ -1,1 +1,155 @@
-// Nodes and the head of the block table, and its format.
+// Entries, nodes and the head of the block table, and its format.
+//
+// Every word of the table is read by words::get_u32 and written by words::put_u32, which compile to one 32-bit load and one 32-bit store: after `rt staticlib fat_node`
+// look at `objdump -d` of the archive's fat_node functions.
+ghost use mathlib.Core.Path.{_≡_};
+ghost use mathlib.Core.Bool.{true};
+ghost use Prim.Native.Nat.{ℕ, _+_, _*_, _≤_, _<_};
+ghost use lib.ListN.{length};
+ghost use Rattle.fat_node.specs.Entry.{entry, put, top, uAt, vAt};
+ghost use Rattle.fat_node.specs.Node.{run, prevAt, nextAt, NodeAt, prevHalf, setNode, setHead};
+ghost use Rattle.fat_node.specs.Reads.{Reads, HeadReads, Ends};
+
+// A run of size blocks, with the indexes of the previous node and of the next: block numbers plus 1, or 0 for none.
+pub struct Node {
+    pub size: usize,
+    pub prev: usize,
+    pub next: usize,
+}
+
+// What stands at a block: a node, or something that can't be read as one.
+pub enum NodeRead {
+    Found(Node),
+    Broken,
+}
+
+// The index of the first free node, 0 for none; or the head has not its form.
+pub enum HeadRead {
+    First(usize),
+    BrokenHead,
+}
+
+// The top bit of a word of an entry.
+const FLAG: u32 = 2147483648;
+
+// The same number, wider.
+fn wide(x: u32) -> usize
+    ensures { λ r. ⌜ r ≡ x ⌝ }
+{
+    x as usize
+}
+
+// The first word of entry e.
+pub fn u_of(table: &[u8], e: usize) -> u32
+    requires { ⌜ 8 * e + 8 ≤ length (now table) ⌝ }
+    ensures { λ r. ⌜ r ≡ uAt (now (table .entry)) e ⌝ }
+{
+    words::get_u32(table, 8 * e)
+}
+
+// Its second word.
+pub fn v_of(table: &[u8], e: usize) -> u32
+    requires { ⌜ 8 * e + 8 ≤ length (now table) ⌝ }
+    ensures { λ r. ⌜ r ≡ vAt (now (table .entry)) e ⌝ }
+{
+    words::get_u32(table, 8 * e + 4)
+}
+
+// The index of the previous node of the node at block b.
+pub fn prev_of(table: &[u8], b: usize) -> usize
+    requires { ⌜ 8 * b + 16 ≤ length (now table) ⌝ }
+    ensures { λ r. ⌜ r ≡ prevAt (now (table .entry)) b ⌝ }
+{
+    wide(u_of(table, b + 1) % FLAG)
+}
+
+// The index of its next node.
+pub fn next_of(table: &[u8], b: usize) -> usize
+    requires { ⌜ 8 * b + 16 ≤ length (now table) ⌝ }
+    ensures { λ r. ⌜ r ≡ nextAt (now (table .entry)) b ⌝ }
+{
+    wide(v_of(table, b + 1) % FLAG)
+}
+
+// The size of the node that is known to stand at block b.
+pub fn size_of(table: &[u8], n: usize, b: usize) -> u32
+    requires { ⌜ length (now table) ≡ 8 * (n + 1) ⌝ }
+    requires { ⌜ (b < n) × (n ≤ 1000000) ⌝ }
+    requires { ⌜ ((s : ℕ) × NodeAt (now table) n b s) ⌝ }
+    ensures { λ r. ⌜ NodeAt (now (table .entry)) n b r ⌝ }
+{
+    if v_of(table, b + 1) < FLAG {
+        return 1;
+    }
+    v_of(table, b + 2) - (b as u32)
+}
+
+// Whether a start entry's u has the flag alone or an index alone.
+fn prev_fits(u: u32) -> bool
+    ensures { λ r. ⌜ (r ≡ true → (0 < u) × (u ≤ top)) × ((0 < u) × (u ≤ top) → r ≡ true) ⌝ }
+{
+    if u == 0 {
+        return false;
+    }
+    u <= FLAG
+}
+
+// The end of the node of several blocks at block b, or 0 where its second entry and its last don't hold it.
+fn end_of(table: &[u8], n: usize, b: usize) -> usize
+    requires { ⌜ length (now table) ≡ 8 * (n + 1) ⌝ }
+    requires { ⌜ (b < n) × (n ≤ 1000000) ⌝ }
+    ensures { λ r. ⌜ Ends (now (table .entry)) n b r ⌝ }
+{
+    if n < b + 2 {
+        return 0;
+    }
+    let end = wide(v_of(table, b + 2));
+    if end < b + 2 {
+        return 0;
+    }
+    if n < end {
+        return 0;
+    }
+    let held = 2147483648 + (b + 1);
+    if wide(u_of(table, b + 2)) != held {
+        return 0;
+    }
+    if wide(u_of(table, end)) != held {
+        return 0;
+    }
+    if wide(v_of(table, end)) != end {
+        return 0;
+    }
+    end
+}
+
+// The node that stands at block b of n.
+pub fn get_node(table: &[u8], n: usize, b: usize) -> NodeRead
+    requires { ⌜ length (now table) ≡ 8 * (n + 1) ⌝ }
+    requires { ⌜ (b < n) × (n ≤ 1000000) ⌝ }
+    ensures { λ r. ⌜ Reads (now (table .entry)) n b r ⌝ }
+{
+    let u = u_of(table, b + 1);
+    let v = v_of(table, b + 1);
+    if !prev_fits(u) {
+        return NodeRead::Broken;
+    }
+    let prev = wide(u % FLAG);
+    let next = wide(v % FLAG);
+    if v < FLAG {
+        return NodeRead::Found(Node {
+            size: 1,
+            prev,
+            next,
+        });
+    }
+    let end = end_of(table, n, b);
+    if end == 0 {
+        return NodeRead::Broken;
+    }
+    NodeRead::Found(Node {
+        size: end - b,
+        prev,
+        next,
+    })
+}

@@ -1,0 +1,29 @@
+-- What the readers of a node and of the head answer. Assumes nothing.
+use Prim.Native.Nat.{ℕ, _+_, _-_, _<_, _≤_}
+use mathlib.Core.Path.{_≡_}
+use Rattle.fat_node.specs.Entry.{Bytes, top, uAt, vAt}
+use Rattle.fat_node.specs.Node.{NodeAt, HeldBy, prevAt, nextAt}
+use Rattle.fat_node.specs.declared.Node.{Node}
+use Rattle.fat_node.specs.declared.NodeRead.{NodeRead}
+use Rattle.fat_node.specs.declared.NodeRead.the-variants.{Found, Broken}
+use Rattle.fat_node.specs.declared.HeadRead.{HeadRead}
+use Rattle.fat_node.specs.declared.HeadRead.the-variants.{First, BrokenHead}
+
+-- a node is read where one stands, with its size and its links; what is broken is no node of any size
+abbrev pub Reads : Bytes → ℕ → ℕ → NodeRead → Type 0
+Reads t n b (Found node) = NodeAt t n b (node .size) × (node .prev ≡ prevAt t b) × (node .next ≡ nextAt t b)
+Reads t n b Broken = (s : ℕ) → NodeAt t n b s → ⊥
+
+-- the head has its form: u is 0 and the flag of v is clear
+abbrev pub HeadForm : Bytes → Type 0
+HeadForm t = (uAt t 0 ≡ 0) × (vAt t 0 < top)
+
+-- the first free node is read where the head has its form
+abbrev pub HeadReads : Bytes → HeadRead → Type 0
+HeadReads t (First i) = HeadForm t × (i ≡ vAt t 0)
+HeadReads t BrokenHead = HeadForm t → ⊥
+
+-- what stands from the second entry on, of a node of several blocks at b: its end e, or 0 where they don't hold one
+pub record Ends (t : Bytes) (n b e : ℕ) : Type 0 where
+  pub held : 0 < e → (b + 2 ≤ e) × (e ≤ n) × HeldBy t (b + 2) b (e - b) × HeldBy t e b (e - b)
+  pub none : e ≡ 0 → (s : ℕ) → 1 < s → b + s ≤ n → HeldBy t (b + 2) b s → HeldBy t (b + s) b s → ⊥
