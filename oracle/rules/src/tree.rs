@@ -1,0 +1,452 @@
+//! "Entry tables": the tree's soundness, the calls, and the open counts.
+
+use crate::answer::Answer::{self, *};
+use crate::answer::{refuse, Outcome};
+use crate::entries::*;
+
+const ROOT: u32 = 1;
+const MOST_OPENS: u32 = 65_535;
+
+/// The four tables, in the order in which every call takes them.
+#[derive(Clone, Copy)]
+pub struct Four<'a> {
+    pub dir_hash: &'a [u8],
+    pub dir_table: &'a [u8],
+    pub file_hash: &'a [u8],
+    pub file_table: &'a [u8],
+}
+
+/// The four tables, lent to be changed.
+pub struct FourMut<'a> {
+    pub dir_hash: &'a mut [u8],
+    pub dir_table: &'a mut [u8],
+    pub file_hash: &'a mut [u8],
+    pub file_table: &'a mut [u8],
+}
+
+impl<'a> Four<'a> {
+    pub fn view(&self, kind: Kind) -> View<'a> {
+        let (hash, table) = match kind {
+            Kind::Dir => (self.dir_hash, self.dir_table),
+            Kind::File => (self.file_hash, self.file_table),
+        };
+        View { kind, hash, table }
+    }
+}
+
+impl FourMut<'_> {
+    pub fn four(&self) -> Four<'_> {
+        Four {
+            dir_hash: self.dir_hash,
+            dir_table: self.dir_table,
+            file_hash: self.file_hash,
+            file_table: self.file_table,
+        }
+    }
+    fn view_mut(&mut self, kind: Kind) -> ViewMut<'_> {
+        let (hash, table) = match kind {
+            Kind::Dir => (&mut *self.dir_hash, &mut *self.dir_table),
+            Kind::File => (&mut *self.file_hash, &mut *self.file_table),
+        };
+        ViewMut { kind, hash, table }
+    }
+}
+
+// Soundness.
+
+/// What sound tables hold.
+pub struct Tree {
+    pub dirs: Held,
+    pub files: Held,
+    /// For each directory inode, its two lists of children.
+    pub sub_dirs: Vec<Vec<u32>>,
+    pub sub_files: Vec<Vec<u32>>,
+}
+
+impl Tree {
+    pub fn held(&self, kind: Kind) -> &Held {
+        match kind {
+            Kind::Dir => &self.dirs,
+            Kind::File => &self.files,
+        }
+    }
+    pub fn children(&self, kind: Kind, dir: u32) -> &[u32] {
+        match kind {
+            Kind::Dir => &self.sub_dirs[dir as usize],
+            Kind::File => &self.sub_files[dir as usize],
+        }
+    }
+}
+
+/// What the four tables hold, if they are sound; sizes have passed.
+pub fn tree(four: Four) -> Option<Tree> {
+    let (dirs, files) = (held(four.view(Kind::Dir))?, held(four.view(Kind::File))?);
+    let sound = root_fits(four, &dirs)
+        && parents_live(four, &dirs, &dirs, Kind::Dir)
+        && parents_live(four, &dirs, &files, Kind::File)
+        && all_reach_root(four, &dirs);
+    if !sound {
+        return None;
+    }
+    let sub_dirs = child_lists(four, &dirs, &dirs, Kind::Dir)?;
+    let sub_files = child_lists(four, &dirs, &files, Kind::File)?;
+    Some(Tree { dirs, files, sub_dirs, sub_files })
+}
+
+/// "Root is live with a zero key and next 0."
+fn root_fits(four: Four, dirs: &Held) -> bool {
+    let view = four.view(Kind::Dir);
+    dirs.is_live(ROOT) && view.key(ROOT) == [0; 20] && view.next(ROOT) == 0
+}
+
+fn is_root(kind: Kind, inode: u32) -> bool {
+    kind == Kind::Dir && inode == ROOT
+}
+
+/// "Every other live entry has a live parent directory."
+fn parents_live(four: Four, dirs: &Held, these: &Held, kind: Kind) -> bool {
+    let view = four.view(kind);
+    these.inodes().all(|x| is_root(kind, x) || dirs.is_live(view.parent(x)))
+}
+
+/// "Every directory reaches inode 1 by parents." Parents are known to be live.
+fn all_reach_root(four: Four, dirs: &Held) -> bool {
+    let view = four.view(Kind::Dir);
+    let mut reaches = vec![false; dirs.live.len()];
+    reaches[ROOT as usize] = true;
+    for x in dirs.inodes() {
+        let mut way = vec![];
+        let mut y = x;
+        while !reaches[y as usize] {
+            if way.len() > dirs.live.len() {
+                return false;
+            }
+            way.push(y);
+            y = view.parent(y);
+        }
+        for z in way {
+            reaches[z as usize] = true;
+        }
+    }
+    true
+}
+
+/// "Each directory's two lists end and hold exactly the live directories and files that name it as parent, once each": the lists of one kind.
+fn child_lists(four: Four, dirs: &Held, these: &Held, kind: Kind) -> Option<Vec<Vec<u32>>> {
+    let (parents, view) = (four.view(Kind::Dir), four.view(kind));
+    let mut met = vec![false; these.live.len()];
+    let mut lists = vec![vec![]; dirs.live.len()];
+    for dir in dirs.inodes() {
+        let belongs = |x: u32| these.is_live(x) && view.parent(x) == dir;
+        let first = parents.first_child(dir, kind);
+        lists[dir as usize] = threaded(first, &mut met, belongs, |x| view.next(x))?;
+    }
+    let all = these.inodes().all(|x| is_root(kind, x) || met[x as usize]);
+    all.then_some(lists)
+}
+
+// The rows that all tree calls share.
+
+/// Rows 1 and 2 for the four tables.
+fn sizes(four: Four) -> Outcome<()> {
+    let each = [four.view(Kind::Dir), four.view(Kind::File)];
+    for view in each {
+        refuse(view.hash.is_empty() || view.hash.len() % 4 != 0, SizeMismatch)?;
+        refuse(view.room() < 1, SizeMismatch)?;
+    }
+    for view in each {
+        refuse(view.buckets() > MOST_BUCKETS || view.room() > MOST_ROOM, InvalidValue)?;
+    }
+    Ok(())
+}
+
+/// The open counts that a call takes: those of one table.
+struct Opens {
+    kind: Kind,
+    len: usize,
+}
+
+/// Sizes, work list and open counts, soundness. Once the first two have passed, the named work places are 0.
+fn gate(four: Four, work: &mut [u32], opens: Option<Opens>) -> Outcome<Tree> {
+    sizes(four)?;
+    let rooms = four.view(Kind::Dir).room() + four.view(Kind::File).room();
+    refuse(work.len() < rooms, WorkTooShort)?;
+    if let Some(opens) = opens {
+        refuse(opens.len < four.view(opens.kind).room(), WorkTooShort)?;
+    }
+    work[..rooms].fill(0);
+    tree(four).ok_or(BrokenTree)
+}
+
+fn live(tree: &Tree, kind: Kind, inode: u32) -> Outcome<()> {
+    refuse(!tree.held(kind).is_live(inode), NotFound)
+}
+
+/// The live entry with that key.
+fn with_key(four: Four, tree: &Tree, kind: Kind, key: &Key) -> Option<u32> {
+    let view = four.view(kind);
+    let bucket = &tree.held(kind).buckets[view.bucket_of(key)];
+    bucket.iter().copied().find(|x| view.key(*x) == *key)
+}
+
+// The two halves of make, delete and rename.
+
+/// Puts an entry under its key: "to the front of their bucket and of their parent's list".
+fn link(four: &mut FourMut, kind: Kind, inode: u32, parent: u32, name: &Name) {
+    let mut view = four.view_mut(kind);
+    view.set_key(inode, &key(parent, name));
+    view.into_bucket(inode);
+    let first = four.four().view(Kind::Dir).first_child(parent, kind);
+    four.view_mut(kind).set_next(inode, first);
+    four.view_mut(Kind::Dir).set_first_child(parent, kind, inode);
+}
+
+/// "Unlinks from both lists."
+fn unlink(four: &mut FourMut, tree: &Tree, kind: Kind, inode: u32) {
+    let view = four.four().view(kind);
+    let (parent, behind) = (view.parent(inode), view.next(inode));
+    let bucket = &tree.held(kind).buckets[view.bucket_of(&view.key(inode))];
+    four.view_mut(kind).out_of_bucket(inode, bucket);
+    match before(inode, tree.children(kind, parent)) {
+        None => four.view_mut(Kind::Dir).set_first_child(parent, kind, behind),
+        Some(other) => four.view_mut(kind).set_next(other, behind),
+    }
+}
+
+// The calls.
+
+/// Writes both hash tables wholly, entry 0 of both tables, and the root.
+pub fn format(four: &mut FourMut, dir_max: usize, file_max: usize) -> Outcome<()> {
+    let maxima = [(Kind::Dir, dir_max), (Kind::File, file_max)];
+    for (kind, maximum) in maxima {
+        let view = four.four().view(kind);
+        refuse(view.hash.is_empty() || view.hash.len() % 4 != 0, SizeMismatch)?;
+        let short = (view.table.len() as u128) < maximum as u128 * kind.width() as u128;
+        refuse(view.room() < 1 || short, SizeMismatch)?;
+    }
+    sizes(four.four())?;
+    for (kind, maximum) in maxima {
+        refuse(maximum < kind.least() || maximum > MOST_ROOM, InvalidValue)?;
+    }
+    four.view_mut(Kind::File).clear(1, file_max as u32);
+    let mut dirs = four.view_mut(Kind::Dir);
+    dirs.clear(2, dir_max as u32);
+    dirs.table[Kind::Dir.width()..2 * Kind::Dir.width()].fill(0);
+    dirs.into_bucket(ROOT);
+    Ok(())
+}
+
+pub fn test(four: Four, work: &mut [u32]) -> Outcome<()> {
+    gate(four, work, None).map(|_| ())
+}
+
+/// Lookup's fields; `compared` is kept with NotFound.
+#[derive(Clone, Copy, PartialEq, Eq, Debug)]
+pub struct Found {
+    pub answer: Answer,
+    pub inode: u32,
+    pub compared: u32,
+}
+
+/// "The inode and the number of entries compared, which is the place of the match in its bucket from 1, or the bucket's length with NotFound."
+pub fn lookup(four: Four, work: &mut [u32], kind: Kind, parent: u32, name: &Name) -> Found {
+    let tree = match gate(four, work, None) {
+        Ok(tree) => tree,
+        Err(answer) => return Found { answer, inode: 0, compared: 0 },
+    };
+    let view = four.view(kind);
+    let key = key(parent, name);
+    let bucket = &tree.held(kind).buckets[view.bucket_of(&key)];
+    match bucket.iter().position(|x| view.key(*x) == key) {
+        Some(at) => Found { answer: Done, inode: bucket[at], compared: at as u32 + 1 },
+        None => Found { answer: NotFound, inode: 0, compared: bucket.len() as u32 },
+    }
+}
+
+/// Make answers the new inode; of the carried bytes the first 4 count for a directory, all 20 for a file.
+pub fn make(
+    four: &mut FourMut,
+    work: &mut [u32],
+    opens: &mut [u32],
+    kind: Kind,
+    parent: u32,
+    name: &Name,
+    carried: &[u8],
+) -> Outcome<u32> {
+    let tree = gate(four.four(), work, Some(Opens { kind, len: opens.len() }))?;
+    live(&tree, Kind::Dir, parent)?;
+    let other = with_key(four.four(), &tree, kind, &key(parent, name));
+    refuse(other.is_some(), AlreadyExist)?;
+    let inode = four.view_mut(kind).take().ok_or(NoSpace)?;
+    four.view_mut(kind).set_carried(inode, carried);
+    if kind == Kind::Dir {
+        four.view_mut(Kind::Dir).set_first_child(inode, Kind::Dir, 0);
+        four.view_mut(Kind::Dir).set_first_child(inode, Kind::File, 0);
+    }
+    link(four, kind, inode, parent, name);
+    opens[inode as usize] = 1;
+    Ok(inode)
+}
+
+/// Whether `dir` is `other` or lies below it.
+fn at_or_below(four: Four, dir: u32, other: u32) -> bool {
+    let view = four.view(Kind::Dir);
+    let mut y = dir;
+    while y != other && y != ROOT {
+        y = view.parent(y);
+    }
+    y == other
+}
+
+/// "Rename removes and adds again, keeping the inode, carried bytes, children and open count." The entry given up is the one taken, so room never lacks and entry 0 ends as it was.
+pub fn rename(
+    four: &mut FourMut,
+    work: &mut [u32],
+    opens: &[u32],
+    kind: Kind,
+    inode: u32,
+    parent: u32,
+    name: &Name,
+) -> Outcome<()> {
+    let tree = gate(four.four(), work, Some(Opens { kind, len: opens.len() }))?;
+    live(&tree, kind, inode)?;
+    refuse(opens[inode as usize] == 0, NotOpen)?;
+    refuse(is_root(kind, inode), DeletingRoot)?;
+    live(&tree, Kind::Dir, parent)?;
+    refuse(kind == Kind::Dir && at_or_below(four.four(), parent, inode), IntoItself)?;
+    let other = with_key(four.four(), &tree, kind, &key(parent, name));
+    refuse(other.is_some_and(|x| x != inode), AlreadyExist)?;
+    unlink(four, &tree, kind, inode);
+    link(four, kind, inode, parent, name);
+    Ok(())
+}
+
+pub fn delete(
+    four: &mut FourMut,
+    work: &mut [u32],
+    opens: &mut [u32],
+    kind: Kind,
+    inode: u32,
+) -> Outcome<()> {
+    let tree = gate(four.four(), work, Some(Opens { kind, len: opens.len() }))?;
+    live(&tree, kind, inode)?;
+    refuse(opens[inode as usize] == 0, NotOpen)?;
+    refuse(opens[inode as usize] > 1, Busy)?;
+    refuse(is_root(kind, inode), DeletingRoot)?;
+    if kind == Kind::Dir {
+        let empty = tree.children(Kind::Dir, inode).is_empty()
+            && tree.children(Kind::File, inode).is_empty();
+        refuse(!empty, NotEmpty)?;
+    }
+    unlink(four, &tree, kind, inode);
+    four.view_mut(kind).give(inode);
+    opens[inode as usize] = 0;
+    Ok(())
+}
+
+/// A directory's children of one kind, in list order, and their count.
+pub fn list(
+    four: Four,
+    work: &mut [u32],
+    kind: Kind,
+    inode: u32,
+    list: &mut [u32],
+) -> Outcome<usize> {
+    let tree = gate(four, work, None)?;
+    live(&tree, Kind::Dir, inode)?;
+    let answer = tree.children(kind, inode);
+    refuse(list.len() < answer.len(), ListTooShort)?;
+    list[..answer.len()].copy_from_slice(answer);
+    Ok(answer.len())
+}
+
+#[derive(Clone, Copy, PartialEq, Eq, Debug)]
+pub struct Stat {
+    pub dir_total: usize,
+    pub dir_free: usize,
+    pub file_total: usize,
+    pub file_free: usize,
+}
+
+/// "Total = maximum - 1; free = maximum - count + removed."
+pub fn stat(four: Four, work: &mut [u32]) -> Outcome<Stat> {
+    let tree = gate(four, work, None)?;
+    let of = |kind: Kind| {
+        let (view, held) = (four.view(kind), tree.held(kind));
+        let (maximum, count) = (view.maximum() as usize, view.count() as usize);
+        (maximum - 1, maximum - count + held.removed.len())
+    };
+    let ((dir_total, dir_free), (file_total, file_free)) = (of(Kind::Dir), of(Kind::File));
+    Ok(Stat { dir_total, dir_free, file_total, file_free })
+}
+
+/// Where the 16 name bytes of a live inode start in its table.
+pub fn name(four: Four, work: &mut [u32], kind: Kind, inode: u32) -> Outcome<usize> {
+    let tree = gate(four, work, None)?;
+    live(&tree, kind, inode)?;
+    Ok(inode as usize * kind.width() + NAME)
+}
+
+/// The carried bytes of a live inode: 4 or 20.
+pub fn carried(four: Four, work: &mut [u32], kind: Kind, inode: u32) -> Outcome<Vec<u8>> {
+    let tree = gate(four, work, None)?;
+    live(&tree, kind, inode)?;
+    Ok(four.view(kind).carried(inode).to_vec())
+}
+
+pub fn set_carried(
+    four: &mut FourMut,
+    work: &mut [u32],
+    kind: Kind,
+    inode: u32,
+    bytes: &[u8],
+) -> Outcome<()> {
+    let tree = gate(four.four(), work, None)?;
+    live(&tree, kind, inode)?;
+    four.view_mut(kind).set_carried(inode, bytes);
+    Ok(())
+}
+
+pub fn open(
+    four: Four,
+    work: &mut [u32],
+    opens: &mut [u32],
+    kind: Kind,
+    inode: u32,
+) -> Outcome<()> {
+    let tree = gate(four, work, Some(Opens { kind, len: opens.len() }))?;
+    live(&tree, kind, inode)?;
+    refuse(opens[inode as usize] >= MOST_OPENS, TooManyOpens)?;
+    opens[inode as usize] += 1;
+    Ok(())
+}
+
+pub fn close(
+    four: Four,
+    work: &mut [u32],
+    opens: &mut [u32],
+    kind: Kind,
+    inode: u32,
+) -> Outcome<()> {
+    let tree = gate(four, work, Some(Opens { kind, len: opens.len() }))?;
+    live(&tree, kind, inode)?;
+    refuse(opens[inode as usize] == 0, NotOpen)?;
+    opens[inode as usize] -= 1;
+    Ok(())
+}
+
+/// The name call's kind, at the interface where it is a number.
+pub fn kind_of(number: u32) -> Option<Kind> {
+    match number {
+        0 => Some(Kind::Dir),
+        1 => Some(Kind::File),
+        _ => None,
+    }
+}
+
+/// A kind that is neither answers InvalidValue after the sizes.
+pub fn name_of_kind(four: Four, work: &mut [u32], kind: u32, inode: u32) -> Outcome<usize> {
+    sizes(four)?;
+    let kind = kind_of(kind).ok_or(InvalidValue)?;
+    name(four, work, kind, inode)
+}

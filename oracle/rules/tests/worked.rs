@@ -1,0 +1,229 @@
+//! 01's "Checks to run", on the statement of the rules.
+
+use rules::answer::Answer::*;
+use rules::blocks::{self, Tested};
+use rules::entries::{hash, key, Kind};
+use rules::tree::{self, Found, Four, FourMut, Stat};
+use rules::word;
+
+const F: u32 = 0x8000_0000;
+
+/// A volume of one-byte blocks with a work list.
+struct Volume {
+    table: Vec<u8>,
+    data: Vec<u8>,
+    work: Vec<u32>,
+}
+
+impl Volume {
+    fn formatted(n: usize) -> Volume {
+        let mut table = vec![0; 8 * (n + 1)];
+        blocks::format(&mut table).unwrap();
+        Volume { table, data: vec![0; n], work: vec![7; n] }
+    }
+    fn entries(&self) -> Vec<(u32, u32)> {
+        let at = |e: usize| (word(&self.table, e * 8), word(&self.table, e * 8 + 4));
+        (0..self.table.len() / 8).map(at).collect()
+    }
+    fn create(&mut self, count: usize) -> Result<usize, rules::Answer> {
+        blocks::create(&mut self.table, &self.data, 1, &mut self.work, count)
+    }
+    fn resize(&mut self, first: usize, count: usize) -> Result<(), rules::Answer> {
+        blocks::resize(&mut self.table, &self.data, 1, &mut self.work, first, count)
+    }
+    fn delete(&mut self, first: usize) -> Result<(), rules::Answer> {
+        blocks::delete(&mut self.table, &self.data, 1, &mut self.work, first)
+    }
+    fn list(&mut self, first: usize) -> Vec<u32> {
+        let mut list = vec![9; 8];
+        let count =
+            blocks::open_list(&self.table, &self.data, 1, &mut self.work, first, &mut list);
+        list.truncate(count.unwrap());
+        list
+    }
+    fn read(&mut self, first: usize, pos: usize, len: usize) -> Result<(), rules::Answer> {
+        let mut buf = vec![0; len];
+        blocks::read(&self.table, &self.data, 1, &mut self.work, first, pos, &mut buf)
+    }
+}
+
+#[test]
+fn block_table() {
+    let mut v = Volume::formatted(4);
+    assert_eq!(v.entries(), [(0, 1), (F, F), (F | 1, 4), (0, 0), (F | 1, 4)]);
+    assert_eq!(v.create(1), Ok(0));
+    assert_eq!(v.entries(), [(0, 2), (F, 0), (F, F), (F | 2, 4), (F | 2, 4)]);
+    assert_eq!(v.create(2), Ok(1));
+    assert_eq!(v.entries(), [(0, 4), (F, 0), (F, F), (F | 2, 3), (F, 0)]);
+    assert_eq!(v.delete(0), Ok(()));
+    assert_eq!(v.entries()[0], (0, 1));
+    assert_eq!(v.entries()[1], (F, 4));
+    assert_eq!(v.entries()[4], (1, 0));
+    let tested = blocks::test(&v.table, &mut v.work);
+    assert_eq!(tested, Ok(Tested { free: 2, files: 1 }));
+    assert_eq!(v.work, [0, 0, 0, 0]);
+    assert_eq!(v.create(2), Ok(0));
+    assert_eq!(v.list(0), [0, 3]);
+    assert_eq!(v.entries()[0], (0, 0));
+    assert_eq!(v.resize(1, 1), Ok(()));
+    assert_eq!(v.entries(), [(0, 3), (F, 4), (F, 0), (F, 0), (1, 0)]);
+    assert_eq!(v.resize(1, 3), Err(NoSpace));
+    assert_eq!(v.read(1, 1, 0), Ok(()));
+    assert_eq!(v.read(1, 0, 1), Ok(()));
+    assert_eq!(v.read(1, 1, 1), Err(OutOfBound));
+    assert_eq!(v.read(1, usize::MAX, 1), Err(OutOfBound));
+}
+
+#[test]
+fn small_block_tables() {
+    assert_eq!(Volume::formatted(1).entries(), [(0, 1), (F, 0)]);
+    assert_eq!(blocks::format(&mut []), Err(SizeMismatch));
+    assert_eq!(blocks::format(&mut [0; 7]), Err(SizeMismatch));
+    assert_eq!(blocks::format(&mut [0; 8]), Err(InvalidValue));
+    for n in 1..6 {
+        assert_eq!(Volume::formatted(n).create(n), Ok(0));
+        assert_eq!(Volume::formatted(n).create(n + 1), Err(NoSpace));
+        assert_eq!(Volume::formatted(n).create(0), Err(InvalidValue));
+    }
+    // The free chain's first block is no file; nor is a block past the end.
+    assert_eq!(Volume::formatted(2).delete(0), Err(NotAFile));
+    assert_eq!(Volume::formatted(2).delete(2), Err(NotAFile));
+}
+
+#[test]
+fn a_ring_is_not_sound() {
+    let mut v = Volume::formatted(4);
+    for (e, (a, b)) in [(0, 0), (2, 2), (1, 1), (F, 4), (3, 0)].iter().enumerate() {
+        rules::put_word(&mut v.table, e * 8, *a);
+        rules::put_word(&mut v.table, e * 8 + 4, *b);
+    }
+    assert_eq!(blocks::test(&v.table, &mut v.work), Err(BrokenFat));
+}
+
+fn name_a() -> [u8; 16] {
+    let mut name = [0; 16];
+    name[0] = 0x61;
+    name
+}
+
+#[test]
+fn hashes() {
+    assert_eq!(hash(&key(0, &[0; 16])), 0xC091_A2B3);
+    assert_eq!(0xC091_A2B3u32 % 5, 3);
+    assert_eq!(0xC091_A2B3u32 % 3, 0);
+    assert_eq!(hash(&key(1, &name_a())), 0xF091_A2BF);
+    assert_eq!(0xF091_A2BFu32 % 5, 3);
+}
+
+/// Five directory buckets, one file bucket.
+struct Tables {
+    dir_hash: Vec<u8>,
+    dir_table: Vec<u8>,
+    file_hash: Vec<u8>,
+    file_table: Vec<u8>,
+    work: Vec<u32>,
+    opens: Vec<u32>,
+}
+
+impl Tables {
+    fn formatted(dir_max: usize, file_max: usize) -> Tables {
+        let mut t = Tables {
+            dir_hash: vec![9; 20],
+            dir_table: vec![9; 40 * dir_max],
+            file_hash: vec![9; 4],
+            file_table: vec![9; 48 * file_max],
+            work: vec![9; dir_max + file_max + 1],
+            opens: vec![0; dir_max.max(file_max)],
+        };
+        tree::format(&mut t.lent().0, dir_max, file_max).unwrap();
+        t
+    }
+    fn lent(&mut self) -> (FourMut<'_>, &mut [u32], &mut [u32]) {
+        let four = FourMut {
+            dir_hash: &mut self.dir_hash,
+            dir_table: &mut self.dir_table,
+            file_hash: &mut self.file_hash,
+            file_table: &mut self.file_table,
+        };
+        (four, &mut self.work, &mut self.opens)
+    }
+    fn seen(&mut self) -> (Four<'_>, &mut [u32]) {
+        let four = Four {
+            dir_hash: &self.dir_hash,
+            dir_table: &self.dir_table,
+            file_hash: &self.file_hash,
+            file_table: &self.file_table,
+        };
+        (four, &mut self.work)
+    }
+    fn lookup(&mut self, parent: u32, name: [u8; 16]) -> Found {
+        let (four, work) = self.seen();
+        tree::lookup(four, work, Kind::Dir, parent, &name)
+    }
+}
+
+#[test]
+fn entry_tables() {
+    let mut t = Tables::formatted(4, 1);
+    let hash: Vec<u32> = (0..5).map(|i| word(&t.dir_hash, i * 4)).collect();
+    assert_eq!(hash, [0, 0, 0, 1, 0]);
+    assert_eq!((word(&t.dir_table, 0), word(&t.dir_table, 4)), (2, 4));
+    assert_eq!(t.dir_table[8..80], [0; 72]);
+    assert_eq!(t.dir_table[80..], [9; 80]);
+    let (mut four, work, opens) = t.lent();
+    let made = tree::make(&mut four, work, opens, Kind::Dir, 1, &name_a(), &[0; 4]);
+    assert_eq!(made, Ok(2));
+    assert_eq!(word(&t.dir_hash, 12), 2);
+    assert_eq!(word(&t.dir_table, 2 * 40 + 36), 1);
+    assert_eq!(word(&t.dir_table, 40 + 24), 2);
+    assert_eq!(t.work, [0, 0, 0, 0, 0, 9]);
+    assert_eq!(t.opens[2], 1);
+    assert_eq!(t.lookup(1, name_a()), Found { answer: Done, inode: 2, compared: 1 });
+    assert_eq!(t.lookup(0, [0; 16]), Found { answer: Done, inode: 1, compared: 2 });
+    let (mut four, work, opens) = t.lent();
+    let made = tree::make(&mut four, work, opens, Kind::File, 1, &name_a(), &[0; 20]);
+    assert_eq!(made, Err(NoSpace));
+    let (four, work) = t.seen();
+    let stat = Stat { dir_total: 3, dir_free: 1, file_total: 0, file_free: 0 };
+    assert_eq!(tree::stat(four, work), Ok(stat));
+}
+
+#[test]
+fn tree_refusals() {
+    let mut t = Tables::formatted(6, 4);
+    let (mut four, work, opens) = t.lent();
+    let f = &mut four;
+    let dir = Kind::Dir;
+    assert_eq!(tree::make(f, work, opens, dir, 1, &[1; 16], &[0; 4]), Ok(2));
+    assert_eq!(tree::make(f, work, opens, dir, 2, &[2; 16], &[0; 4]), Ok(3));
+    assert_eq!(tree::make(f, work, opens, dir, 1, &[3; 16], &[0; 4]), Ok(4));
+    assert_eq!(tree::make(f, work, opens, dir, 1, &[3; 16], &[0; 4]), Err(AlreadyExist));
+    assert_eq!(tree::make(f, work, opens, dir, 5, &[3; 16], &[0; 4]), Err(NotFound));
+    assert_eq!(tree::rename(f, work, opens, dir, 2, 3, &[1; 16]), Err(IntoItself));
+    assert_eq!(tree::rename(f, work, opens, dir, 2, 2, &[1; 16]), Err(IntoItself));
+    assert_eq!(tree::rename(f, work, opens, dir, 4, 1, &[1; 16]), Err(AlreadyExist));
+    assert_eq!(tree::rename(f, work, opens, dir, 4, 1, &[3; 16]), Ok(()));
+    assert_eq!(tree::rename(f, work, opens, dir, 1, 1, &[3; 16]), Err(NotOpen));
+    assert_eq!(tree::delete(f, work, opens, dir, 2), Err(NotEmpty));
+    assert_eq!(tree::delete(f, work, opens, dir, 1), Err(NotOpen));
+    assert_eq!(tree::open(f.four(), work, opens, dir, 1), Ok(()));
+    assert_eq!(tree::delete(f, work, opens, dir, 1), Err(DeletingRoot));
+    assert_eq!(tree::rename(f, work, opens, dir, 1, 9, &[3; 16]), Err(DeletingRoot));
+    assert_eq!(tree::open(f.four(), work, opens, dir, 3), Ok(()));
+    assert_eq!(tree::delete(f, work, opens, dir, 3), Err(Busy));
+    assert_eq!(tree::close(f.four(), work, opens, dir, 3), Ok(()));
+    assert_eq!(tree::delete(f, work, opens, dir, 3), Ok(()));
+    assert_eq!(tree::close(f.four(), work, opens, dir, 3), Err(NotFound));
+    assert_eq!(tree::rename(f, work, opens, dir, 2, 4, &[1; 16]), Ok(()));
+    assert_eq!(tree::make(f, work, opens, dir, 2, &[2; 16], &[0; 4]), Ok(3));
+    let mut list = [8; 4];
+    assert_eq!(tree::list(f.four(), work, dir, 1, &mut list), Ok(1));
+    assert_eq!(list, [4, 8, 8, 8]);
+    assert_eq!(tree::list(f.four(), work, dir, 1, &mut []), Err(ListTooShort));
+    opens[3] = 65_535;
+    assert_eq!(tree::open(f.four(), work, opens, dir, 3), Err(TooManyOpens));
+    assert_eq!(tree::close(f.four(), work, opens, dir, 3), Ok(()));
+    assert_eq!(tree::close(f.four(), work, opens, dir, 1), Ok(()));
+    assert_eq!(tree::close(f.four(), work, opens, dir, 1), Err(NotOpen));
+    assert_eq!(tree::test(f.four(), work), Ok(()));
+}
