@@ -1,0 +1,4 @@
+pub mod Field
+pub mod Table
+pub mod Agree
+pub mod Steps
