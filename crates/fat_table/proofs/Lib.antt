@@ -3,3 +3,4 @@ pub mod Chains
 pub mod Laying
 pub mod Stepped
 pub mod Writes
+pub mod Sounds
