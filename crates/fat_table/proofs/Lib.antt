@@ -4,3 +4,4 @@ pub mod Laying
 pub mod Stepped
 pub mod Writes
 pub mod Sounds
+pub mod Files
