@@ -153,3 +153,68 @@ pub fn get_node(table: &[u8], n: usize, b: usize) -> NodeRead
         next,
     })
 }
+
+// Writes both words of entry e.
+fn set_entry(table: &mut [u8], e: usize, u: u32, v: u32)
+    requires { ⌜ 8 * e + 8 ≤ length (now table) ⌝ }
+    ensures { λ _. ⌜ now (table .exit) ≡ put (now (table .entry)) e (entry u v) ⌝ }
+{
+    words::put_u32(table, 8 * e, u);
+    words::put_u32(table, 8 * e + 4, v);
+}
+
+// u of a start entry: the flag is set exactly when there is no previous.
+fn prev_half(prev: usize) -> u32
+    requires { ⌜ prev < top ⌝ }
+    ensures { λ r. ⌜ r ≡ prevHalf prev ⌝ }
+{
+    if prev == 0 {
+        return FLAG;
+    }
+    prev as u32
+}
+
+// Writes a node's one, two or three entries; those between its second and its last are left alone.
+pub fn set_node(table: &mut [u8], n: usize, b: usize, node: Node)
+    requires { ⌜ (n ≤ 1000000) × (length (now table) ≡ 8 * (n + 1)) ⌝ }
+    requires { ⌜ (1 ≤ node .size) × (b + node .size ≤ n) ⌝ }
+    requires { ⌜ (node .prev ≤ n) × (node .next ≤ n) ⌝ }
+    ensures { λ _. ⌜ now (table .exit) ≡ setNode (now (table .entry)) (run b (node .size)) (node .prev) (node .next) ⌝ }
+{
+    let size = node.size;
+    let next = node.next;
+    let u = prev_half(node.prev);
+    if size == 1 {
+        set_entry(table, b + 1, u, next as u32);
+    } else {
+        set_entry(table, b + 1, u, FLAG + next as u32);
+        let own = FLAG + (b + 1) as u32;
+        let end = (b + size) as u32;
+        set_entry(table, b + 2, own, end);
+        set_entry(table, b + size, own, end);
+    }
+}
+
+// The index of the first free node.
+pub fn get_head(table: &[u8]) -> HeadRead
+    requires { ⌜ 8 ≤ length (now table) ⌝ }
+    ensures { λ r. ⌜ HeadReads (now (table .entry)) r ⌝ }
+{
+    let u = u_of(table, 0);
+    let v = v_of(table, 0);
+    if u != 0 {
+        return HeadRead::BrokenHead;
+    }
+    if FLAG <= v {
+        return HeadRead::BrokenHead;
+    }
+    HeadRead::First(wide(v))
+}
+
+// Names the first free node in the head.
+pub fn set_head(table: &mut [u8], first: usize)
+    requires { ⌜ (first ≤ 1000000) × (8 ≤ length (now table)) ⌝ }
+    ensures { λ _. ⌜ now (table .exit) ≡ setHead (now (table .entry)) first ⌝ }
+{
+    set_entry(table, 0, 0, first as u32);
+}
