@@ -2,3 +2,4 @@ pub mod Answer
 pub mod First
 pub mod Gate
 pub mod Given
+pub mod Beside
