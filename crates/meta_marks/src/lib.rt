@@ -1,0 +1,124 @@
+// Marks of the tree's test: lists gone along with a mark left at each entry, so that no entry is met twice, and the way up from each directory.
+ghost use mathlib.Core.Path.{_≡_};
+ghost use mathlib.Core.List.{List};
+ghost use Prim.Native.Nat.{ℕ, _+_, _-_, _*_, _≤_, _<_};
+ghost use lib.ListN.{length, getD};
+ghost use Rattle.meta_marks.specs.Marks.{gone, linkOf, markAt, Within, Marked, Listed};
+ghost use Rattle.meta_marks.specs.Gather.{Alive, Gathered, Gathers, bucketAt, any, Told, Dir, Named};
+
+// An inode as an index.
+fn index(x: u32) -> usize
+    ensures { λ r. ⌜ r ≡ x ⌝ }
+{
+    x as usize
+}
+
+// Goes along a list and marks its entries. It stops at an entry that is not below count, or that is marked.
+pub fn mark_list(
+    table: &[u8],
+    w: usize,
+    link: usize,
+    count: u32,
+    first: u32,
+    work: &mut [u32],
+    off: usize,
+    m: u32,
+) -> bool
+    requires { ⌜ (count * w ≤ length (now table)) × (link + 4 ≤ w) × (off + count ≤ length (now work)) × (0 < m) ⌝ }
+    ensures { λ r. ⌜ Listed (linkOf (now (table .entry)) w link) count first m off (now (work .entry)) (now (work .exit)) r ⌝ }
+{
+    let mut x = first;
+    while x != 0 {
+        if x >= count {
+            return false;
+        }
+        let i = index(x);
+        if work[off + i] != 0 {
+            return false;
+        }
+        work[off + i] = m;
+        x = words::get_u32(table, i * w + link);
+    }
+    true
+}
+
+// The mark of a removed entry.
+pub const GONE: u32 = 65537;
+
+// Goes along every bucket, and marks its entries with its number, counted from 1.
+pub fn mark_buckets(
+    hash: &[u8],
+    table: &[u8],
+    w: usize,
+    count: u32,
+    buckets: u32,
+    work: &mut [u32],
+    off: usize,
+) -> bool
+    requires { ⌜ (count * w ≤ length (now table)) × (4 ≤ w) × (off + count ≤ length (now work)) × (buckets * 4 ≤ length (now hash)) × (buckets ≤ 65536) ⌝ }
+    ensures { λ r. ⌜ ((R : List ℕ) → Gathered (linkOf (now (table .entry)) w (w - 4)) count (bucketAt (now (hash .entry))) any R 1 (markAt (now (work .entry)) off)
+        → Gathers (linkOf (now (table .entry)) w (w - 4)) count (bucketAt (now (hash .entry))) any (buckets + 1) off R (now (work .exit)) r)
+        × Within off count (now (work .entry)) (now (work .exit)) ⌝ }
+{
+    let mut i: u32 = 1;
+    while i <= buckets {
+        let first = words::get_u32(hash, index(i - 1) * 4);
+        if !mark_list(table, w, w - 4, count, first, work, off, i) {
+            return false;
+        }
+        i += 1;
+    }
+    true
+}
+
+// Goes along the child list of one directory, unless it is removed, and marks its entries with the directory's inode.
+fn mark_dir(
+    dirs: &[u8],
+    p: u32,
+    head: usize,
+    table: &[u8],
+    w: usize,
+    count: u32,
+    work: &mut [u32],
+    off: usize,
+) -> bool
+    requires { ⌜ (p * 40 + 40 ≤ length (now dirs)) × (head + 4 ≤ 40) × (0 < p) × (p < length (now work))
+        × (count * w ≤ length (now table)) × (24 ≤ w) × (off + count ≤ length (now work)) ⌝ }
+    ensures { λ r. ⌜ Dir (linkOf (now (table .entry)) w 20) count (linkOf (now (dirs .entry)) 40 head) p off (now (work .entry)) (now (work .exit)) r ⌝ }
+{
+    let i = index(p);
+    if work[i] == GONE {
+        return true;
+    }
+    let first = words::get_u32(dirs, i * 40 + head);
+    mark_list(table, w, 20, count, first, work, off, p)
+}
+
+// Goes along the child list of each live directory. The list starts at the word at `head` in the directory's entry and goes on by the word at 20 in
+// the entries of the table. The marks of the directories begin at 0.
+pub fn mark_children(
+    dirs: &[u8],
+    bound: u32,
+    head: usize,
+    table: &[u8],
+    w: usize,
+    count: u32,
+    work: &mut [u32],
+    off: usize,
+) -> bool
+    requires { ⌜ (bound * 40 ≤ length (now dirs)) × (head + 4 ≤ 40) × (1 ≤ bound) × (bound ≤ 65536) × (bound ≤ length (now work))
+        × (count * w ≤ length (now table)) × (24 ≤ w) × (off + count ≤ length (now work)) ⌝ }
+    ensures { λ r. ⌜ ((RD R : List ℕ) → Told bound RD (now (work .entry))
+        → Gathered (linkOf (now (table .entry)) w 20) count (linkOf (now (dirs .entry)) 40 head) (Alive bound RD) R 1 (markAt (now (work .entry)) off)
+        → Gathers (linkOf (now (table .entry)) w 20) count (linkOf (now (dirs .entry)) 40 head) (Alive bound RD) bound off R (now (work .exit)) r)
+        × Within off count (now (work .entry)) (now (work .exit)) ⌝ }
+{
+    let mut p: u32 = 1;
+    while p < bound {
+        if !mark_dir(dirs, p, head, table, w, count, work, off) {
+            return false;
+        }
+        p += 1;
+    }
+    true
+}
