@@ -89,7 +89,7 @@ head-holds t i r p q w h = record {
   last = λ k. setHead-other t i (r .start + r .size) (omega arith) ∙ w .last k;
 }
 
-head-laid : (t : Bytes) (i : ℕ) (l : List Run) (p : ℕ) → empties l ≡ 0 → Laid t l p → Laid (setHead t i) l p
+pub head-laid : (t : Bytes) (i : ℕ) (l : List Run) (p : ℕ) → empties l ≡ 0 → Laid t l p → Laid (setHead t i) l p
 head-laid t i [] p e w = tt
 head-laid t i (r ∷ l) p e w = (head-holds t i r p (first l) (w .0) (omega arith), head-laid t i l (suc (r .start)) (omega arith) (w .1))
 
@@ -119,7 +119,7 @@ module _ (n : ℕ) (small : n ≤ 1000000) where
       last = setNode-last n small t r p q len pos inside hp hq;
     }
 
-  laid-lay : (l : List Run) (p : ℕ) (t : Bytes) → length t ≡ 8 * (n + 1) → p ≤ n → empties l ≡ 0 → ((x : ℕ) → covers x l ≤ hits x (run 0 n)) → Laid (lay l p t) l p
+  pub laid-lay : (l : List Run) (p : ℕ) (t : Bytes) → length t ≡ 8 * (n + 1) → p ≤ n → empties l ≡ 0 → ((x : ℕ) → covers x l ≤ hits x (run 0 n)) → Laid (lay l p t) l p
   laid-lay [] p t len hp e c = tt
   laid-lay (r ∷ l) p t len hp e c =
       let pos : 1 ≤ r .size = omega arith in

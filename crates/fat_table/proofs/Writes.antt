@@ -34,7 +34,7 @@ abbrev pub relink : List Run → ℕ → Bytes → Bytes
 relink [] p t = t
 relink (y ∷ l) p t = setNode t y p (first l)
 
-first-same : (A : List Run) (x y : Run) (B C : List Run) → x .start ≡ y .start → first (A ++ x ∷ B) ≡ first (A ++ y ∷ C)
+pub first-same : (A : List Run) (x y : Run) (B C : List Run) → x .start ≡ y .start → first (A ++ x ∷ B) ≡ first (A ++ y ∷ C)
 first-same [] x y B C e = ap suc e
 first-same (a ∷ A) x y B C e = refl
 
@@ -47,7 +47,7 @@ lay-after t (a ∷ A) x y B C p g e w =
     ∙ ap (lay (A ++ y ∷ C) (suc (a .start))) (setNode-as t a p (first (A ++ x ∷ B)) g (w .0))
     ∙ lay-after t A x y B C (suc (a .start)) g e (w .1)
 
-laid-suffix : (t : Bytes) (A l : List Run) (p : ℕ) → Laid t (A ++ l) p → Laid t l (lastOf A p)
+pub laid-suffix : (t : Bytes) (A l : List Run) (p : ℕ) → Laid t (A ++ l) p → Laid t l (lastOf A p)
 laid-suffix t [] l p w = w
 laid-suffix t (a ∷ A) l p w = laid-suffix t A l (suc (a .start)) (w .1)
 
