@@ -35,6 +35,4 @@ answers! {
     Stat { dir_total: usize, dir_free: usize, file_total: usize, file_free: usize }
     /// Where the 16 name bytes start in the table that the kind selects.
     Named { offset: usize }
-    CarriedDir { bytes: [u8; 4] }
-    CarriedFile { bytes: [u8; 20] }
 }

@@ -265,6 +265,12 @@ fn made(outcome: Outcome<u32>) -> Made {
     }
 }
 
+/// Carried bytes, through the lent place: zeros where refused.
+fn given(outcome: Outcome<Vec<u8>>, carried: &mut [u8]) -> Plain {
+    carried.fill(0);
+    plain(outcome.map(|bytes| carried.copy_from_slice(&bytes)))
+}
+
 over_four! {
     mukthiban_tree_test -> Plain, |four, work,| plain(tree::test(four, work));
     mukthiban_tree_lookup_dir -> Found, |four, work, parent: u32, name: *const Name|
@@ -289,16 +295,10 @@ over_four! {
         named(tree::name_of_kind(four, work, kind, inode));
     mukthiban_tree_name_answer -> Plain, |four, work, kind: u32, inode: u32|
         plain(tree::name_of_kind(four, work, kind, inode).map(|_| ()));
-    mukthiban_tree_carried_dir -> CarriedDir, |four, work, inode: u32|
-        match tree::carried(four, work, Kind::Dir, inode) {
-            Ok(bytes) => CarriedDir { number: 0, bytes: bytes.try_into().unwrap() },
-            Err(refusal) => CarriedDir::refused(refusal.number()),
-        };
-    mukthiban_tree_carried_file -> CarriedFile, |four, work, inode: u32|
-        match tree::carried(four, work, Kind::File, inode) {
-            Ok(bytes) => CarriedFile { number: 0, bytes: bytes.try_into().unwrap() },
-            Err(refusal) => CarriedFile::refused(refusal.number()),
-        };
+    mukthiban_tree_carried_dir -> Plain, |four, work, inode: u32, carried: *mut [u8; 4]|
+        given(tree::carried(four, work, Kind::Dir, inode), &mut *carried);
+    mukthiban_tree_carried_file -> Plain, |four, work, inode: u32, carried: *mut [u8; 20]|
+        given(tree::carried(four, work, Kind::File, inode), &mut *carried);
     mukthiban_tree_open_dir -> Plain, |four, work, opens: *mut u32, opens_len: usize, inode: u32|
         plain(tree::open(four, work, lent(opens, opens_len), Kind::Dir, inode));
     mukthiban_tree_open_file -> Plain, |four, work, opens: *mut u32, opens_len: usize, inode: u32|
