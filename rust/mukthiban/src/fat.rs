@@ -1,0 +1,210 @@
+//! The block table, call by call, over lent slices.
+//!
+//! Each call tests the whole table before it does anything, so it may be handed any bytes. A work list has a place for
+//! each block. Where many calls are made on one volume, [`Volume`](crate::Volume) tests once.
+//!
+//! ```
+//! use mukthiban::{fat, Refusal};
+//! let mut table = [0u8; 8 * 5]; // 4 blocks
+//! let mut data = [0u8; 4 * 16];
+//! let mut work = [0u32; 4];
+//! fat::format(&mut table)?;
+//!
+//! let file = fat::create(&mut table, &data, 16, &mut work, 3)?;
+//! fat::write(&table, &mut data, 16, &mut work, file, 10, b"saved game")?;
+//! let mut back = [0; 10];
+//! fat::read(&table, &data, 16, &mut work, file, 10, &mut back)?;
+//! assert_eq!(&back, b"saved game");
+//!
+//! let tested = fat::test(&table, &mut work)?;
+//! assert_eq!((tested.free, tested.files), (1, 1));
+//! assert_eq!(fat::create(&mut table, &data, 16, &mut work, 2), Err(Refusal::NoSpace));
+//! # Ok::<(), Refusal>(())
+//! ```
+
+use crate::ffi;
+use crate::refusal::{judge, Refusal};
+
+/// What the test counts.
+#[derive(Clone, Copy, Debug, PartialEq, Eq)]
+pub struct Tested {
+    /// Blocks in the free chain.
+    pub free: usize,
+    /// Chains other than the free one.
+    pub files: usize,
+}
+
+/// Makes one free node of all blocks.
+///
+/// ```
+/// let mut table = [0u8; 16]; // one block
+/// mukthiban::fat::format(&mut table)?;
+/// assert_eq!(table, [0, 0, 0, 0, 1, 0, 0, 0, 0, 0, 0, 0x80, 0, 0, 0, 0]);
+/// # Ok::<(), mukthiban::Refusal>(())
+/// ```
+pub fn format(table: &mut [u8]) -> Result<(), Refusal> {
+    // SAFETY: here and below, pointers and lengths are those of slices, and what is lent `&mut` overlaps nothing.
+    judge(unsafe { ffi::mukthiban_fat_format(table.as_mut_ptr(), table.len()) }.answer)
+}
+
+/// Tests whether the table is sound; counts its free blocks and its files.
+pub fn test(table: &[u8], work: &mut [u32]) -> Result<Tested, Refusal> {
+    let r = unsafe { ffi::mukthiban_fat_test(table.as_ptr(), table.len(), work.as_mut_ptr(), work.len()) };
+    judge(r.answer)?;
+    Ok(Tested { free: r.free, files: r.files })
+}
+
+/// Writes the file's blocks to `list`, in chain order, and answers how many they are.
+pub fn open_list(
+    table: &[u8],
+    data: &[u8],
+    block_len: usize,
+    work: &mut [u32],
+    first_block: usize,
+    list: &mut [u32],
+) -> Result<usize, Refusal> {
+    let r = unsafe {
+        ffi::mukthiban_fat_open_list(
+            table.as_ptr(),
+            table.len(),
+            data.as_ptr(),
+            data.len(),
+            block_len,
+            work.as_mut_ptr(),
+            work.len(),
+            first_block,
+            list.as_mut_ptr(),
+            list.len(),
+        )
+    };
+    judge(r.answer)?;
+    Ok(r.count)
+}
+
+/// Makes a file of `block_count` blocks and answers its first block.
+pub fn create(
+    table: &mut [u8],
+    data: &[u8],
+    block_len: usize,
+    work: &mut [u32],
+    block_count: usize,
+) -> Result<usize, Refusal> {
+    let r = unsafe {
+        ffi::mukthiban_fat_create(
+            table.as_mut_ptr(),
+            table.len(),
+            data.as_ptr(),
+            data.len(),
+            block_len,
+            work.as_mut_ptr(),
+            work.len(),
+            block_count,
+        )
+    };
+    judge(r.answer)?;
+    Ok(r.first_block)
+}
+
+/// Grows or shrinks the file to `block_count` blocks. Its first block stays.
+pub fn resize(
+    table: &mut [u8],
+    data: &[u8],
+    block_len: usize,
+    work: &mut [u32],
+    first_block: usize,
+    block_count: usize,
+) -> Result<(), Refusal> {
+    let r = unsafe {
+        ffi::mukthiban_fat_resize(
+            table.as_mut_ptr(),
+            table.len(),
+            data.as_ptr(),
+            data.len(),
+            block_len,
+            work.as_mut_ptr(),
+            work.len(),
+            first_block,
+            block_count,
+        )
+    };
+    judge(r.answer)
+}
+
+/// Gives all blocks of the file back.
+pub fn delete(
+    table: &mut [u8],
+    data: &[u8],
+    block_len: usize,
+    work: &mut [u32],
+    first_block: usize,
+) -> Result<(), Refusal> {
+    let r = unsafe {
+        ffi::mukthiban_fat_delete(
+            table.as_mut_ptr(),
+            table.len(),
+            data.as_ptr(),
+            data.len(),
+            block_len,
+            work.as_mut_ptr(),
+            work.len(),
+            first_block,
+        )
+    };
+    judge(r.answer)
+}
+
+/// Reads `buf.len()` bytes of the file from `pos` on.
+pub fn read(
+    table: &[u8],
+    data: &[u8],
+    block_len: usize,
+    work: &mut [u32],
+    first_block: usize,
+    pos: usize,
+    buf: &mut [u8],
+) -> Result<(), Refusal> {
+    let r = unsafe {
+        ffi::mukthiban_fat_read(
+            table.as_ptr(),
+            table.len(),
+            data.as_ptr(),
+            data.len(),
+            block_len,
+            work.as_mut_ptr(),
+            work.len(),
+            first_block,
+            pos,
+            buf.as_mut_ptr(),
+            buf.len(),
+        )
+    };
+    judge(r.answer)
+}
+
+/// Writes `buf` to the file from `pos` on.
+pub fn write(
+    table: &[u8],
+    data: &mut [u8],
+    block_len: usize,
+    work: &mut [u32],
+    first_block: usize,
+    pos: usize,
+    buf: &[u8],
+) -> Result<(), Refusal> {
+    let r = unsafe {
+        ffi::mukthiban_fat_write(
+            table.as_ptr(),
+            table.len(),
+            data.as_mut_ptr(),
+            data.len(),
+            block_len,
+            work.as_mut_ptr(),
+            work.len(),
+            first_block,
+            pos,
+            buf.as_ptr(),
+            buf.len(),
+        )
+    };
+    judge(r.answer)
+}
