@@ -1,0 +1,246 @@
+-- What each call on the entry tables promises: its own rows, in document 01's order, and what Done gives. s are the four tables, v the view of the table
+-- that the call is about, x an inode, p a parent's inode, k a key. These rows are decided where sizes, work list and soundness have passed.
+-- Assumes nothing.
+use mathlib.Core.Path.{_≡_}
+use mathlib.Core.List.{List, [], _∷_, _++_}
+use mathlib.Core.Logic.{_⊎_}
+use Prim.Native.Nat.{ℕ, _+_, _-_, _*_, _<_, _≤_}
+use lib.ListN.{length, getD, set, take, drop}
+use Rattle.order.specs.First.{Row, row}
+use Rattle.order.specs.declared.Answer.{Answer}
+use Rattle.order.specs.declared.Answer.the-variants.{
+  Done,
+  NoSpace,
+  ListTooShort,
+  NotFound,
+  AlreadyExist,
+  Busy,
+  DeletingRoot,
+  NotEmpty,
+  IntoItself,
+  NotOpen,
+  TooManyOpens,
+}
+use Rattle.links.specs.Links.{_∈_}
+use Rattle.meta_key.specs.Key.{nameKey}
+use Rattle.meta_table.specs.View.{View, place, bucketOf, childrenOf, LiveIn}
+use Rattle.meta_table.specs.Steps.{taken, freeOf}
+use Rattle.fs_meta.specs.Tables.{Tables, dirs, files, Has, HasOther, above}
+use Rattle.fs_meta.specs.Steps.{carriedDir, carriedFile, madeDir, madeFile, deletedDir, deletedFile, renamedDir, renamedFile}
+
+-- the open count of inode x
+abbrev pub opened : List ℕ → ℕ → ℕ
+opened opens x = getD opens x 0
+
+-- lookup -------------------------------------------------------------------------------------------------------------------------------------------
+
+-- the answer, the inode, the number of entries compared
+pub record Lookup : Type 0 where
+  pub answer : Answer
+  pub inode : ℕ
+  pub compared : ℕ
+
+abbrev pub lookupGives : Answer → ℕ → ℕ → Lookup
+lookupGives answer inode compared = record { answer = answer; inode = inode; compared = compared }
+
+-- NotFound keeps the number compared, which is the bucket's length
+abbrev pub lookupRows : View → List ℕ → List (Row Lookup)
+lookupRows v k = row (Has v k → ⊥) (lookupGives NotFound 0 (length (bucketOf v (place v k)))) ∷ []
+
+-- make ---------------------------------------------------------------------------------------------------------------------------------------------
+
+-- the answer, the new inode, the tables and the open counts afterwards
+pub record Make : Type 0 where
+  pub answer : Answer
+  pub inode : ℕ
+  pub tables : Tables
+  pub opens : List ℕ
+
+abbrev pub makeGives : Answer → ℕ → Tables → List ℕ → Make
+makeGives answer inode tables opens = record { answer = answer; inode = inode; tables = tables; opens = opens }
+
+-- no entry never used and none removed: freeOf counts both
+abbrev pub makeRows : Tables → View → List ℕ → ℕ → List ℕ → List (Row Make)
+makeRows s v opens p k =
+    row (LiveIn (dirs s) p → ⊥) (makeGives NotFound 0 s opens)
+    ∷ row (Has v k) (makeGives AlreadyExist 0 s opens)
+    ∷ row (freeOf v ≡ 0) (makeGives NoSpace 0 s opens)
+    ∷ []
+
+abbrev pub makeDirDone : Tables → List ℕ → ℕ → List ℕ → List ℕ → Make
+makeDirDone s opens p name padding = makeGives Done (taken (dirs s)) (madeDir s p name padding) (set opens (taken (dirs s)) 1)
+
+abbrev pub makeFileDone : Tables → List ℕ → ℕ → List ℕ → List ℕ → Make
+makeFileDone s opens p name carried = makeGives Done (taken (files s)) (madeFile s p name carried) (set opens (taken (files s)) 1)
+
+-- rename, delete, open and close -------------------------------------------------------------------------------------------------------------------
+
+-- the answer, the tables and the open counts afterwards
+pub record Change : Type 0 where
+  pub answer : Answer
+  pub tables : Tables
+  pub opens : List ℕ
+
+abbrev pub changeGives : Answer → Tables → List ℕ → Change
+changeGives answer tables opens = record { answer = answer; tables = tables; opens = opens }
+
+-- a directory: the root stays, and none goes to itself or below itself. The last row counts the entries after the subject's is given up
+abbrev pub renameDirRows : Tables → List ℕ → ℕ → ℕ → List ℕ → List (Row Change)
+renameDirRows s opens x p name =
+    row (LiveIn (dirs s) x → ⊥) (changeGives NotFound s opens)
+    ∷ row (opened opens x ≡ 0) (changeGives NotOpen s opens)
+    ∷ row (x ≡ 1) (changeGives DeletingRoot s opens)
+    ∷ row (LiveIn (dirs s) p → ⊥) (changeGives NotFound s opens)
+    ∷ row (x ∈ above (dirs s) p) (changeGives IntoItself s opens)
+    ∷ row (HasOther (dirs s) x (nameKey p name)) (changeGives AlreadyExist s opens)
+    ∷ row (freeOf (dirs s) + 1 ≡ 0) (changeGives NoSpace s opens)
+    ∷ []
+
+abbrev pub renameDirDone : Tables → List ℕ → ℕ → ℕ → List ℕ → Change
+renameDirDone s opens x p name = changeGives Done (renamedDir s x p name) opens
+
+abbrev pub renameFileRows : Tables → List ℕ → ℕ → ℕ → List ℕ → List (Row Change)
+renameFileRows s opens x p name =
+    row (LiveIn (files s) x → ⊥) (changeGives NotFound s opens)
+    ∷ row (opened opens x ≡ 0) (changeGives NotOpen s opens)
+    ∷ row (LiveIn (dirs s) p → ⊥) (changeGives NotFound s opens)
+    ∷ row (HasOther (files s) x (nameKey p name)) (changeGives AlreadyExist s opens)
+    ∷ row (freeOf (files s) + 1 ≡ 0) (changeGives NoSpace s opens)
+    ∷ []
+
+abbrev pub renameFileDone : Tables → List ℕ → ℕ → ℕ → List ℕ → Change
+renameFileDone s opens x p name = changeGives Done (renamedFile s x p name) opens
+
+-- delete needs exactly one open, and leaves 0
+abbrev pub deleteDirRows : Tables → List ℕ → ℕ → List (Row Change)
+deleteDirRows s opens x =
+    row (LiveIn (dirs s) x → ⊥) (changeGives NotFound s opens)
+    ∷ row (opened opens x ≡ 0) (changeGives NotOpen s opens)
+    ∷ row (1 < opened opens x) (changeGives Busy s opens)
+    ∷ row (x ≡ 1) (changeGives DeletingRoot s opens)
+    ∷ row ((0 < dirs s .head x) ⊎ (0 < files s .head x)) (changeGives NotEmpty s opens)
+    ∷ []
+
+abbrev pub deleteDirDone : Tables → List ℕ → ℕ → Change
+deleteDirDone s opens x = changeGives Done (deletedDir s x) (set opens x 0)
+
+abbrev pub deleteFileRows : Tables → List ℕ → ℕ → List (Row Change)
+deleteFileRows s opens x =
+    row (LiveIn (files s) x → ⊥) (changeGives NotFound s opens)
+    ∷ row (opened opens x ≡ 0) (changeGives NotOpen s opens)
+    ∷ row (1 < opened opens x) (changeGives Busy s opens)
+    ∷ []
+
+abbrev pub deleteFileDone : Tables → List ℕ → ℕ → Change
+deleteFileDone s opens x = changeGives Done (deletedFile s x) (set opens x 0)
+
+-- the answer, the open counts afterwards
+pub record Opening : Type 0 where
+  pub answer : Answer
+  pub opens : List ℕ
+
+abbrev pub openingGives : Answer → List ℕ → Opening
+openingGives answer opens = record { answer = answer; opens = opens }
+
+abbrev pub openRows : View → List ℕ → ℕ → List (Row Opening)
+openRows v opens x =
+    row (LiveIn v x → ⊥) (openingGives NotFound opens)
+    ∷ row (65535 ≤ opened opens x) (openingGives TooManyOpens opens)
+    ∷ []
+
+abbrev pub openDone : List ℕ → ℕ → Opening
+openDone opens x = openingGives Done (set opens x (opened opens x + 1))
+
+abbrev pub closeRows : View → List ℕ → ℕ → List (Row Opening)
+closeRows v opens x =
+    row (LiveIn v x → ⊥) (openingGives NotFound opens)
+    ∷ row (opened opens x ≡ 0) (openingGives NotOpen opens)
+    ∷ []
+
+abbrev pub closeDone : List ℕ → ℕ → Opening
+closeDone opens x = openingGives Done (set opens x (opened opens x - 1))
+
+-- listing ------------------------------------------------------------------------------------------------------------------------------------------
+
+-- the answer, the number of inodes, the lent list afterwards
+pub record Listing : Type 0 where
+  pub answer : Answer
+  pub count : ℕ
+  pub list : List ℕ
+
+abbrev pub listGives : Answer → ℕ → List ℕ → Listing
+listGives answer count list = record { answer = answer; count = count; list = list }
+
+-- v are the directories or the files, x the directory whose children in v are listed
+abbrev pub listRows : Tables → View → ℕ → List ℕ → List (Row Listing)
+listRows s v x list =
+    row (LiveIn (dirs s) x → ⊥) (listGives NotFound 0 list)
+    ∷ row (length list < length (childrenOf v x)) (listGives ListTooShort 0 list)
+    ∷ []
+
+-- the inodes in list order; later places stay
+abbrev pub listDone : View → ℕ → List ℕ → Listing
+listDone v x list = listGives Done (length (childrenOf v x)) (childrenOf v x ++ drop (length (childrenOf v x)) list)
+
+-- stat ---------------------------------------------------------------------------------------------------------------------------------------------
+
+-- the answer, entries in all and entries free, of the directories and of the files
+pub record Stat : Type 0 where
+  pub answer : Answer
+  pub dirTotal : ℕ
+  pub dirFree : ℕ
+  pub fileTotal : ℕ
+  pub fileFree : ℕ
+
+abbrev pub statGives : Answer → ℕ → ℕ → ℕ → ℕ → Stat
+statGives answer dt df ft ff = record { answer = answer; dirTotal = dt; dirFree = df; fileTotal = ft; fileFree = ff }
+
+abbrev pub statDone : Tables → Stat
+statDone s = statGives Done (dirs s .maximum - 1) (freeOf (dirs s)) (files s .maximum - 1) (freeOf (files s))
+
+-- name and carried bytes ---------------------------------------------------------------------------------------------------------------------------
+
+-- the bytes of an entry: many of them from place `at` on of entry x in a table of width w
+abbrev pub part : ℕ → List ℕ → ℕ → ℕ → ℕ → List ℕ
+part w t x at many = take many (drop (x * w + at) t)
+
+-- the answer, and the bytes: the 16 of a name, the 4 or 20 carried ones
+pub record Shown : Type 0 where
+  pub answer : Answer
+  pub bytes : List ℕ
+
+abbrev pub shownGives : Answer → List ℕ → Shown
+shownGives answer bytes = record { answer = answer; bytes = bytes }
+
+-- none is what a refusal shows: an empty part for a name, zero bytes for carried ones
+abbrev pub shownRows : View → ℕ → List ℕ → List (Row Shown)
+shownRows v x none = row (LiveIn v x → ⊥) (shownGives NotFound none) ∷ []
+
+abbrev pub dirNameDone : Tables → ℕ → Shown
+dirNameDone s x = shownGives Done (part 40 (s .dirTable) x 4 16)
+
+abbrev pub fileNameDone : Tables → ℕ → Shown
+fileNameDone s x = shownGives Done (part 48 (s .fileTable) x 4 16)
+
+abbrev pub dirCarriedDone : Tables → ℕ → Shown
+dirCarriedDone s x = shownGives Done (part 40 (s .dirTable) x 32 4)
+
+abbrev pub fileCarriedDone : Tables → ℕ → Shown
+fileCarriedDone s x = shownGives Done (part 48 (s .fileTable) x 24 20)
+
+-- the answer, the tables afterwards
+pub record Carry : Type 0 where
+  pub answer : Answer
+  pub tables : Tables
+
+abbrev pub carryGives : Answer → Tables → Carry
+carryGives answer tables = record { answer = answer; tables = tables }
+
+abbrev pub carryRows : Tables → View → ℕ → List (Row Carry)
+carryRows s v x = row (LiveIn v x → ⊥) (carryGives NotFound s) ∷ []
+
+abbrev pub carryDirDone : Tables → ℕ → List ℕ → Carry
+carryDirDone s x padding = carryGives Done (carriedDir s x padding)
+
+abbrev pub carryFileDone : Tables → ℕ → List ℕ → Carry
+carryFileDone s x carried = carryGives Done (carriedFile s x carried)
