@@ -93,7 +93,7 @@ pub head-laid : (t : Bytes) (i : ℕ) (l : List Run) (p : ℕ) → empties l ≡
 head-laid t i [] p e w = tt
 head-laid t i (r ∷ l) p e w = (head-holds t i r p (first l) (w .0) (omega arith), head-laid t i l (suc (r .start)) (omega arith) (w .1))
 
-head-all : (t : Bytes) (i : ℕ) (fs : List (List Run)) → empties (joined fs) ≡ 0 → AllLaid t fs → AllLaid (setHead t i) fs
+pub head-all : (t : Bytes) (i : ℕ) (fs : List (List Run)) → empties (joined fs) ≡ 0 → AllLaid t fs → AllLaid (setHead t i) fs
 head-all t i [] e w = tt
 head-all t i (f ∷ fs) e w = (
   head-laid t i f 0 (omega (arith, empties-append f (joined fs))) (w .0),

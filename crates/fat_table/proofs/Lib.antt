@@ -5,3 +5,5 @@ pub mod Stepped
 pub mod Writes
 pub mod Sounds
 pub mod Files
+pub mod Overwrites
+pub mod Resizes

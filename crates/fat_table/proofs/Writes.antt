@@ -172,7 +172,7 @@ abbrev pub relinkIn : List Run → ℕ → ℕ → Bytes → Bytes
 relinkIn [] i p t = t
 relinkIn (a ∷ A) i p t = setNode t a p (firstOr A i)
 
-first-or : (A : List Run) (y : Run) (C : List Run) (i : ℕ) → suc (y .start) ≡ i → first (A ++ y ∷ C) ≡ firstOr A i
+pub first-or : (A : List Run) (y : Run) (C : List Run) (i : ℕ) → suc (y .start) ≡ i → first (A ++ y ∷ C) ≡ firstOr A i
 first-or [] y C i e = e
 first-or (a ∷ A) y C i e = refl
 
@@ -186,12 +186,12 @@ lay-turn t (a ∷ A) x y B C o p g e es cs w =
     ∙ lay-after (setNode t a p q) A x y B C (suc (a .start)) (bytes-setNode t a p q g) e
     (keep-laid t a p q (A ++ x ∷ B) (suc (a .start)) (omega arith) (omega arith) cs (w .1))
 
-bytes-relinkIn : (t : Bytes) (A : List Run) (i p : ℕ) → words.Bytes t → words.Bytes (relinkIn A i p t)
+pub bytes-relinkIn : (t : Bytes) (A : List Run) (i p : ℕ) → words.Bytes t → words.Bytes (relinkIn A i p t)
 bytes-relinkIn t [] i p g = g
 bytes-relinkIn t (a ∷ A) i p g = bytes-setNode t a p (firstOr A i) g
 
 -- it keeps what shares no block with the chain
-keep-relinkIn : (t : Bytes) (A : List Run) (i p : ℕ) (l : List Run) (o : ℕ) → empties A ≡ 0 → empties l ≡ 0 → ((z : ℕ) → covers z A + covers z l ≤ 1) → Laid t l o → Laid (relinkIn A i p t) l o
+pub keep-relinkIn : (t : Bytes) (A : List Run) (i p : ℕ) (l : List Run) (o : ℕ) → empties A ≡ 0 → empties l ≡ 0 → ((z : ℕ) → covers z A + covers z l ≤ 1) → Laid t l o → Laid (relinkIn A i p t) l o
 keep-relinkIn t [] i p l o e el c w = w
 keep-relinkIn t (a ∷ A) i p l o e el c w = keep-laid t a p (firstOr A i) l o (omega arith) el (λ z. omega (arith, c z)) w
 
