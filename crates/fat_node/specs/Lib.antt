@@ -2,3 +2,4 @@ pub mod Entry
 pub mod Node
 pub mod Sizes
 pub mod Reads
+pub mod Format

@@ -8,6 +8,8 @@ ghost use Prim.Native.Nat.{ℕ, _+_, _*_, _≤_, _<_};
 ghost use lib.ListN.{length};
 ghost use Rattle.fat_node.specs.Entry.{entry, put, top, uAt, vAt};
 ghost use Rattle.fat_node.specs.Node.{run, prevAt, nextAt, NodeAt, prevHalf, setNode, setHead};
+ghost use Rattle.fat_node.specs.Sizes.{blocks, Misfit, Outside};
+ghost use Rattle.fat_node.specs.Format.{FormatPromise};
 ghost use Rattle.fat_node.specs.Reads.{Reads, HeadReads, Ends};
 
 // A run of size blocks, with the indexes of the previous node and of the next: block numbers plus 1, or 0 for none.
@@ -217,4 +219,72 @@ pub fn set_head(table: &mut [u8], first: usize)
     ensures { λ _. ⌜ now (table .exit) ≡ setHead (now (table .entry)) first ⌝ }
 {
     set_entry(table, 0, 0, first as u32);
+}
+
+// The number of blocks of a table.
+pub fn blocks(table: &[u8]) -> usize
+    ensures { λ r. ⌜ r ≡ blocks (now (table .entry)) ⌝ }
+{
+    let entries = table.len() / 8;
+    if entries == 0 {
+        return 0;
+    }
+    entries - 1
+}
+
+// Whether a table is under 8 bytes or no multiple of 8.
+pub fn misfit(table: &[u8]) -> bool
+    ensures { λ r. ⌜ (r ≡ true → Misfit (now (table .entry))) × (Misfit (now (table .entry)) → r ≡ true) ⌝ }
+{
+    if table.len() < 8 {
+        return true;
+    }
+    table.len() % 8 != 0
+}
+
+// Whether a table has no block or more than a million.
+pub fn outside(table: &[u8]) -> bool
+    ensures { λ r. ⌜ (r ≡ true → Outside (now (table .entry))) × (Outside (now (table .entry)) → r ≡ true) ⌝ }
+{
+    let n = blocks(table);
+    if n < 1 {
+        return true;
+    }
+    1000000 < n
+}
+
+// What format answers.
+pub struct Formatted {
+    pub answer: order::Answer,
+}
+
+// Makes of a table of any bytes one whose blocks are all free, in one node.
+pub fn format(table: &mut [u8]) -> Formatted
+    ensures { λ r. ⌜ FormatPromise (now (table .entry)) r (now (table .exit)) ⌝ }
+{
+    if misfit(table) {
+        return Formatted {
+            answer: order::Answer::SizeMismatch,
+        };
+    }
+    if outside(table) {
+        return Formatted {
+            answer: order::Answer::InvalidValue,
+        };
+    }
+    let n = blocks(table);
+    set_node(
+        table,
+        n,
+        0,
+        Node {
+            size: n,
+            prev: 0,
+            next: 0,
+        },
+    );
+    set_head(table, 1);
+    Formatted {
+        answer: order::Answer::Done,
+    }
 }
