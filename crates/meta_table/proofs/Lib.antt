@@ -2,3 +2,4 @@ pub mod Field
 pub mod Table
 pub mod Agree
 pub mod Steps
+pub mod Chain

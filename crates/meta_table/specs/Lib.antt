@@ -1,3 +1,4 @@
 pub mod Field
 pub mod View
 pub mod Steps
+pub mod Chain
