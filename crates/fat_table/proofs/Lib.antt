@@ -7,3 +7,4 @@ pub mod Sounds
 pub mod Files
 pub mod Overwrites
 pub mod Resizes
+pub mod Counting

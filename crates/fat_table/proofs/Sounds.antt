@@ -59,11 +59,11 @@ use Rattle.fat_table.proofs.Chains.{
 }
 
 -- what goes end to end covers each block once
-end-sizes : (b : ℕ) (T : List Run) (n : ℕ) → EndToEnd b T n → empties T ≡ 0
+pub end-sizes : (b : ℕ) (T : List Run) (n : ℕ) → EndToEnd b T n → empties T ≡ 0
 end-sizes b [] n e = refl
 end-sizes b (r ∷ T) n e = omega (arith, e .1, end-sizes (b + r .size) T n (e .2))
 
-end-covers : (b : ℕ) (T : List Run) (n : ℕ) → EndToEnd b T n → (x : ℕ) → covers x T ≡ hits x (run b (n - b))
+pub end-covers : (b : ℕ) (T : List Run) (n : ℕ) → EndToEnd b T n → (x : ℕ) → covers x T ≡ hits x (run b (n - b))
 end-covers b [] n e x = ⊎-elim
     (λ h. omega (arith, hits-above x (run b (n - b)) h, hits-below x (run b (n - b)) h))
     (λ h. omega arith)
@@ -81,7 +81,7 @@ joined-perm (List·Permᴰ·swap {a = a} {b = b} {l = l} e e′) =
     rw (← e, ← e′, ← append-assoc a b (joined l), ← append-assoc b a (joined l)) (Permᴰ·append-right (joined l) (List·Permᴰ·append-comm a b))
 joined-perm (List·Permᴰ·trans p q) = List·Permᴰ·trans (joined-perm p) (joined-perm q)
 
-whole-covers : (T : List Run) (n : ℕ) → EndToEnd 0 T n → (x : ℕ) → covers x T ≡ hits x (run 0 n)
+pub whole-covers : (T : List Run) (n : ℕ) → EndToEnd 0 T n → (x : ℕ) → covers x T ≡ hits x (run 0 n)
 whole-covers T n e x = end-covers 0 T n e x ∙ ap (λ (m : ℕ). hits x (run 0 m)) (omega arith)
 
 all-path-order : (prv nxt : ℕ → ℕ) {fs gs : List (List Run)} → List·Permᴰ fs gs → AllPath prv nxt fs → AllPath prv nxt gs
@@ -235,7 +235,7 @@ next-run b (a ∷ c ∷ T) n e {r} m =
     (List·Memᴰ·cases-cons m)
 
 -- a run of the list ends by n
-in-below : (b : ℕ) (T : List Run) (n : ℕ) → EndToEnd b T n → {r : Run} → In r T → r .start + r .size ≤ n
+pub in-below : (b : ℕ) (T : List Run) (n : ℕ) → EndToEnd b T n → {r : Run} → In r T → r .start + r .size ≤ n
 in-below b T n e m = ⊎-elim (λ q. omega (arith, q)) (λ o. omega (arith, o .2, below b T n e (o .1))) (next-run b T n e m)
   where
     below : (b : ℕ) (T : List Run) (n : ℕ) → EndToEnd b T n → {r : Run} → In r T → r .start ≤ n
@@ -293,7 +293,7 @@ module _ (n : ℕ) (t : Bytes) where
         (next-run 0 ns n E (o .1)))
         (starts-in st)
 
-    node-in : {c : ℕ} → IsNode t n c → (r : Run) × In r ns × (r .start ≡ c)
+    pub node-in : {c : ℕ} → IsNode t n c → (r : Run) × In r ns × (r .start ≡ c)
     node-in i = ⊎-elim (λ q. let z : ⊥ = omega (arith, q, i .1) in absurd z) (λ o. o) (starts-in (i .0))
 
     in-starts : (b : ℕ) (T : List Run) → EndToEnd b T n → Starts t n b → ((r : Run) → In r T → NodeAt t n (r .start) (r .size)) → {r : Run} → In r T
@@ -306,7 +306,7 @@ module _ (n : ℕ) (t : Bytes) where
         (λ k. in-starts (b + a .size) T (e .2) (after sa (g a (List·Memᴰ·head refl)) (ap (λ (x : ℕ). x + a .size) (sym (e .0)))) (λ x i. g x (List·Memᴰ·tail i)) k)
         (List·Memᴰ·cases-cons m)
 
-    in-node : {r : Run} → In r ns → IsNode t n (r .start)
+    pub in-node : {r : Run} → In r ns → IsNode t n (r .start)
     in-node {r} m = (in-starts 0 ns E begin node m, omega (arith, in-below 0 ns n E m, node r m .some))
 
 -- a sound table holds a layout -----------------------------------------------------------------------
@@ -404,7 +404,7 @@ path-to t i p a (b ∷ l) w k {r} m =
 
 module _ (n : ℕ) (small : n ≤ 1000000) (t : Bytes) (L : Layout) (s : Holds n t L) where
   module _ (ns : List Run) (π : List·Permᴰ (runs L) ns) (E : EndToEnd 0 ns n) where
-    node-of : (r : Run) → In r ns → NodeAt t n (r .start) (r .size)
+    pub node-of : (r : Run) → In r ns → NodeAt t n (r .start) (r .size)
     node-of r m =
         let p = place n small t L s ns π r m in
         holds-node n small t r (prevAt t (r .start)) (nextAt t (r .start)) (p .prev-in) (p .next-in)
@@ -455,7 +455,7 @@ module _ (n : ℕ) (small : n ≤ 1000000) (t : Bytes) (L : Layout) (s : Holds n
         }
 
   -- the runs of the layout in their places' order
-  in-order : (T : List Run) × List·Permᴰ (runs L) T × EndToEnd 0 T n
+  pub in-order : (T : List Run) × List·Permᴰ (runs L) T × EndToEnd 0 T n
   in-order = sorted (length (runs L)) 0 n n (runs L) (omega arith) (omega arith) (s .tiled .positive) (s .tiled .once)
 
   pub holds-sound : Sound t n
