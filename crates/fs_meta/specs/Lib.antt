@@ -1,3 +1,5 @@
 pub mod Tables
 pub mod Steps
 pub mod Calls
+pub mod Promise
+pub mod Format
