@@ -1,2 +1,4 @@
 pub mod Copied
 pub mod Over
+pub mod Joins
+pub mod Few

@@ -1,3 +1,4 @@
 pub mod Blocks
 pub mod Promise
 pub mod Calls
+pub mod Inner
