@@ -25,6 +25,7 @@ use Rattle.links.specs.Links.{_∈_}
 use Rattle.meta_key.specs.Key.{nameKey}
 use Rattle.meta_table.specs.View.{View, place, bucketOf, childrenOf, LiveIn}
 use Rattle.meta_table.specs.Steps.{taken, freeOf}
+use Rattle.meta_table.specs.Chain.{seekIn}
 use Rattle.fs_meta.specs.Tables.{Tables, dirs, files, Has, HasOther, above}
 use Rattle.fs_meta.specs.Steps.{carriedDir, carriedFile, madeDir, madeFile, deletedDir, deletedFile, renamedDir, renamedFile}
 
@@ -46,6 +47,11 @@ lookupGives answer inode compared = record { answer = answer; inode = inode; com
 -- NotFound keeps the number compared, which is the bucket's length
 abbrev pub lookupRows : View → List ℕ → List (Row Lookup)
 lookupRows v k = row (Has v k → ⊥) (lookupGives NotFound 0 (length (bucketOf v (place v k)))) ∷ []
+
+-- the match, and its place in its bucket from 1
+abbrev pub lookupDone : View → List ℕ → Lookup
+lookupDone v k =
+    lookupGives Done (seekIn (v .key) k (bucketOf v (place v k)) 0 .inode) (seekIn (v .key) k (bucketOf v (place v k)) 0 .compared)
 
 -- make ---------------------------------------------------------------------------------------------------------------------------------------------
 
