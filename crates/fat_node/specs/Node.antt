@@ -57,6 +57,10 @@ setNode t r p q =
     (put t (r .start + 1) (startEntry r p q))
     (put (put (put t (r .start + 1) (startEntry r p q)) (r .start + 2) (spanEntry r)) (r .start + r .size) (spanEntry r))
 
+-- the head has its form: u is 0 and the flag of v is clear
+abbrev pub HeadForm : Bytes → Type 0
+HeadForm t = (uAt t 0 ≡ 0) × (vAt t 0 < top)
+
 -- the table with the head written: the index of the first free node
 unfoldable pub setHead : Bytes → ℕ → Bytes
 setHead t i = put t 0 (entry 0 i)

@@ -1,8 +1,8 @@
 -- What the readers of a node and of the head answer. Assumes nothing.
 use Prim.Native.Nat.{ℕ, _+_, _-_, _<_, _≤_}
 use mathlib.Core.Path.{_≡_}
-use Rattle.fat_node.specs.Entry.{Bytes, top, uAt, vAt}
-use Rattle.fat_node.specs.Node.{NodeAt, HeldBy, prevAt, nextAt}
+use Rattle.fat_node.specs.Entry.{Bytes, vAt}
+use Rattle.fat_node.specs.Node.{NodeAt, HeldBy, prevAt, nextAt, HeadForm}
 use Rattle.fat_node.specs.declared.Node.{Node}
 use Rattle.fat_node.specs.declared.NodeRead.{NodeRead}
 use Rattle.fat_node.specs.declared.NodeRead.the-variants.{Found, Broken}
@@ -13,10 +13,6 @@ use Rattle.fat_node.specs.declared.HeadRead.the-variants.{First, BrokenH
 abbrev pub Reads : Bytes → ℕ → ℕ → NodeRead → Type 0
 Reads t n b (Found node) = NodeAt t n b (node .size) × (node .prev ≡ prevAt t b) × (node .next ≡ nextAt t b)
 Reads t n b Broken = (s : ℕ) → NodeAt t n b s → ⊥
-
--- the head has its form: u is 0 and the flag of v is clear
-abbrev pub HeadForm : Bytes → Type 0
-HeadForm t = (uAt t 0 ≡ 0) × (vAt t 0 < top)
 
 -- the first free node is read where the head has its form
 abbrev pub HeadReads : Bytes → HeadRead → Type 0

@@ -24,7 +24,8 @@ use Rattle.fat_node.proofs.Nodes.{le-or-lt, bytes-setNode, bytes-setHead, lengt
 use Rattle.fat_table.specs.Sound.{IsNode, Sound, File}
 use Rattle.fat_table.specs.Chain.{total, headAt, chainAt, freeAt, fileAt}
 use Rattle.fat_table.specs.Layout.{Layout, layout, taken, left, joined, hits, covers, empties, runs, Tiled}
-use Rattle.fat_table.specs.Steps.{first, lay, relaid, formatted, created, grown, shrunk, resized, deleted}
+use Rattle.fat_node.specs.Format.{formatted}
+use Rattle.fat_table.specs.Steps.{first, lay, relaid, created, grown, shrunk, resized, deleted}
 use Rattle.fat_table.specs.Holds.{Laid, AllLaid, Holds}
 use Rattle.fat_table.proofs.Layouts.{hits-in, hits-most, covers-append, empties-append}
 use Rattle.fat_table.proofs.Laying.{length-lay}

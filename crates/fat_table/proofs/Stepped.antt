@@ -13,7 +13,8 @@ use Rattle.fat_node.specs.Node.{Run, run, prevAt, nextAt, prevHalf, nextHalf, s
 use Rattle.fat_node.proofs.Nodes.{one-or-more, le-or-lt, prevHalf-index, nextHalf-index, nextHalf-one, nextHalf-more}
 use Rattle.fat_table.specs.Chain.{total, headAt, sizeAt, chainAt, freeAt, fileAt}
 use Rattle.fat_table.specs.Layout.{Layout, layout, taken, left, joined, hits, covers, empties, blanks, runs, Tiled}
-use Rattle.fat_table.specs.Steps.{first, lay, relaid, formatted, created, grown, shrunk, resized, deleted}
+use Rattle.fat_node.specs.Format.{formatted}
+use Rattle.fat_table.specs.Steps.{first, lay, relaid, created, grown, shrunk, resized, deleted}
 use Rattle.fat_table.specs.Holds.{HoldsNode, Laid, AllLaid, Holds}
 use Rattle.fat_table.proofs.Layouts.{create, delete, grow, shrink, hits-in, hits-lo, hits-hi, hits-above, hits-below, hits-most, covers-append, covers-perm, empties-append, sorted, end-after, length-perm, tiled-step, tiled-order, tiled-format}
 use Rattle.fat_table.proofs.Laying.{relaid-laid, inside-of, first-inside}

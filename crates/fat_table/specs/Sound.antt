@@ -1,8 +1,8 @@
 -- Soundness of the block table, sentence by sentence as document 01 has it, and what the test of it answers. Assumes nothing.
 use mathlib.Core.Path.{_≡_}
 use Prim.Native.Nat.{ℕ, _+_, _<_}
-use Rattle.fat_node.specs.Entry.{Bytes, top, uAt, vAt}
-use Rattle.fat_node.specs.Node.{NodeAt, prevAt, nextAt}
+use Rattle.fat_node.specs.Entry.{Bytes, vAt}
+use Rattle.fat_node.specs.Node.{NodeAt, prevAt, nextAt, HeadForm}
 
 -- from block 0, node after node, one comes to c: a node is due there, or c is the end
 pub data Starts (t : Bytes) (n : ℕ) : ℕ → Type 0 where
@@ -30,7 +30,7 @@ pub record Reached (t : Bytes) (n j : ℕ) : Type 0 where
 
 pub record Sound (t : Bytes) (n : ℕ) : Type 0 where
   -- the head has its form
-  pub head : (uAt t 0 ≡ 0) × (vAt t 0 < top)
+  pub head : HeadForm t
   -- the nodes cover blocks 0 to n - 1 end to end
   pub covered : Covered t n
   -- each next names a node whose previous names it back, and the reverse

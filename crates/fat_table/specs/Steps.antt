@@ -23,10 +23,6 @@ lay (r ∷ l) p t = lay l (suc (r .start)) (setNode t r p (first l))
 abbrev pub relaid : Bytes → List Run → List Run → Bytes
 relaid t file free = setHead (lay free 0 (lay file 0 t)) (first free)
 
--- format: one free node of n blocks
-unfoldable pub formatted : ℕ → Bytes → Bytes
-formatted n t = relaid t [] (run 0 n ∷ [])
-
 -- create a file of c blocks: the first c blocks of the free chain
 unfoldable pub created : ℕ → Bytes → ℕ → Bytes
 created n t c = relaid t (taken (freeAt n t) c) (left (freeAt n t) c)
