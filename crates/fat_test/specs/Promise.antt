@@ -8,6 +8,7 @@ use Rattle.order.specs.declared.Answer.{Answer}
 use Rattle.order.specs.declared.Answer.the-variants.{Done}
 use Rattle.fat_node.specs.Entry.{Bytes}
 use Rattle.fat_node.specs.Sizes.{blocks}
+use Rattle.fat_table.specs.Sound.{Sound}
 use Rattle.fat_table.specs.Counts.{freeBlocks, otherChains}
 use Rattle.fat_test.specs.Gate.{blockGate}
 use Rattle.fat_test.specs.declared.Tested.{Tested}
@@ -26,11 +27,13 @@ testRefused answer work = tested answer 0 0 work
 abbrev pub testDone : Bytes → List ℕ → Tested × List ℕ
 testDone t work = tested Done (freeBlocks (blocks t) t) (otherChains (blocks t) t) (cleared (blocks t) work)
 
--- the gate of a call with data of length d and block length l is open: no row applies, the counts are the table's, and the work list is cleared; or
+-- the gate of a call with data of length d and block length l is open: no row applies, the table is sound, the counts are its own, and the work list
+-- is cleared; or
 -- the first row that applies refuses
 abbrev pub GateOf : Bytes → ℕ → ℕ → List ℕ → List ℕ → Gated → Type 0
 GateOf t d l work work′ (Open free files) =
     None (blockGate refusal t d l work)
+    × Sound t (blocks t)
     × (work′ ≡ cleared (blocks t) work)
     × (free ≡ freeBlocks (blocks t) t)
     × (files ≡ otherChains (blocks t) t)

@@ -7,6 +7,8 @@ use Rattle.order.specs.Gate.{cleared, Refusal, refusal}
 use Rattle.order.specs.Given.{Given, None}
 use Rattle.order.specs.declared.Answer.{Answer}
 use Rattle.order.specs.declared.Answer.the-variants.{Done}
+use Rattle.meta_table.specs.View.{dirView, fileView}
+use Rattle.meta_tree.specs.Sound.{Sound}
 use Rattle.meta_tree.specs.Sizes.{rooms}
 use Rattle.meta_test.specs.Gate.{treeGate, openGate}
 use Rattle.meta_test.specs.declared.Tested.{Tested}
@@ -21,13 +23,13 @@ tested answer work = (record { answer = answer }, work)
 abbrev pub testDone : List ℕ → List ℕ → List ℕ → Tested × List ℕ
 testDone d f work = tested Done (cleared (rooms d f) work)
 
--- a gate is open: no row applies, and the work list is cleared, k places of it; or the first row that applies refuses
-abbrev pub GateOf : List (Row Refusal) → ℕ → List ℕ → List ℕ → Gated → Type 0
-GateOf rows k work work′ Open = None rows × (work′ ≡ cleared k work)
-GateOf rows k work work′ (Refused answer) = Given rows (refusal answer work′)
+-- a gate is open: no row applies, the tables are sound, and the work list is cleared, k places of it; or the first row that applies refuses
+abbrev pub GateOf : List (Row Refusal) → Type 0 → ℕ → List ℕ → List ℕ → Gated → Type 0
+GateOf rows sound k work work′ Open = None rows × sound × (work′ ≡ cleared k work)
+GateOf rows sound k work work′ (Refused answer) = Given rows (refusal answer work′)
 
 abbrev pub TreeGateOf : (dh d fh f work work′ : List ℕ) → Gated → Type 0
-TreeGateOf dh d fh f work work′ g = GateOf (treeGate refusal dh d fh f work) (rooms d f) work work′ g
+TreeGateOf dh d fh f work work′ g = GateOf (treeGate refusal dh d fh f work) (Sound (dirView dh d) (fileView d fh f)) (rooms d f) work work′ g
 
 abbrev pub OpenGateOf : (dh d fh f : List ℕ) → (opens room : ℕ) → (work work′ : List ℕ) → Gated → Type 0
-OpenGateOf dh d fh f opens room work work′ g = GateOf (openGate refusal dh d fh f opens room work) (rooms d f) work work′ g
+OpenGateOf dh d fh f opens room work work′ g = GateOf (openGate refusal dh d fh f opens room work) (Sound (dirView dh d) (fileView d fh f)) (rooms d f) work work′ g
