@@ -8,3 +8,5 @@ pub mod Files
 pub mod Overwrites
 pub mod Resizes
 pub mod Counting
+pub mod Agreeing
+pub mod Unchanged

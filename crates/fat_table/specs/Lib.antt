@@ -4,3 +4,5 @@ pub mod Layout
 pub mod Steps
 pub mod Holds
 pub mod Counts
+pub mod Agree
+pub mod Changes
