@@ -1,2 +1,3 @@
 pub mod One
 pub mod Gate
+pub mod Beside

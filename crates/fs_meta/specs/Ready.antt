@@ -1,0 +1,31 @@
+-- What the calls inside ask for, which test nothing themselves: four tables of fitting sizes that are sound. Assumes nothing.
+use mathlib.Core.List.{List}
+use Prim.Native.Nat.{ℕ, _/_, _≤_, _<_}
+use lib.ListN.{length}
+use Rattle.links.specs.Links.{_∈_}
+use Rattle.links.specs.Change.{walk}
+use Rattle.meta_table.specs.Field.{field}
+use Rattle.meta_table.specs.View.{viewOf, hashAt}
+use Rattle.meta_tree.specs.Sizes.{buckets, dirRoom, fileRoom}
+use Rattle.meta_tree.specs.Sound.{Table, Sound}
+use Rattle.fs_meta.specs.Tables.{Tables, dirs, files}
+
+pub record Ready (s : Tables) : Type 0 where
+  pub dir-buckets : 0 < buckets (s .dirHash)
+  pub file-buckets : 0 < buckets (s .fileHash)
+  pub few-dirs : dirRoom (s .dirTable) ≤ 65536
+  pub few-files : fileRoom (s .fileTable) ≤ 65536
+  pub sound : Sound (dirs s) (files s)
+
+-- inode x is live in the table t of width w: LiveIn, whatever the table's root and child lists
+abbrev pub LiveAt : ℕ → List ℕ → ℕ → Type 0
+LiveAt w t x = (0 < x) × (x < field w t 0 1) × (x ∈ walk (λ y. field w t y 0) (field w t 0 1) (field w t 0 0) → ⊥)
+
+-- one table t of width w with its hash h, by itself
+pub record Single (h t : List ℕ) (w : ℕ) : Type 0 where
+  pub wide : 28 ≤ w
+  pub some : 0 < buckets h
+  pub few : length t / w ≤ 65536
+  pub root : ℕ
+  pub head : ℕ → ℕ
+  pub table : Table (viewOf (buckets h) (length t / w) root (field w t) (hashAt h) head)
