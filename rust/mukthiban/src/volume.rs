@@ -59,7 +59,7 @@ pub struct Shape {
 #[derive(Debug)]
 pub struct NotSound {
     pub refusal: Refusal,
-    pub parts: Parts,
+    pub parts: Box<Parts>,
 }
 
 impl fmt::Display for NotSound {
@@ -140,7 +140,7 @@ impl Volume {
                 let (dir_opens, file_opens) = (vec![0; dirs], vec![0; files]);
                 Ok(Volume { parts, work, dir_opens, file_opens, free: tested.free, counts })
             }
-            Err(refusal) => Err(NotSound { refusal, parts }),
+            Err(refusal) => Err(NotSound { refusal, parts: Box::new(parts) }),
         }
     }
 

@@ -1,0 +1,32 @@
+//! The technician's tool: says whether a volume is sound, shows what is on it, lifts its files, and changes it
+//! without ever leaving it half written.
+
+mod change;
+mod check;
+mod cli;
+mod diagnose;
+mod fail;
+mod folder;
+mod json;
+mod lift;
+mod ls;
+mod map;
+mod name;
+mod session;
+mod svg;
+mod term;
+
+use std::process::ExitCode;
+
+fn main() -> ExitCode {
+    let words: Vec<_> = std::env::args_os().skip(1).collect();
+    match cli::run(&words) {
+        Ok(code) => ExitCode::from(code),
+        Err(fail) => {
+            if !fail.line.is_empty() {
+                eprintln!("mukthiban: {}", fail.line);
+            }
+            ExitCode::from(fail.code)
+        }
+    }
+}

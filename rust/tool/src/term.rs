@@ -1,0 +1,118 @@
+//! What a terminal gets and a file does not: colours, and a line of progress. And numbers as people read them.
+
+use crate::fail::{Fail, Outcome};
+use std::io::{self, IsTerminal, Write};
+
+/// Writes a command's whole answer to standard output.
+pub fn say(text: &str) -> Outcome<()> {
+    say_bytes(text.as_bytes())
+}
+
+pub fn say_bytes(bytes: &[u8]) -> Outcome<()> {
+    let mut out = io::stdout().lock();
+    out.write_all(bytes).and_then(|()| out.flush()).map_err(Fail::output)
+}
+
+/// Whether standard output is to be coloured.
+pub fn colours() -> bool {
+    io::stdout().is_terminal() && std::env::var_os("NO_COLOR").is_none()
+}
+
+pub enum Ink {
+    Green,
+    Red,
+    Dim,
+    Bold,
+}
+
+/// The text in that ink, on a terminal; else the text.
+pub fn ink(ink: Ink, text: &str) -> String {
+    if !colours() {
+        return text.into();
+    }
+    let code = match ink {
+        Ink::Green => "1;32",
+        Ink::Red => "1;31",
+        Ink::Dim => "2",
+        Ink::Bold => "1",
+    };
+    format!("\x1b[{code}m{text}\x1b[0m")
+}
+
+/// Columns to fill.
+pub fn columns() -> usize {
+    std::env::var("COLUMNS").ok().and_then(|c| c.parse().ok()).unwrap_or(80).clamp(40, 200)
+}
+
+/// 1234567 as 1,234,567.
+pub fn number(n: u64) -> String {
+    let digits = n.to_string();
+    let mut out = String::new();
+    for (i, c) in digits.chars().enumerate() {
+        if i > 0 && (digits.len() - i).is_multiple_of(3) {
+            out.push(',');
+        }
+        out.push(c);
+    }
+    out
+}
+
+/// "1 block", "2 blocks".
+pub fn count(n: u64, one: &str) -> String {
+    match n {
+        1 => format!("1 {one}"),
+        _ => format!("{} {one}s", number(n)),
+    }
+}
+
+/// A line of progress on standard error, where that is a terminal.
+pub struct Progress {
+    shown: bool,
+    total: u64,
+    last: Option<u64>,
+}
+
+impl Progress {
+    pub fn new(total: u64) -> Progress {
+        Progress { shown: io::stderr().is_terminal(), total: total.max(1), last: None }
+    }
+
+    /// So much of the total is done; next comes the thing named.
+    pub fn at(&mut self, done: u64, what: &str) {
+        let percent = done * 100 / self.total;
+        if self.shown && self.last != Some(percent) {
+            self.last = Some(percent);
+            let filled = (percent / 5) as usize;
+            let what: String = what.chars().take(columns() - 36).collect();
+            let _ = write!(
+                io::stderr(),
+                "\r\x1b[K[{}{}] {percent:3}%  {what}",
+                "#".repeat(filled),
+                ".".repeat(20 - filled)
+            );
+        }
+    }
+}
+
+impl Drop for Progress {
+    fn drop(&mut self) {
+        if self.shown && self.last.is_some() {
+            let _ = write!(io::stderr(), "\r\x1b[K");
+        }
+    }
+}
+
+#[cfg(test)]
+mod tests {
+    use super::*;
+
+    #[test]
+    fn numbers_as_people_read_them() {
+        assert_eq!(number(0), "0");
+        assert_eq!(number(999), "999");
+        assert_eq!(number(1000), "1,000");
+        assert_eq!(number(1234567), "1,234,567");
+        assert_eq!(count(1, "block"), "1 block");
+        assert_eq!(count(0, "block"), "0 blocks");
+    }
+}
