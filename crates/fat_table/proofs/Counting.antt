@@ -75,7 +75,7 @@ along-free n t m w a = along-one a (free-along n t w) refl
 
 -- the files, counted ---------------------------------------------------------------------------------------
 
-scan-read : (n : ℕ) (t : Bytes) (T : List Run) (k b : ℕ) → length T ≤ k → EndToEnd b T n → ((r : Run) → In r T → sizeAt t (r .start) ≡ r .size) → scan n t k b ≡ T
+pub scan-read : (n : ℕ) (t : Bytes) (T : List Run) (k b : ℕ) → length T ≤ k → EndToEnd b T n → ((r : Run) → In r T → sizeAt t (r .start) ≡ r .size) → scan n t k b ≡ T
 scan-read n t [] zero b h e g = refl
 scan-read n t [] (suc k) b h e g = rw (le-ltb b n (omega arith))
 scan-read n t (r ∷ T) zero b h e g = let z : ⊥ = omega arith in absurd z

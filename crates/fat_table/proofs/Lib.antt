@@ -10,3 +10,4 @@ pub mod Resizes
 pub mod Counting
 pub mod Agreeing
 pub mod Unchanged
+pub mod Decided

@@ -84,7 +84,7 @@ joined-perm (List·Permᴰ·trans p q) = List·Permᴰ·trans (joined-perm p) (j
 pub whole-covers : (T : List Run) (n : ℕ) → EndToEnd 0 T n → (x : ℕ) → covers x T ≡ hits x (run 0 n)
 whole-covers T n e x = end-covers 0 T n e x ∙ ap (λ (m : ℕ). hits x (run 0 m)) (omega arith)
 
-all-path-order : (prv nxt : ℕ → ℕ) {fs gs : List (List Run)} → List·Permᴰ fs gs → AllPath prv nxt fs → AllPath prv nxt gs
+pub all-path-order : (prv nxt : ℕ → ℕ) {fs gs : List (List Run)} → List·Permᴰ fs gs → AllPath prv nxt fs → AllPath prv nxt gs
 all-path-order prv nxt List·Permᴰ·nil w = tt
 all-path-order prv nxt (List·Permᴰ·cons e p) w = (subst (λ (f : List Run). Linked prv nxt 0 f) e (w .0), all-path-order prv nxt p (w .1))
 all-path-order prv nxt (List·Permᴰ·swap e e′) w = (subst (λ (f : List Run). Linked prv nxt 0 f) e′ (w .1 .0), (subst (λ (f : List Run). Linked prv nxt 0 f) e (w .0), w .1 .1))
@@ -100,7 +100,7 @@ module _ (t : Bytes) where
     path-laid l (suc (a .start)) (w .2) (λ r m. g r (List·Memᴰ·tail m)),
   )
 
-  all-path-laid : (cs : List (List Run)) → AllPath (prevAt t) (nextAt t) cs → ((r : Run) → In r (joined cs) → HoldsNode t r (prevAt t (r .start)) (nextAt t (r .start))) → AllLaid t cs
+  pub all-path-laid : (cs : List (List Run)) → AllPath (prevAt t) (nextAt t) cs → ((r : Run) → In r (joined cs) → HoldsNode t r (prevAt t (r .start)) (nextAt t (r .start))) → AllLaid t cs
   all-path-laid [] w g = tt
   all-path-laid (c ∷ cs) w g = (path-laid c 0 (w .0) (λ r m. g r (mem-left (joined cs) m)), all-path-laid cs (w .1) (λ r m. g r (mem-right c m)))
 
@@ -128,18 +128,18 @@ module _ (n : ℕ) (small : n ≤ 1000000) (t : Bytes) where
 
   module _ (L : Layout) (s : Holds n t L) (ns : List Run) (π : List·Permᴰ (runs L) ns) where
     -- the chain that a node is in: it is laid, its links are read back, and its nodes are nodes
-    record Place (r : Run) : Type 0 where
-      chain : List Run
-      within : In r chain
-      path : Linked (prevAt t) (nextAt t) 0 chain
-      form : HoldsNode t r (prevAt t (r .start)) (nextAt t (r .start))
-      prev-in : prevAt t (r .start) ≤ n
-      next-in : nextAt t (r .start) ≤ n
-      size-read : sizeAt t (r .start) ≡ r .size
-      read : chainAt t n (first chain) ≡ chain
-      out : (x : Run) → In x chain → In x ns
+    pub record Place (r : Run) : Type 0 where
+      pub chain : List Run
+      pub within : In r chain
+      pub path : Linked (prevAt t) (nextAt t) 0 chain
+      pub form : HoldsNode t r (prevAt t (r .start)) (nextAt t (r .start))
+      pub prev-in : prevAt t (r .start) ≤ n
+      pub next-in : nextAt t (r .start) ≤ n
+      pub size-read : sizeAt t (r .start) ≡ r .size
+      pub read : chainAt t n (first chain) ≡ chain
+      pub out : (x : Run) → In x chain → In x ns
 
-    place : (r : Run) → In r ns → Place r
+    pub place : (r : Run) → In r ns → Place r
     place r m =
         let w = chain-of r (L .free ∷ L .files) (mem-perm (Permᴰ·symm π) m) in
         let c : List Run = w .0 in
