@@ -1,1 +1,2 @@
 // The calls on the entry tables.
+pub mod look;
