@@ -64,8 +64,7 @@ module _ {h t : List ℕ} {w : ℕ} (S : Single h t w) where
       let key : k ≡ keyAt (field w t) x = ek ∙ key-part w t x (i * w) (ap (λ z. z * w) ei) (omega (arith, S .wide)) in
       let at : hashOf (keyAt (field w t) x) % buckets h ≡ b = ap (λ z. hashOf z % buckets h) (sym key) ∙ sym eb in
       let H = S .table .bucket b hb in
-      let l : listAt t w (w - 4) first ≡ H .0 = ap (listAt t w (w - 4)) (ef ∙ hash-word h b) ∙ bucket-list h t w S b hb ∙ bucket-is h t w S b hb in
-      (
+      let l : listAt t w (w - 4) first ≡ H .0 = ap (listAt t w (w - 4)) (ef ∙ hash-word h b) ∙ bucket-list h t w S b hb ∙ bucket-is h t w S b hb in (
         λ e. H .2 x .0 (subst (λ z. x ∈ z) l (member-in x (listAt t w (w - 4) first) (sym er ∙ e))) .0,
         λ p. er ∙ in-member x (listAt t w (w - 4) first) (subst (λ z. x ∈ z) (sym l) (H .2 x .1 (p, at))),
       )

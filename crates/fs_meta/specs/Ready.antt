@@ -5,7 +5,7 @@ use lib.ListN.{length}
 use Rattle.links.specs.Links.{_∈_}
 use Rattle.links.specs.Change.{walk}
 use Rattle.meta_table.specs.Field.{field}
-use Rattle.meta_table.specs.View.{viewOf, hashAt}
+use Rattle.meta_table.specs.View.{View, viewOf, hashAt}
 use Rattle.meta_tree.specs.Sizes.{buckets, dirRoom, fileRoom}
 use Rattle.meta_tree.specs.Sound.{Table, Sound}
 use Rattle.fs_meta.specs.Tables.{Tables, dirs, files}
@@ -29,3 +29,7 @@ pub record Single (h t : List ℕ) (w : ℕ) : Type 0 where
   pub root : ℕ
   pub head : ℕ → ℕ
   pub table : Table (viewOf (buckets h) (length t / w) root (field w t) (hashAt h) head)
+
+-- a table by itself, for the rows that ask only which of its entries are live
+abbrev pub alone : ℕ → List ℕ → View
+alone w t = viewOf 0 0 0 (field w t) (λ b. 0) (λ p. 0)

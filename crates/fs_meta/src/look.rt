@@ -1,7 +1,12 @@
 // What stands in sound entry tables: the inner calls that look, and those that touch open counts alone. Each requires soundness and tests nothing.
 ghost use mathlib.Core.Path.{_≡_};
 ghost use mathlib.Core.Bool.{true};
-ghost use Rattle.fs_meta.specs.Ready.{Ready, LiveAt, Single};
+ghost use Prim.Native.Nat.{_/_, _≤_};
+ghost use lib.ListN.{length};
+ghost use Rattle.order.specs.First.{First};
+ghost use Rattle.fs_meta.specs.Calls.{openRows, openDone, closeRows, closeDone, openingGives};
+ghost use Rattle.fs_meta.specs.Ready.{Ready, LiveAt, Single, alone};
+use order::Answer;
 
 // Whether inode x of a table is live: it stands in the bucket of its own key.
 pub fn live(hash: &[u8], table: &[u8], w: usize, x: u32) -> bool
@@ -20,4 +25,38 @@ pub fn live(hash: &[u8], table: &[u8], w: usize, x: u32) -> bool
     let b = meta_key::hash(key, hash.len() / 4);
     let first = words::get_u32(hash, b * 4);
     meta_table::in_list(table, w, w - 4, first, x)
+}
+
+// Adds 1 to the open count of inode x.
+pub fn open(hash: &[u8], table: &[u8], w: usize, opens: &mut [u32], x: u32) -> Answer
+    requires { ⌜ Single (now hash) (now table) w × (length (now table) / w ≤ length (now opens)) ⌝ }
+    ensures { λ r. ⌜ First (openRows (alone w (now (table .entry))) (now (opens .entry)) x) (openDone (now (opens .entry)) x) (openingGives r (now (opens .exit))) ⌝ }
+{
+    if !live(hash, table, w, x) {
+        return Answer::NotFound;
+    }
+    let i = meta_table::index(x);
+    let n = opens[i];
+    if n >= 65535 {
+        return Answer::TooManyOpens;
+    }
+    opens[i] = n + 1;
+    Answer::Done
+}
+
+// Takes 1 from the open count of inode x.
+pub fn close(hash: &[u8], table: &[u8], w: usize, opens: &mut [u32], x: u32) -> Answer
+    requires { ⌜ Single (now hash) (now table) w × (length (now table) / w ≤ length (now opens)) ⌝ }
+    ensures { λ r. ⌜ First (closeRows (alone w (now (table .entry))) (now (opens .entry)) x) (closeDone (now (opens .entry)) x) (openingGives r (now (opens .exit))) ⌝ }
+{
+    if !live(hash, table, w, x) {
+        return Answer::NotFound;
+    }
+    let i = meta_table::index(x);
+    let n = opens[i];
+    if n == 0 {
+        return Answer::NotOpen;
+    }
+    opens[i] = n - 1;
+    Answer::Done
 }

@@ -1,0 +1,48 @@
+-- The rows of open and close, by the places of their code. Assumes nothing.
+use mathlib.Core.Path.{_≡_, refl, sym, ap, _∙_, subst}
+use mathlib.Core.Bool.{Bool, true, false}
+use mathlib.Core.List.{List, [], _∷_}
+use mathlib.Core.Logic.{inl, inr}
+use Prim.Native.Nat.{ℕ, _+_, _-_, _/_, _≤_, _<_}
+use native.Mathlib.Omega.{arith}
+use lib.ListN.{length, getD, set}
+use Rattle.order.specs.First.{First}
+use Rattle.order.specs.declared.Answer.{Answer}
+use Rattle.order.specs.declared.Answer.the-variants.{Done, NotFound, NotOpen, TooManyOpens}
+use Rattle.meta_table.specs.Field.{field}
+use Rattle.fs_meta.specs.Ready.{LiveAt, Single, alone}
+use Rattle.fs_meta.specs.Calls.{openRows, openDone, closeRows, closeDone, openingGives}
+use Rattle.fs_meta.proofs.Live.{Tells}
+
+-- a test that failed
+pub not-live : {r : Bool} {P : Type 0} → Tells r P → r ≡ false → P → ⊥
+not-live T e p = let z : _≡_ {A = ℕ} 0 1 = (let q = T .1 p in cc) in omega arith
+
+module _ {h t : List ℕ} {w : ℕ} (S : Single h t w) (opens : List ℕ) (room : length t / w ≤ length opens) (x : ℕ) where
+  -- a live inode has an open count
+  pub in-opens : {r : Bool} (i : ℕ) → Tells r (LiveAt w t x) → r ≡ true → i ≡ x → i < length opens
+  in-opens i T e q = let l : x < field w t 0 1 = T .0 e .1 in omega (arith, S .table .count-max, S .table .max-room)
+
+  pub open-none : {r : Bool} → Tells r (LiveAt w t x) → r ≡ false → First (openRows (alone w t) opens x) (openDone opens x) (openingGives NotFound opens)
+  open-none T e = inl (not-live T e, refl)
+
+  pub open-full : {r : Bool} (i : ℕ) → Tells r (LiveAt w t x) → r ≡ true → i ≡ x → 65535 ≤ getD opens i 0
+      → First (openRows (alone w t) opens x) (openDone opens x) (openingGives TooManyOpens opens)
+  open-full i T e q g = inr (λ n. n (T .0 e), inl (subst (λ z. 65535 ≤ getD opens z 0) q g, refl))
+
+  pub open-done : {r : Bool} (i : ℕ) → Tells r (LiveAt w t x) → r ≡ true → i ≡ x → getD opens i 0 < 65535
+      → First (openRows (alone w t) opens x) (openDone opens x) (openingGives Done (set opens i (getD opens i 0 + 1)))
+  open-done i T e q g =
+      inr (λ n. n (T .0 e), inr (λ k. omega (arith, ap (λ z. getD opens z 0) q), ap (λ z. openingGives Done (set opens z (getD opens z 0 + 1))) q))
+
+  pub close-none : {r : Bool} → Tells r (LiveAt w t x) → r ≡ false → First (closeRows (alone w t) opens x) (closeDone opens x) (openingGives NotFound opens)
+  close-none T e = inl (not-live T e, refl)
+
+  pub close-shut : {r : Bool} (i : ℕ) → Tells r (LiveAt w t x) → r ≡ true → i ≡ x → getD opens i 0 ≡ 0
+      → First (closeRows (alone w t) opens x) (closeDone opens x) (openingGives NotOpen opens)
+  close-shut i T e q g = inr (λ n. n (T .0 e), inl (subst (λ z. getD opens z 0 ≡ 0) q g, refl))
+
+  pub close-done : {r : Bool} (i : ℕ) → Tells r (LiveAt w t x) → r ≡ true → i ≡ x → (getD opens i 0 ≡ 0 → ⊥)
+      → First (closeRows (alone w t) opens x) (closeDone opens x) (openingGives Done (set opens i (getD opens i 0 - 1)))
+  close-done i T e q g =
+      inr (λ n. n (T .0 e), inr (λ k. g (ap (λ z. getD opens z 0) q ∙ k), ap (λ z. openingGives Done (set opens z (getD opens z 0 - 1))) q))
