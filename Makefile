@@ -2,3 +2,9 @@
 .PHONY: test
 test:
 	tools/gate
+
+# Against the Rust: the long comparison, with a new seed or SEED=number.
+.PHONY: oracle
+oracle:
+	if [ -d crates/mukthiban/src ]; then rt staticlib mukthiban > /dev/null; fi
+	cd oracle && cargo run --offline --release --quiet -p compare -- long $(SEED)

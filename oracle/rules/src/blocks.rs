@@ -112,7 +112,7 @@ fn long_size(table: &[u8], b: usize, n: usize) -> Option<usize> {
 }
 
 /// Writes the one, two or three entries of a node.
-fn set_node(table: &mut [u8], run: Run, prev: Option<usize>, next: Option<usize>) {
+pub fn set_node(table: &mut [u8], run: Run, prev: Option<usize>, next: Option<usize>) {
     let b = run.start;
     let from = Half { index: index_of(prev), flag: prev.is_none() };
     let to = Half { index: index_of(next), flag: run.size != 1 };
@@ -144,6 +144,14 @@ fn lay(table: &mut [u8], chain: &[Run]) {
 fn lay_free(table: &mut [u8], free: &[Run]) {
     lay(table, free);
     set_head(table, free);
+}
+
+/// Writes a whole layout over any bytes: the entries that the rules read, and no other.
+pub fn lay_out(table: &mut [u8], layout: &Layout) {
+    for chain in &layout.files {
+        lay(table, chain);
+    }
+    lay_free(table, &layout.free);
 }
 
 pub fn blocks(chain: &[Run]) -> usize {

@@ -213,6 +213,12 @@ fn unlink(four: &mut FourMut, tree: &Tree, kind: Kind, inode: u32) {
     }
 }
 
+/// The step of rename alone, with nothing refused.
+pub fn moved(four: &mut FourMut, tree: &Tree, kind: Kind, inode: u32, parent: u32, name: &Name) {
+    unlink(four, tree, kind, inode);
+    link(four, kind, inode, parent, name);
+}
+
 // The calls.
 
 /// Writes both hash tables wholly, entry 0 of both tables, and the root.
@@ -316,8 +322,7 @@ pub fn rename(
     refuse(kind == Kind::Dir && at_or_below(four.four(), parent, inode), IntoItself)?;
     let other = with_key(four.four(), &tree, kind, &key(parent, name));
     refuse(other.is_some_and(|x| x != inode), AlreadyExist)?;
-    unlink(four, &tree, kind, inode);
-    link(four, kind, inode, parent, name);
+    moved(four, &tree, kind, inode, parent, name);
     Ok(())
 }
 

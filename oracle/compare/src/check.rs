@@ -1,0 +1,73 @@
+//! One call on the statement of the rules and on the proved library, compared whole.
+
+use port::{Answered, BlockCall, Blocks, Library, Port, Stated, Tree, TreeCall};
+use std::sync::atomic::{AtomicU64, Ordering};
+use std::thread;
+use std::time::Duration;
+
+static CALLS: AtomicU64 = AtomicU64::new(0);
+static LIBRARY_CALLS: AtomicU64 = AtomicU64::new(0);
+
+/// How many calls were made so far, and how many of them were compared with the library.
+pub fn made() -> (u64, u64) {
+    (CALLS.load(Ordering::Relaxed), LIBRARY_CALLS.load(Ordering::Relaxed))
+}
+
+/// Ends the program if no call comes back for two minutes: "never a loop".
+pub fn watch() {
+    thread::spawn(|| {
+        let mut last = made();
+        loop {
+            thread::sleep(Duration::from_secs(120));
+            let now = made();
+            if now == last {
+                eprintln!("NO CALL CAME BACK FOR TWO MINUTES, after {} calls", now.0);
+                std::process::exit(1);
+            }
+            last = now;
+        }
+    });
+}
+
+/// The rules' answer. The library, where it has the call, must give the same on a copy, in every byte.
+pub fn block_call(call: &BlockCall, lent: &mut Blocks) -> Answered {
+    let before = lent.clone();
+    let mut copy = lent.clone();
+    let stated = Stated.block_call(call, lent).unwrap();
+    CALLS.fetch_add(1, Ordering::Relaxed);
+    if let Some(answered) = Library.block_call(call, &mut copy) {
+        LIBRARY_CALLS.fetch_add(1, Ordering::Relaxed);
+        let same = answered == stated && copy == *lent;
+        assert!(
+            same,
+            "the library differs\ncall {call:?}\nlent {before:?}\nrules {stated:?} {lent:?}\nlibrary {answered:?} {copy:?}"
+        );
+    }
+    unchanged_when_refused(stated.number, || before.table == lent.table && before.data == lent.data);
+    stated
+}
+
+pub fn tree_call(call: &TreeCall, lent: &mut Tree) -> Answered {
+    let before = lent.clone();
+    let mut copy = lent.clone();
+    let stated = Stated.tree_call(call, lent).unwrap();
+    CALLS.fetch_add(1, Ordering::Relaxed);
+    if let Some(answered) = Library.tree_call(call, &mut copy) {
+        LIBRARY_CALLS.fetch_add(1, Ordering::Relaxed);
+        let same = answered == stated && copy == *lent;
+        assert!(
+            same,
+            "the library differs\ncall {call:?}\nlent {before:?}\nrules {stated:?} {lent:?}\nlibrary {answered:?} {copy:?}"
+        );
+    }
+    unchanged_when_refused(stated.number, || {
+        let opens = before.dir_opens == lent.dir_opens && before.file_opens == lent.file_opens;
+        before.four() == lent.four() && before.list == lent.list && opens
+    });
+    stated
+}
+
+/// The statement's own slips would show here: a refusal changes nothing but the work list.
+fn unchanged_when_refused(number: u32, unchanged: impl Fn() -> bool) {
+    assert!(number == 0 || unchanged(), "the rules changed something and refused with {number}");
+}

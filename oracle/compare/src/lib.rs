@@ -1,0 +1,11 @@
+//! Runs the same calls on the statement of the rules, on the original and on the proved library, and compares every byte.
+
+pub mod block_history;
+pub mod chance;
+pub mod check;
+pub mod closure;
+pub mod damage;
+pub mod edges;
+pub mod tree_history;
+pub mod trees;
+pub mod volumes;

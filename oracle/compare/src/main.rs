@@ -1,0 +1,67 @@
+//! `compare short` or `compare long [seed]`: every comparison, with counts and the seed. It ends at the first difference.
+
+use compare::chance::Chance;
+use compare::{block_history, check, closure, damage, edges, tree_history};
+use port::Library;
+use std::time::{Instant, SystemTime, UNIX_EPOCH};
+
+/// How much of everything.
+struct Run {
+    histories: u64,
+    depth: usize,
+    states: usize,
+    whole: usize,
+    damaged: usize,
+    edges: usize,
+}
+
+const SHORT: Run = Run { histories: 2_000, depth: 4, states: 300, whole: 2, damaged: 20_000, edges: 1 };
+const LONG: Run = Run { histories: 20_000, depth: 5, states: 20_000, whole: 40, damaged: 400_000, edges: 20 };
+
+/// Random histories, each from a seed of its own, so that one can be run again alone.
+fn histories(name: &str, run: fn(&mut Chance), seed: u64, count: u64) {
+    for case in 0..count {
+        let again = std::panic::catch_unwind(|| run(&mut Chance::of_case(seed, case)));
+        if again.is_err() {
+            eprintln!("DIFFERENCE in {name} history {case} of seed {seed}");
+            std::process::exit(1);
+        }
+    }
+    println!("{count} random {name} histories");
+}
+
+fn say_what_is_here() {
+    if !original::PRESENT {
+        println!("!!!! THE ORIGINAL'S SOURCE IS NOT HERE: NOTHING IS COMPARED WITH IT. SAVE3DS_SRC names its folder. !!!!");
+    }
+    for (layer, here) in [("block", Library::has_blocks()), ("tree", Library::has_tree())] {
+        if !here {
+            println!("!!!! THE PROVED LIBRARY HAS NO {layer} CALLS YET: THEY ARE NOT COMPARED. !!!!");
+        }
+    }
+}
+
+fn main() {
+    let mut words = std::env::args().skip(1);
+    let run = match words.next().as_deref() {
+        Some("short") => SHORT,
+        Some("long") => LONG,
+        _ => panic!("compare short|long [seed]"),
+    };
+    let now = || SystemTime::now().duration_since(UNIX_EPOCH).unwrap().as_nanos() as u64;
+    let seed = words.next().map_or_else(now, |word| word.parse().expect("a number"));
+    println!("seed {seed}");
+    say_what_is_here();
+    check::watch();
+    let start = Instant::now();
+    histories("block", block_history::run, seed, run.histories);
+    histories("tree", tree_history::run, seed, run.histories);
+    closure::run(&mut Chance::new(seed), run.depth, run.states);
+    damage::run(&mut Chance::new(seed), run.whole, run.damaged);
+    println!("every byte of {} small volumes and tables, {} times three damaged tables", run.whole, run.damaged);
+    edges::run(&mut Chance::new(seed), run.edges);
+    println!("lengths and numbers at their edges, {} times", run.edges);
+    let (calls, with_library) = check::made();
+    println!("{calls} calls judged by the rules, {with_library} of them compared with the library");
+    println!("no difference, {} s", start.elapsed().as_secs());
+}

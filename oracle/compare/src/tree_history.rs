@@ -1,0 +1,227 @@
+//! Histories of tree calls on the rules, the library and the original.
+
+use crate::chance::Chance;
+use crate::check;
+use crate::trees::{self, any_name};
+use original::Tables;
+use port::{Answered, Kind, Tree, TreeCall};
+use rules::tree::{tree, Four};
+
+pub struct Session {
+    pub lent: Tree,
+    original: Option<Tables>,
+}
+
+pub fn seen(lent: &Tree) -> Four<'_> {
+    let [dir_hash, dir_table, file_hash, file_table] = lent.four();
+    Four { dir_hash, dir_table, file_hash, file_table }
+}
+
+impl Session {
+    /// The original opens as many handles as the counts say, which must be small and of live inodes.
+    pub fn new(lent: Tree) -> Session {
+        let original = original::PRESENT.then(|| {
+            let mut tables = Tables::open(lent.four()).expect("the original opens sound tables");
+            for (x, count) in lent.dir_opens.iter().enumerate() {
+                (0..*count).for_each(|_| tables.open_dir(x as u32));
+            }
+            for (x, count) in lent.file_opens.iter().enumerate() {
+                (0..*count).for_each(|_| tables.open_file(x as u32));
+            }
+            tables
+        });
+        Session { lent, original }
+    }
+
+    /// Runs one call everywhere and compares.
+    pub fn run(&mut self, call: &TreeCall) -> Answered {
+        let answered = check::tree_call(call, &mut self.lent);
+        if let Some(original) = &mut self.original {
+            follow(original, call, &answered, &self.lent);
+            let same = original.holds(self.lent.four());
+            assert!(same, "the original's bytes differ after {call:?}\nrules {:?}\noriginal {:?}", self.lent, original.four());
+            for (x, count) in self.lent.dir_opens.iter().enumerate() {
+                assert_eq!(original.dir_opens(x as u32), *count, "opens of directory {x} after {call:?}");
+            }
+            for (x, count) in self.lent.file_opens.iter().enumerate() {
+                assert_eq!(original.file_opens(x as u32), *count, "opens of file {x} after {call:?}");
+            }
+        }
+        answered
+    }
+
+    /// Every list with its names, every parent, and the stat.
+    pub fn compare_all(&mut self) {
+        let held = tree(seen(&self.lent)).expect("every step keeps the tables sound");
+        let Some(original) = &self.original else { return };
+        let four = seen(&self.lent);
+        for kind in [Kind::Dir, Kind::File] {
+            let view = four.view(kind);
+            for dir in held.dirs.inodes() {
+                let listed = match kind {
+                    Kind::Dir => original.list_dirs(dir),
+                    Kind::File => original.list_files(dir),
+                };
+                let wanted: Vec<([u8; 16], u32)> = held
+                    .children(kind, dir)
+                    .iter()
+                    .map(|x| (view.key(*x)[4..].try_into().unwrap(), *x))
+                    .collect();
+                assert_eq!(listed, Ok(wanted), "children of {dir}");
+            }
+            for x in held.held(kind).inodes() {
+                let parent = match kind {
+                    Kind::Dir => original.dir_parent(x),
+                    Kind::File => original.file_parent(x),
+                };
+                assert_eq!(parent, Ok(view.parent(x)), "parent of {x}");
+            }
+        }
+    }
+}
+
+/// Whether the original may be asked to follow: on the other refusals it does something else, as docs/DIFFERENCES.md lists.
+fn followed(call: &TreeCall, number: u32) -> bool {
+    match call {
+        // NoSpace and AlreadyExist; a dead parent is taken there.
+        TreeCall::Make { .. } => matches!(number, 0 | 6 | 11),
+        // A refused rename has removed the entry already.
+        TreeCall::Rename { .. } => number == 0,
+        // Busy, DeletingRoot, NotEmpty; a dead or unopened inode has no handle.
+        TreeCall::Delete { .. } => matches!(number, 0 | 12 | 13 | 14),
+        // A lookup's parent needs no handle of its own, so NotFound is common.
+        TreeCall::Lookup { .. } => matches!(number, 0 | 10),
+        _ => number == 0,
+    }
+}
+
+fn follow(original: &mut Tables, call: &TreeCall, answered: &Answered, lent: &Tree) {
+    if !followed(call, answered.number) {
+        return;
+    }
+    let rules = if answered.number == 0 { Ok(()) } else { Err(answered.number) };
+    let field = answered.fields[0] as u32;
+    match *call {
+        TreeCall::Lookup { kind, parent, name } => {
+            let found = match kind {
+                Kind::Dir => original.lookup_dir(parent, name),
+                Kind::File => original.lookup_file(parent, name),
+            };
+            assert_eq!(found, rules.map(|()| field), "{call:?}");
+        }
+        TreeCall::Make { kind, parent, name, carried } => {
+            let made = match kind {
+                Kind::Dir => original.make_dir(parent, name, carried[..4].try_into().unwrap()),
+                Kind::File => original.make_file(parent, name, carried),
+            };
+            assert_eq!(made, rules.map(|()| field), "{call:?}");
+        }
+        TreeCall::Rename { kind, inode, parent, name } => {
+            let renamed = match kind {
+                Kind::Dir => original.rename_dir(inode, parent, name),
+                Kind::File => original.rename_file(inode, parent, name),
+            };
+            assert_eq!(renamed, rules, "{call:?}");
+        }
+        TreeCall::Delete { kind, inode } => {
+            let deleted = match kind {
+                Kind::Dir => original.delete_dir(inode),
+                Kind::File => original.delete_file(inode),
+            };
+            assert_eq!(deleted, rules, "{call:?}");
+            // A refused delete drops its handle there: a listed difference.
+            if rules.is_err() {
+                match kind {
+                    Kind::Dir => original.open_dir(inode),
+                    Kind::File => original.open_file(inode),
+                }
+            }
+        }
+        TreeCall::List { kind, inode } => {
+            let listed = match kind {
+                Kind::Dir => original.list_dirs(inode),
+                Kind::File => original.list_files(inode),
+            };
+            let inodes: Vec<u32> = listed.unwrap().iter().map(|(_, x)| *x).collect();
+            assert_eq!(inodes, lent.list[..field as usize], "{call:?}");
+        }
+        TreeCall::Stat => {
+            let stat = original.stat().unwrap().map(|s| s as u64);
+            assert_eq!(stat, answered.fields, "{call:?}");
+        }
+        TreeCall::Carried { kind: Kind::File, inode } => {
+            assert_eq!(original.carried_file(inode), Ok(answered.bytes), "{call:?}");
+        }
+        TreeCall::SetCarried { kind: Kind::File, inode, carried } => {
+            assert_eq!(original.set_carried_file(inode, carried), Ok(()), "{call:?}");
+        }
+        TreeCall::SetCarried { kind: Kind::Dir, .. } => original.set(lent.four()),
+        TreeCall::Open { kind: Kind::Dir, inode } => original.open_dir(inode),
+        TreeCall::Open { kind: Kind::File, inode } => original.open_file(inode),
+        TreeCall::Close { kind: Kind::Dir, inode } => original.close_dir(inode),
+        TreeCall::Close { kind: Kind::File, inode } => original.close_file(inode),
+        _ => {}
+    }
+}
+
+/// An inode: mostly a live one, sometimes a removed one or any number.
+fn any_inode(chance: &mut Chance, lent: &Tree, kind: Kind) -> u32 {
+    let held = tree(seen(lent)).expect("every step keeps the tables sound");
+    let live: Vec<u32> = held.held(kind).inodes().collect();
+    let room = seen(lent).view(kind).room() as u32;
+    if live.is_empty() || chance.one_in(10) {
+        return chance.pick(&[0, 1, room - 1, room, u32::MAX, 1 << 31]);
+    }
+    if !held.held(kind).removed.is_empty() && chance.one_in(12) {
+        return chance.pick(&held.held(kind).removed);
+    }
+    chance.pick(&live)
+}
+
+/// Any call but format, with the list that it needs.
+pub fn any_call(chance: &mut Chance, lent: &mut Tree) -> TreeCall {
+    let kind = chance.pick(&[Kind::Dir, Kind::File]);
+    let parent = any_inode(chance, lent, Kind::Dir);
+    let inode = any_inode(chance, lent, kind);
+    let name = any_name(chance);
+    let carried: [u8; 20] = chance.bytes(20).try_into().unwrap();
+    let len = chance.pick(&[0, 1, 2, 50, 50, 50]);
+    lent.list = chance.words(len);
+    match chance.below(40) {
+        0..=9 => TreeCall::Make { kind, parent, name, carried },
+        10..=15 => TreeCall::Rename { kind, inode, parent, name },
+        16..=20 => TreeCall::Delete { kind, inode },
+        21..=23 => TreeCall::Lookup { kind, parent, name },
+        24..=25 => TreeCall::List { kind, inode: parent },
+        26 => TreeCall::Stat,
+        27 => TreeCall::Test,
+        28 => TreeCall::Name { kind: kind as u32, inode },
+        29 => TreeCall::NameAnswer { kind: kind as u32, inode },
+        30 => TreeCall::Carried { kind, inode },
+        31..=32 => TreeCall::SetCarried { kind, inode, carried },
+        33..=36 => TreeCall::Open { kind, inode },
+        _ => TreeCall::Close { kind, inode },
+    }
+}
+
+/// One random history.
+pub fn run(chance: &mut Chance) {
+    let mut start = if chance.one_in(2) { trees::formatted(chance) } else { trees::any_sound(chance) };
+    let held = tree(seen(&start)).unwrap();
+    for x in held.dirs.inodes() {
+        start.dir_opens[x as usize] = chance.below(3) as u32;
+    }
+    for x in held.files.inodes() {
+        start.file_opens[x as usize] = chance.below(3) as u32;
+    }
+    let mut session = Session::new(start);
+    let steps = chance.within(1, 60);
+    for _ in 0..steps {
+        let call = any_call(chance, &mut session.lent);
+        session.run(&call);
+        if chance.one_in(8) {
+            session.compare_all();
+        }
+    }
+    session.compare_all();
+}

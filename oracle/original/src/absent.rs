@@ -1,0 +1,68 @@
+//! The same interface where the original's source is not to be had. Nothing of it may be called.
+
+type Name = [u8; 16];
+
+macro_rules! absent {
+    ($type:ident { $(fn $name:ident($($part:tt)*) -> $answer:ty;)* }) => {
+        pub struct $type {}
+
+        #[allow(unused_variables)]
+        impl $type {
+            $(pub fn $name($($part)*) -> $answer {
+                unreachable!("the original is not here")
+            })*
+        }
+    };
+}
+
+absent! {
+    Volume {
+        fn format(table: &mut [u8]) -> Result<(), u32>;
+        fn open(table: &[u8], data: &[u8], block_len: usize) -> Result<Volume, u32>;
+        fn reopen(&mut self, block_len: usize) -> Result<(), u32>;
+        fn free(&self) -> usize;
+        fn table(&self) -> Vec<u8>;
+        fn data(&self) -> Vec<u8>;
+        fn holds(&self, table: &[u8], data: &[u8]) -> bool;
+        fn set(&self, table: &[u8], data: &[u8]) -> ();
+        fn list(&mut self, first: usize) -> Result<Vec<u32>, u32>;
+        fn fresh_list(&self, first: usize) -> Result<Vec<u32>, u32>;
+        fn create(&mut self, count: usize) -> Result<usize, u32>;
+        fn resize(&mut self, first: usize, count: usize) -> Result<(), u32>;
+        fn delete(&mut self, first: usize) -> Result<(), u32>;
+        fn read(&mut self, first: usize, pos: usize, buf: &mut [u8]) -> Result<(), u32>;
+        fn write(&mut self, first: usize, pos: usize, buf: &[u8]) -> Result<(), u32>;
+    }
+}
+
+absent! {
+    Tables {
+        fn format(four: [&[u8]; 4], dir_max: usize, file_max: usize) -> (Result<(), u32>, [Vec<u8>; 4]);
+        fn open(four: [&[u8]; 4]) -> Result<Tables, u32>;
+        fn four(&self) -> [Vec<u8>; 4];
+        fn holds(&self, four: [&[u8]; 4]) -> bool;
+        fn set(&self, four: [&[u8]; 4]) -> ();
+        fn open_dir(&mut self, ino: u32) -> ();
+        fn open_file(&mut self, ino: u32) -> ();
+        fn close_dir(&mut self, ino: u32) -> ();
+        fn close_file(&mut self, ino: u32) -> ();
+        fn dir_opens(&self, ino: u32) -> u32;
+        fn file_opens(&self, ino: u32) -> u32;
+        fn lookup_dir(&self, parent: u32, name: Name) -> Result<u32, u32>;
+        fn lookup_file(&self, parent: u32, name: Name) -> Result<u32, u32>;
+        fn make_dir(&mut self, parent: u32, name: Name, padding: [u8; 4]) -> Result<u32, u32>;
+        fn make_file(&mut self, parent: u32, name: Name, carried: [u8; 20]) -> Result<u32, u32>;
+        fn rename_dir(&mut self, ino: u32, parent: u32, name: Name) -> Result<(), u32>;
+        fn rename_file(&mut self, ino: u32, parent: u32, name: Name) -> Result<(), u32>;
+        fn delete_dir(&mut self, ino: u32) -> Result<(), u32>;
+        fn delete_file(&mut self, ino: u32) -> Result<(), u32>;
+        fn list_dirs(&self, ino: u32) -> Result<Vec<(Name, u32)>, u32>;
+        fn list_files(&self, ino: u32) -> Result<Vec<(Name, u32)>, u32>;
+        fn dir_parent(&self, ino: u32) -> Result<u32, u32>;
+        fn file_parent(&self, ino: u32) -> Result<u32, u32>;
+        fn stat(&self) -> Result<[usize; 4], u32>;
+        fn carried_file(&self, ino: u32) -> Result<[u8; 20], u32>;
+        fn set_carried_file(&self, ino: u32, carried: [u8; 20]) -> Result<(), u32>;
+        fn set_info_file(&self, ino: u32, next: u32, carried: [u8; 20]) -> Result<(), u32>;
+    }
+}

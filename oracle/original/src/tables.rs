@@ -1,0 +1,182 @@
+//! The original's entry tables over four files in memory, with the handles that a session keeps.
+
+use crate::fs_meta::{DirMeta, FileMeta, FsMeta};
+use crate::memory::Memory;
+use crate::number;
+use crate::record::FileRecord;
+use crate::save_ext_common::{SaveExtDir, SaveExtKey};
+use std::collections::HashMap;
+use std::rc::Rc;
+
+type Fs = FsMeta<SaveExtKey, SaveExtDir, SaveExtKey, FileRecord>;
+type Dir = DirMeta<SaveExtKey, SaveExtDir, SaveExtKey, FileRecord>;
+type File = FileMeta<SaveExtKey, SaveExtDir, SaveExtKey, FileRecord>;
+type Name = [u8; 16];
+
+pub struct Tables {
+    four: [Rc<Memory>; 4],
+    fs: Rc<Fs>,
+    dirs: HashMap<u32, Vec<Dir>>,
+    files: HashMap<u32, Vec<File>>,
+}
+
+fn memories(four: [&[u8]; 4]) -> [Rc<Memory>; 4] {
+    four.map(|bytes| Rc::new(Memory::new(bytes)))
+}
+
+impl Tables {
+    /// Formats four tables (directory hash and table, file hash and table), and gives their bytes afterwards.
+    pub fn format(four: [&[u8]; 4], dir_max: usize, file_max: usize) -> (Result<(), u32>, [Vec<u8>; 4]) {
+        let m = memories(four);
+        let answer = Fs::format(
+            m[0].clone(),
+            m[1].clone(),
+            dir_max,
+            m[2].clone(),
+            m[3].clone(),
+            file_max,
+        );
+        (answer.map_err(number), m.map(|memory| memory.copied()))
+    }
+
+    pub fn open(four: [&[u8]; 4]) -> Result<Tables, u32> {
+        let m = memories(four);
+        let fs = Fs::new(m[0].clone(), m[1].clone(), m[2].clone(), m[3].clone());
+        Ok(Tables {
+            fs: fs.map_err(number)?,
+            four: m,
+            dirs: HashMap::new(),
+            files: HashMap::new(),
+        })
+    }
+
+    pub fn four(&self) -> [Vec<u8>; 4] {
+        self.four.clone().map(|memory| memory.copied())
+    }
+    pub fn holds(&self, four: [&[u8]; 4]) -> bool {
+        self.four.iter().zip(four).all(|(memory, bytes)| memory.holds(bytes))
+    }
+    /// Puts other bytes of the same lengths into the four files, behind the original's back.
+    pub fn set(&self, four: [&[u8]; 4]) {
+        for (memory, bytes) in self.four.iter().zip(four) {
+            memory.set(bytes);
+        }
+    }
+
+    fn dir(&self, ino: u32) -> Dir {
+        Dir::open_ino(self.fs.clone(), ino).map_err(number).unwrap()
+    }
+    fn file(&self, ino: u32) -> File {
+        File::open_ino(self.fs.clone(), ino).map_err(number).unwrap()
+    }
+
+    pub fn open_dir(&mut self, ino: u32) {
+        let handle = self.dir(ino);
+        self.dirs.entry(ino).or_default().push(handle);
+    }
+    pub fn open_file(&mut self, ino: u32) {
+        let handle = self.file(ino);
+        self.files.entry(ino).or_default().push(handle);
+    }
+    /// Drops one of the handles that are held.
+    pub fn close_dir(&mut self, ino: u32) {
+        self.dirs.get_mut(&ino).unwrap().pop().unwrap();
+    }
+    pub fn close_file(&mut self, ino: u32) {
+        self.files.get_mut(&ino).unwrap().pop().unwrap();
+    }
+    pub fn dir_opens(&self, ino: u32) -> u32 {
+        self.fs.dir_opens(ino)
+    }
+    pub fn file_opens(&self, ino: u32) -> u32 {
+        self.fs.file_opens(ino)
+    }
+
+    pub fn lookup_dir(&self, parent: u32, name: Name) -> Result<u32, u32> {
+        let found = self.dir(parent).open_sub_dir(name).map_err(number)?;
+        Ok(found.get_ino())
+    }
+    pub fn lookup_file(&self, parent: u32, name: Name) -> Result<u32, u32> {
+        let found = self.dir(parent).open_sub_file(name).map_err(number)?;
+        Ok(found.get_ino())
+    }
+
+    /// The new handle is kept. The links in what is handed over are junk, which the original must overwrite.
+    pub fn make_dir(&mut self, parent: u32, name: Name, padding: [u8; 4]) -> Result<u32, u32> {
+        let info = SaveExtDir {
+            next: 0xAAAA_AAAA,
+            sub_dir: 0xBBBB_BBBB,
+            sub_file: 0xCCCC_CCCC,
+            padding: u32::from_le_bytes(padding),
+        };
+        let made = self.dir(parent).new_sub_dir(name, info).map_err(number)?;
+        let ino = made.get_ino();
+        self.dirs.entry(ino).or_default().push(made);
+        Ok(ino)
+    }
+    pub fn make_file(&mut self, parent: u32, name: Name, carried: [u8; 20]) -> Result<u32, u32> {
+        let info = FileRecord { next: 0xAAAA_AAAA, carried };
+        let made = self.dir(parent).new_sub_file(name, info).map_err(number)?;
+        let ino = made.get_ino();
+        self.files.entry(ino).or_default().push(made);
+        Ok(ino)
+    }
+
+    /// By a handle that is held.
+    pub fn rename_dir(&mut self, ino: u32, parent: u32, name: Name) -> Result<(), u32> {
+        let parent = self.dir(parent);
+        let handle = self.dirs.get_mut(&ino).unwrap().last_mut().unwrap();
+        handle.rename(&parent, name).map_err(number)
+    }
+    pub fn rename_file(&mut self, ino: u32, parent: u32, name: Name) -> Result<(), u32> {
+        let parent = self.dir(parent);
+        let handle = self.files.get_mut(&ino).unwrap().last_mut().unwrap();
+        handle.rename(&parent, name).map_err(number)
+    }
+
+    /// The handle is used up, whatever the answer.
+    pub fn delete_dir(&mut self, ino: u32) -> Result<(), u32> {
+        let handle = self.dirs.get_mut(&ino).unwrap().pop().unwrap();
+        handle.delete().map_err(number)
+    }
+    pub fn delete_file(&mut self, ino: u32) -> Result<(), u32> {
+        let handle = self.files.get_mut(&ino).unwrap().pop().unwrap();
+        handle.delete().map_err(number)
+    }
+
+    /// Names and inodes in list order.
+    pub fn list_dirs(&self, ino: u32) -> Result<Vec<(Name, u32)>, u32> {
+        self.dir(ino).list_sub_dir().map_err(number)
+    }
+    pub fn list_files(&self, ino: u32) -> Result<Vec<(Name, u32)>, u32> {
+        self.dir(ino).list_sub_file().map_err(number)
+    }
+
+    pub fn dir_parent(&self, ino: u32) -> Result<u32, u32> {
+        self.dir(ino).get_parent_ino().map_err(number)
+    }
+    pub fn file_parent(&self, ino: u32) -> Result<u32, u32> {
+        self.file(ino).get_parent_ino().map_err(number)
+    }
+
+    /// Total and free of directories, then of files.
+    pub fn stat(&self) -> Result<[usize; 4], u32> {
+        let stat = self.fs.stat().map_err(number)?;
+        Ok([stat.dirs.total, stat.dirs.free, stat.files.total, stat.files.free])
+    }
+
+    pub fn carried_file(&self, ino: u32) -> Result<[u8; 20], u32> {
+        Ok(self.file(ino).get_info().map_err(number)?.carried)
+    }
+    /// Sets the carried bytes and leaves the link that stands there.
+    pub fn set_carried_file(&self, ino: u32, carried: [u8; 20]) -> Result<(), u32> {
+        let mut info = self.file(ino).get_info().map_err(number)?;
+        info.carried = carried;
+        self.file(ino).set_info(info).map_err(number)
+    }
+    /// Sets the whole record, the link included, as the original allows.
+    pub fn set_info_file(&self, ino: u32, next: u32, carried: [u8; 20]) -> Result<(), u32> {
+        let info = FileRecord { next, carried };
+        self.file(ino).set_info(info).map_err(number)
+    }
+}

@@ -1,0 +1,95 @@
+//! The calls as data, and everything that is lent to one.
+
+pub use rules::entries::Kind;
+
+/// What is lent to a block call. A call takes the parts that 01 gives it and must leave the others alone.
+#[derive(Clone, PartialEq, Eq, Debug, Default)]
+pub struct Blocks {
+    pub table: Vec<u8>,
+    pub data: Vec<u8>,
+    pub block_len: usize,
+    pub work: Vec<u32>,
+    pub list: Vec<u32>,
+    pub buf: Vec<u8>,
+}
+
+#[derive(Clone, PartialEq, Eq, Debug)]
+pub enum BlockCall {
+    Format,
+    Test,
+    OpenList { first: usize },
+    Create { count: usize },
+    Resize { first: usize, count: usize },
+    Delete { first: usize },
+    Read { first: usize, pos: usize },
+    Write { first: usize, pos: usize },
+}
+
+/// What is lent to a tree call.
+#[derive(Clone, PartialEq, Eq, Debug, Default)]
+pub struct Tree {
+    pub dir_hash: Vec<u8>,
+    pub dir_table: Vec<u8>,
+    pub file_hash: Vec<u8>,
+    pub file_table: Vec<u8>,
+    pub work: Vec<u32>,
+    pub dir_opens: Vec<u32>,
+    pub file_opens: Vec<u32>,
+    pub list: Vec<u32>,
+}
+
+impl Tree {
+    pub fn four(&self) -> [&[u8]; 4] {
+        [&self.dir_hash, &self.dir_table, &self.file_hash, &self.file_table]
+    }
+    pub fn opens(&self, kind: Kind) -> &Vec<u32> {
+        match kind {
+            Kind::Dir => &self.dir_opens,
+            Kind::File => &self.file_opens,
+        }
+    }
+}
+
+/// Of carried bytes the first 4 count for a directory.
+#[derive(Clone, PartialEq, Eq, Debug)]
+pub enum TreeCall {
+    Format { dir_max: usize, file_max: usize },
+    Test,
+    Lookup { kind: Kind, parent: u32, name: [u8; 16] },
+    Make { kind: Kind, parent: u32, name: [u8; 16], carried: [u8; 20] },
+    Rename { kind: Kind, inode: u32, parent: u32, name: [u8; 16] },
+    Delete { kind: Kind, inode: u32 },
+    List { kind: Kind, inode: u32 },
+    Stat,
+    /// The kind as the interface's number.
+    Name { kind: u32, inode: u32 },
+    NameAnswer { kind: u32, inode: u32 },
+    Carried { kind: Kind, inode: u32 },
+    SetCarried { kind: Kind, inode: u32, carried: [u8; 20] },
+    Open { kind: Kind, inode: u32 },
+    Close { kind: Kind, inode: u32 },
+}
+
+/// The number and the answer fields in their order; fields that a call does not have are 0.
+#[derive(Clone, Copy, PartialEq, Eq, Debug, Default)]
+pub struct Answered {
+    pub number: u32,
+    pub fields: [u64; 4],
+    pub bytes: [u8; 20],
+}
+
+impl Answered {
+    pub fn number(number: u32) -> Answered {
+        Answered { number, ..Default::default() }
+    }
+    pub fn with(number: u32, given: &[u64]) -> Answered {
+        let mut answered = Answered::number(number);
+        answered.fields[..given.len()].copy_from_slice(given);
+        answered
+    }
+    pub fn carrying(number: u32, given: &[u8]) -> Answered {
+        let mut answered = Answered::number(number);
+        answered.bytes[..given.len()].copy_from_slice(given);
+        answered
+    }
+}

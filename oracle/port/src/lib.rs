@@ -1,0 +1,16 @@
+//! "A port": something that answers the calls of 01 over lent bytes. The statement of the rules is one, the proved library another.
+
+mod calls;
+mod ffi;
+mod library;
+mod stated;
+
+pub use calls::{Answered, BlockCall, Blocks, Kind, Tree, TreeCall};
+pub use library::Library;
+pub use stated::Stated;
+
+pub trait Port {
+    /// None where this port has no such call.
+    fn block_call(&self, call: &BlockCall, lent: &mut Blocks) -> Option<Answered>;
+    fn tree_call(&self, call: &TreeCall, lent: &mut Tree) -> Option<Answered>;
+}

@@ -1,0 +1,198 @@
+//! The proved library as a port, through its C interface.
+
+use crate::ffi::*;
+use crate::{Answered, BlockCall, Blocks, Kind, Port, Tree, TreeCall};
+use interface::*;
+
+pub struct Library;
+
+impl Library {
+    /// Whether the block calls are linked, and whether the tree calls are: all of a layer.
+    pub fn has_blocks() -> bool {
+        present::mukthiban_fat_write
+    }
+    pub fn has_tree() -> bool {
+        present::mukthiban_tree_close_file
+    }
+}
+
+fn plain(p: Plain) -> Answered {
+    Answered::number(p.number)
+}
+fn tested(t: Tested) -> Answered {
+    Answered::with(t.number, &[t.free as u64, t.files as u64])
+}
+fn counted(c: Counted) -> Answered {
+    Answered::with(c.number, &[c.count as u64])
+}
+fn created(c: Created) -> Answered {
+    Answered::with(c.number, &[c.first_block as u64])
+}
+fn made(m: Made) -> Answered {
+    Answered::with(m.number, &[m.inode.into()])
+}
+fn found(f: Found) -> Answered {
+    Answered::with(f.number, &[f.inode.into(), f.compared.into()])
+}
+fn stat(s: Stat) -> Answered {
+    let fields = [s.dir_total, s.dir_free, s.file_total, s.file_free];
+    Answered::with(s.number, &fields.map(|f| f as u64))
+}
+fn named(n: Named) -> Answered {
+    Answered::with(n.number, &[n.offset as u64])
+}
+fn carried_dir(c: CarriedDir) -> Answered {
+    Answered::carrying(c.number, &c.bytes)
+}
+fn carried_file(c: CarriedFile) -> Answered {
+    Answered::carrying(c.number, &c.bytes)
+}
+
+/// A call over table, data, block length and work list, if it is there.
+macro_rules! on_volume {
+    ($to:ident, $call:ident, $lent:ident $(, $more:expr)*) => {
+        present::$call.then(|| $to($call(
+            $lent.table.as_mut_ptr(), $lent.table.len(),
+            $lent.data.as_mut_ptr(), $lent.data.len(),
+            $lent.block_len,
+            $lent.work.as_mut_ptr(), $lent.work.len(),
+            $($more),*
+        )))
+    };
+}
+
+/// A call over the four tables and the work list, if it is there.
+macro_rules! on_four {
+    ($to:ident, $call:ident, $lent:ident $(, $more:expr)*) => {
+        present::$call.then(|| $to($call(
+            $lent.dir_hash.as_mut_ptr(), $lent.dir_hash.len(),
+            $lent.dir_table.as_mut_ptr(), $lent.dir_table.len(),
+            $lent.file_hash.as_mut_ptr(), $lent.file_hash.len(),
+            $lent.file_table.as_mut_ptr(), $lent.file_table.len(),
+            $lent.work.as_mut_ptr(), $lent.work.len(),
+            $($more),*
+        )))
+    };
+}
+
+/// The same with the open counts of the kind: one call for directories, one for files.
+macro_rules! with_opens {
+    ($to:ident, $kind:expr, $dir:ident, $file:ident, $lent:ident $(, $more:expr)*) => {
+        match $kind {
+            Kind::Dir => on_four!($to, $dir, $lent, $lent.dir_opens.as_mut_ptr(), $lent.dir_opens.len() $(, $more)*),
+            Kind::File => on_four!($to, $file, $lent, $lent.file_opens.as_mut_ptr(), $lent.file_opens.len() $(, $more)*),
+        }
+    };
+}
+
+unsafe fn block_call(call: &BlockCall, lent: &mut Blocks) -> Option<Answered> {
+    match *call {
+        BlockCall::Format => present::mukthiban_fat_format
+            .then(|| plain(mukthiban_fat_format(lent.table.as_mut_ptr(), lent.table.len()))),
+        BlockCall::Test => present::mukthiban_fat_test.then(|| {
+            let (table, work) = (&lent.table, &mut lent.work);
+            tested(mukthiban_fat_test(table.as_ptr(), table.len(), work.as_mut_ptr(), work.len()))
+        }),
+        BlockCall::OpenList { first } => on_volume!(
+            counted, mukthiban_fat_open_list, lent, first, lent.list.as_mut_ptr(), lent.list.len()
+        ),
+        BlockCall::Create { count } => on_volume!(created, mukthiban_fat_create, lent, count),
+        BlockCall::Resize { first, count } => {
+            on_volume!(plain, mukthiban_fat_resize, lent, first, count)
+        }
+        BlockCall::Delete { first } => on_volume!(plain, mukthiban_fat_delete, lent, first),
+        BlockCall::Read { first, pos } => on_volume!(
+            plain, mukthiban_fat_read, lent, first, pos, lent.buf.as_mut_ptr(), lent.buf.len()
+        ),
+        BlockCall::Write { first, pos } => on_volume!(
+            plain, mukthiban_fat_write, lent, first, pos, lent.buf.as_ptr(), lent.buf.len()
+        ),
+    }
+}
+
+unsafe fn tree_format(lent: &mut Tree, dir_max: usize, file_max: usize) -> Option<Answered> {
+    present::mukthiban_tree_format.then(|| {
+        plain(mukthiban_tree_format(
+            lent.dir_hash.as_mut_ptr(),
+            lent.dir_hash.len(),
+            lent.dir_table.as_mut_ptr(),
+            lent.dir_table.len(),
+            dir_max,
+            lent.file_hash.as_mut_ptr(),
+            lent.file_hash.len(),
+            lent.file_table.as_mut_ptr(),
+            lent.file_table.len(),
+            file_max,
+        ))
+    })
+}
+
+unsafe fn tree_call(call: &TreeCall, lent: &mut Tree) -> Option<Answered> {
+    match *call {
+        TreeCall::Format { dir_max, file_max } => tree_format(lent, dir_max, file_max),
+        TreeCall::Test => on_four!(plain, mukthiban_tree_test, lent),
+        TreeCall::Lookup { kind, parent, ref name } => match kind {
+            Kind::Dir => on_four!(found, mukthiban_tree_lookup_dir, lent, parent, name),
+            Kind::File => on_four!(found, mukthiban_tree_lookup_file, lent, parent, name),
+        },
+        TreeCall::Make { kind, parent, ref name, ref carried } => match kind {
+            Kind::Dir => {
+                let padding: &[u8; 4] = carried[..4].try_into().unwrap();
+                on_four!(
+                    made, mukthiban_tree_make_dir, lent,
+                    lent.dir_opens.as_mut_ptr(), lent.dir_opens.len(), parent, name, padding
+                )
+            }
+            Kind::File => on_four!(
+                made, mukthiban_tree_make_file, lent,
+                lent.file_opens.as_mut_ptr(), lent.file_opens.len(), parent, name, carried
+            ),
+        },
+        TreeCall::Rename { kind, inode, parent, ref name } => with_opens!(
+            plain, kind, mukthiban_tree_rename_dir, mukthiban_tree_rename_file, lent,
+            inode, parent, name
+        ),
+        TreeCall::Delete { kind, inode } => with_opens!(
+            plain, kind, mukthiban_tree_delete_dir, mukthiban_tree_delete_file, lent, inode
+        ),
+        TreeCall::List { kind, inode } => match kind {
+            Kind::Dir => on_four!(
+                counted, mukthiban_tree_list_dirs, lent, inode, lent.list.as_mut_ptr(), lent.list.len()
+            ),
+            Kind::File => on_four!(
+                counted, mukthiban_tree_list_files, lent, inode, lent.list.as_mut_ptr(), lent.list.len()
+            ),
+        },
+        TreeCall::Stat => on_four!(stat, mukthiban_tree_stat, lent),
+        TreeCall::Name { kind, inode } => on_four!(named, mukthiban_tree_name, lent, kind, inode),
+        TreeCall::NameAnswer { kind, inode } => {
+            on_four!(plain, mukthiban_tree_name_answer, lent, kind, inode)
+        }
+        TreeCall::Carried { kind, inode } => match kind {
+            Kind::Dir => on_four!(carried_dir, mukthiban_tree_carried_dir, lent, inode),
+            Kind::File => on_four!(carried_file, mukthiban_tree_carried_file, lent, inode),
+        },
+        TreeCall::SetCarried { kind, inode, ref carried } => match kind {
+            Kind::Dir => {
+                let padding: &[u8; 4] = carried[..4].try_into().unwrap();
+                on_four!(plain, mukthiban_tree_set_carried_dir, lent, inode, padding)
+            }
+            Kind::File => on_four!(plain, mukthiban_tree_set_carried_file, lent, inode, carried),
+        },
+        TreeCall::Open { kind, inode } => with_opens!(
+            plain, kind, mukthiban_tree_open_dir, mukthiban_tree_open_file, lent, inode
+        ),
+        TreeCall::Close { kind, inode } => with_opens!(
+            plain, kind, mukthiban_tree_close_dir, mukthiban_tree_close_file, lent, inode
+        ),
+    }
+}
+
+impl Port for Library {
+    fn block_call(&self, call: &BlockCall, lent: &mut Blocks) -> Option<Answered> {
+        unsafe { block_call(call, lent) }
+    }
+    fn tree_call(&self, call: &TreeCall, lent: &mut Tree) -> Option<Answered> {
+        unsafe { tree_call(call, lent) }
+    }
+}
