@@ -8,3 +8,8 @@ test:
 oracle:
 	if [ -d crates/mukthiban/src ]; then rt staticlib mukthiban > /dev/null; fi
 	cd oracle && cargo run --offline --release --quiet -p compare -- long $(SEED)
+
+# A sample volume, looked at, lifted and damaged.
+.PHONY: demo
+demo:
+	@tools/demo

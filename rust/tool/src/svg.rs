@@ -164,6 +164,11 @@ fn draw_bar(out: &mut String, picture: &Picture, bar: &Bar, (cell, high, wide): 
         x + 1,
         bar.cells * cell - 2
     );
+    // the blocks of a fragment stay countable
+    if bar.cells > 1 && cell >= 8 {
+        let lines: String = (1..bar.cells).map(|i| format!("M{} {}v{}", x + i * cell, y + 1, high - 2)).collect();
+        *out += &format!("<path d=\"{lines}\" stroke=\"#ffffff\" stroke-opacity=\"0.35\"/>");
+    }
     if bar.begins && cell >= 13 {
         let label = match owner.pieces.len() {
             1 => owner.letter(place).to_string(),

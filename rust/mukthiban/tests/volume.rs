@@ -1,0 +1,275 @@
+//! A `Volume`, which tests once, beside the plain calls, which test each time: the same answers and the same bytes
+//! over long random histories. And document 01's worked examples.
+
+use mukthiban::tree::TablesMut;
+use mukthiban::{fat, tree, Kind, Name, Parts, Refusal, Shape, Volume, ROOT};
+
+/// A small generator, so that a failure comes again.
+struct Dice(u64);
+
+impl Dice {
+    fn below(&mut self, n: usize) -> usize {
+        self.0 = self.0.wrapping_mul(6_364_136_223_846_793_005).wrapping_add(1_442_695_040_888_963_407);
+        ((self.0 >> 33) % n as u64) as usize
+    }
+}
+
+/// The same volume, changed by the plain calls.
+struct Plain {
+    parts: Parts,
+    work: Vec<u32>,
+    dir_opens: Vec<u32>,
+    file_opens: Vec<u32>,
+}
+
+macro_rules! tables_mut {
+    ($plain:expr) => {
+        &mut TablesMut {
+            dir_hash: &mut $plain.parts.dir_hash,
+            dir_table: &mut $plain.parts.dir_table,
+            file_hash: &mut $plain.parts.file_hash,
+            file_table: &mut $plain.parts.file_table,
+        }
+    };
+}
+
+fn both(shape: Shape) -> (Volume, Plain) {
+    let volume = Volume::new(shape).unwrap();
+    let plain = Plain {
+        parts: volume.parts().clone(),
+        work: vec![0; shape.blocks.max(shape.dir_max + shape.file_max)],
+        dir_opens: vec![0; shape.dir_max],
+        file_opens: vec![0; shape.file_max],
+    };
+    (volume, plain)
+}
+
+#[test]
+fn block_calls_agree() {
+    for seed in 0..60 {
+        let mut dice = Dice(seed);
+        let n = 1 + dice.below(24);
+        let block_len = 1 + dice.below(5);
+        let (mut volume, mut plain) = both(Shape { blocks: n, block_len, dir_max: 2, file_max: 1, buckets: 1 });
+        for _ in 0..120 {
+            let block = dice.below(n + 2);
+            let count = dice.below(n + 2);
+            let p = &mut plain.parts;
+            let (w, len) = (&mut plain.work[..], p.block_len);
+            match dice.below(6) {
+                0 => assert_eq!(volume.create(count), fat::create(&mut p.fat, &p.data, len, w, count)),
+                1 => assert_eq!(volume.resize(block, count), fat::resize(&mut p.fat, &p.data, len, w, block, count)),
+                2 => assert_eq!(volume.delete(block), fat::delete(&mut p.fat, &p.data, len, w, block)),
+                3 => {
+                    let mut list = vec![9; n];
+                    let count = fat::open_list(&p.fat, &p.data, len, w, block, &mut list);
+                    assert_eq!(volume.open_list(block), count.map(|c| list[..c].to_vec()));
+                }
+                4 => {
+                    let (mut a, mut b) = (vec![1; count], vec![1; count]);
+                    let pos = dice.below(n * block_len + 2);
+                    assert_eq!(volume.read(block, pos, &mut a), fat::read(&p.fat, &p.data, len, w, block, pos, &mut b));
+                    assert_eq!(a, b);
+                }
+                _ => {
+                    let bytes: Vec<u8> = (0..count).map(|_| dice.below(256) as u8).collect();
+                    let pos = dice.below(n * block_len + 2);
+                    assert_eq!(
+                        volume.write(block, pos, &bytes),
+                        fat::write(&p.fat, &mut p.data, len, w, block, pos, &bytes)
+                    );
+                }
+            }
+            assert_eq!(volume.parts(), &plain.parts);
+            let tested = fat::test(&plain.parts.fat, &mut plain.work).unwrap();
+            assert_eq!((volume.free(), volume.files()), (tested.free, tested.files));
+            assert!(plain.work[..n].iter().all(|&w| w == 0));
+        }
+        let again = Volume::open(volume.parts().clone()).unwrap();
+        assert!(again.first_blocks().eq(volume.first_blocks()));
+        for b in again.first_blocks() {
+            assert_eq!(again.block_count(b), volume.block_count(b));
+        }
+    }
+}
+
+fn name(dice: &mut Dice) -> Name {
+    let mut name = [0; 16];
+    name[dice.below(2) * 15] = b'a' + dice.below(3) as u8;
+    name
+}
+
+#[test]
+fn tree_calls_agree() {
+    for seed in 0..60 {
+        let mut dice = Dice(seed + 1000);
+        let (dir_max, file_max, buckets) = (2 + dice.below(5), 1 + dice.below(5), 1 + dice.below(4));
+        let (mut v, mut p) = both(Shape { blocks: 1, block_len: 1, dir_max, file_max, buckets });
+        for _ in 0..200 {
+            let inode = dice.below(dir_max + 2) as u32;
+            let parent = dice.below(dir_max + 1) as u32;
+            let n = name(&mut dice);
+            let (c4, c20) = ([dice.below(256) as u8; 4], [dice.below(256) as u8; 20]);
+            let mut list = [7; 16];
+            match dice.below(20) {
+                0 => assert_eq!(v.lookup_dir(parent, &n), tree::lookup_dir(p.parts.tables(), &mut p.work, parent, &n)),
+                1 => {
+                    assert_eq!(v.lookup_file(parent, &n), tree::lookup_file(p.parts.tables(), &mut p.work, parent, &n))
+                }
+                2 | 3 => assert_eq!(
+                    v.make_dir(parent, &n, &c4),
+                    tree::make_dir(tables_mut!(p), &mut p.work, &mut p.dir_opens, parent, &n, &c4)
+                ),
+                4 | 5 => assert_eq!(
+                    v.make_file(parent, &n, &c20),
+                    tree::make_file(tables_mut!(p), &mut p.work, &mut p.file_opens, parent, &n, &c20)
+                ),
+                6 => assert_eq!(
+                    v.rename_dir(inode, parent, &n),
+                    tree::rename_dir(tables_mut!(p), &mut p.work, &p.dir_opens, inode, parent, &n)
+                ),
+                7 => assert_eq!(
+                    v.rename_file(inode, parent, &n),
+                    tree::rename_file(tables_mut!(p), &mut p.work, &p.file_opens, inode, parent, &n)
+                ),
+                8 => assert_eq!(
+                    v.delete_dir(inode),
+                    tree::delete_dir(tables_mut!(p), &mut p.work, &mut p.dir_opens, inode)
+                ),
+                9 => assert_eq!(
+                    v.delete_file(inode),
+                    tree::delete_file(tables_mut!(p), &mut p.work, &mut p.file_opens, inode)
+                ),
+                10 => {
+                    let count = tree::list_dirs(p.parts.tables(), &mut p.work, inode, &mut list);
+                    assert_eq!(v.list_dirs(inode), count.map(|c| list[..c].to_vec()));
+                }
+                11 => {
+                    let count = tree::list_files(p.parts.tables(), &mut p.work, inode, &mut list);
+                    assert_eq!(v.list_files(inode), count.map(|c| list[..c].to_vec()));
+                }
+                12 => assert_eq!(v.stat(), tree::stat(p.parts.tables(), &mut p.work)),
+                13 => {
+                    for kind in [Kind::Dir, Kind::File] {
+                        assert_eq!(v.name(kind, inode), tree::name(p.parts.tables(), &mut p.work, kind, inode));
+                    }
+                }
+                14 => {
+                    assert_eq!(v.carried_dir(inode), tree::carried_dir(p.parts.tables(), &mut p.work, inode));
+                    assert_eq!(v.carried_file(inode), tree::carried_file(p.parts.tables(), &mut p.work, inode));
+                }
+                15 => {
+                    assert_eq!(
+                        v.set_carried_dir(inode, &c4),
+                        tree::set_carried_dir(tables_mut!(p), &mut p.work, inode, &c4)
+                    );
+                    assert_eq!(
+                        v.set_carried_file(inode, &c20),
+                        tree::set_carried_file(tables_mut!(p), &mut p.work, inode, &c20)
+                    );
+                }
+                16 => assert_eq!(
+                    v.open_dir(inode),
+                    tree::open_dir(p.parts.tables(), &mut p.work, &mut p.dir_opens, inode)
+                ),
+                17 => assert_eq!(
+                    v.open_file(inode),
+                    tree::open_file(p.parts.tables(), &mut p.work, &mut p.file_opens, inode)
+                ),
+                18 => assert_eq!(
+                    v.close_dir(inode),
+                    tree::close_dir(p.parts.tables(), &mut p.work, &mut p.dir_opens, inode)
+                ),
+                _ => assert_eq!(
+                    v.close_file(inode),
+                    tree::close_file(p.parts.tables(), &mut p.work, &mut p.file_opens, inode)
+                ),
+            }
+            assert_eq!(v.parts(), &p.parts);
+            assert_eq!(tree::test(p.parts.tables(), &mut p.work), Ok(()));
+        }
+    }
+}
+
+#[test]
+fn long_listings() {
+    let shape = Shape { blocks: 1, block_len: 1, dir_max: 2, file_max: 400, buckets: 7 };
+    let mut volume = Volume::new(shape).unwrap();
+    for i in 0..300u32 {
+        let mut name = [0; 16];
+        name[..4].copy_from_slice(&i.to_le_bytes());
+        volume.make_file(ROOT, &name, &[0; 20]).unwrap();
+    }
+    let list = volume.list_files(ROOT).unwrap();
+    assert!(list.iter().copied().eq((1..=300).rev()), "new entries come to the front");
+    let stat = volume.stat().unwrap();
+    assert_eq!((stat.files.total, stat.files.free), (399, 99));
+}
+
+fn entries(table: &[u8]) -> Vec<(u32, u32)> {
+    let word = |b: &[u8]| u32::from_le_bytes(b.try_into().unwrap());
+    table.chunks(8).map(|e| (word(&e[..4]), word(&e[4..]))).collect()
+}
+
+#[test]
+fn worked_examples_of_document_01() {
+    const F: u32 = 0x8000_0000;
+    let shape = Shape { blocks: 4, block_len: 1, dir_max: 4, file_max: 1, buckets: 5 };
+    let mut v = Volume::new(shape).unwrap();
+    assert_eq!(entries(&v.parts().fat), [(0, 1), (F, F), (F + 1, 4), (0, 0), (F + 1, 4)]);
+    assert_eq!(v.create(1), Ok(0));
+    assert_eq!(entries(&v.parts().fat), [(0, 2), (F, 0), (F, F), (F + 2, 4), (F + 2, 4)]);
+    assert_eq!(v.create(2), Ok(1));
+    assert_eq!(entries(&v.parts().fat), [(0, 4), (F, 0), (F, F), (F + 2, 3), (F, 0)]);
+    assert_eq!(v.delete(0), Ok(()));
+    let now = entries(&v.parts().fat);
+    assert_eq!((now[0], now[1], now[4], v.free()), ((0, 1), (F, 4), (1, 0), 2));
+    assert_eq!(v.create(2), Ok(0));
+    assert_eq!(v.open_list(0).unwrap(), [0, 3]);
+    assert_eq!(entries(&v.parts().fat)[0], (0, 0));
+    assert_eq!(v.resize(1, 1), Ok(()));
+    assert_eq!(entries(&v.parts().fat), [(0, 3), (F, 4), (F, 0), (F, 0), (1, 0)]);
+    assert_eq!(v.resize(1, 3), Err(Refusal::NoSpace));
+    assert_eq!(v.read(1, 1, &mut []), Ok(()));
+    assert_eq!(v.read(1, 1, &mut [0]), Err(Refusal::OutOfBound));
+    assert_eq!(v.read(1, 2, &mut []), Err(Refusal::OutOfBound));
+
+    let word = |t: &[u8], at: usize| u32::from_le_bytes(t[at..at + 4].try_into().unwrap());
+    let hash: Vec<u32> = (0..5).map(|i| word(&v.parts().dir_hash, i * 4)).collect();
+    assert_eq!(hash, [0, 0, 0, 1, 0]);
+    assert_eq!((word(&v.parts().dir_table, 0), word(&v.parts().dir_table, 4)), (2, 4));
+    let a = b"a\0\0\0\0\0\0\0\0\0\0\0\0\0\0\0";
+    assert_eq!(v.make_dir(ROOT, a, &[0; 4]), Ok(2));
+    assert_eq!(word(&v.parts().dir_hash, 12), 2);
+    assert_eq!(word(&v.parts().dir_table, 2 * 40 + 36), 1, "its collision");
+    assert_eq!(word(&v.parts().dir_table, 40 + 24), 2, "the root's sub_dir");
+    assert_eq!(v.lookup_dir(ROOT, a).unwrap().compared, 1);
+    assert_eq!(v.lookup_dir(0, &[0; 16]).unwrap(), tree::Found { inode: 1, compared: 2 });
+    assert_eq!(v.lookup_dir(ROOT, &[9; 16]).unwrap_err().refusal, Refusal::NotFound);
+    assert_eq!(v.make_file(ROOT, a, &[0; 20]), Err(Refusal::NoSpace));
+
+    for (len, answer) in [(0, Refusal::SizeMismatch), (7, Refusal::SizeMismatch), (8, Refusal::InvalidValue)] {
+        assert_eq!(fat::format(&mut vec![0; len]), Err(answer));
+        assert_eq!(fat::test(&vec![0; len], &mut []), Err(answer));
+    }
+}
+
+#[test]
+fn what_is_not_sound_is_not_opened() {
+    let shape = Shape { blocks: 4, block_len: 2, dir_max: 4, file_max: 4, buckets: 3 };
+    let good = Volume::new(shape).unwrap().into_parts();
+    let refusal = |change: &dyn Fn(&mut Parts)| {
+        let mut parts = good.clone();
+        change(&mut parts);
+        let no = Volume::open(parts.clone()).unwrap_err();
+        assert_eq!(*no.parts, parts, "the parts come back as they were");
+        no.refusal
+    };
+    assert_eq!(refusal(&|p| p.fat[0] = 1), Refusal::BrokenFat);
+    assert_eq!(refusal(&|p| p.dir_table[0] = 9), Refusal::BrokenTree);
+    assert_eq!(refusal(&|p| p.block_len = 3), Refusal::SizeMismatch);
+    assert_eq!(refusal(&|p| p.data.truncate(7)), Refusal::SizeMismatch);
+    assert_eq!(refusal(&|p| p.file_hash.clear()), Refusal::SizeMismatch);
+    // The block table is judged first.
+    assert_eq!(refusal(&|p| (p.fat[0], p.dir_table[0]) = (1, 9)), Refusal::BrokenFat);
+}

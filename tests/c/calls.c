@@ -1,0 +1,158 @@
+/* Calls every function of the C interface, and holds the answers against document 01. */
+#include "mukthiban.h"
+
+#include <stdio.h>
+#include <string.h>
+
+static int failures = 0;
+
+#define EXPECT(what)                                                  \
+    do {                                                              \
+        if (!(what)) {                                                \
+            failures++;                                               \
+            fprintf(stderr, "line %d: not so: %s\n", __LINE__, #what); \
+        }                                                             \
+    } while (0)
+
+/* 4 blocks of 2 bytes, 4 directory entries, 4 file entries, 5 buckets each */
+static uint8_t table[8 * 5], data[2 * 4];
+static uint8_t dir_hash[4 * 5], dir_table[40 * 4], file_hash[4 * 5], file_table[48 * 4];
+static uint32_t work[8], dir_opens[4], file_opens[4], list[4];
+
+#define FAT table, sizeof table
+#define DATA data, sizeof data, (size_t)2
+#define FOUR \
+    dir_hash, sizeof dir_hash, dir_table, sizeof dir_table, file_hash, sizeof file_hash, file_table, sizeof file_table
+#define WORK work, (size_t)8
+#define DIR_OPENS dir_opens, (size_t)4
+#define FILE_OPENS file_opens, (size_t)4
+#define LIST list, (size_t)4
+
+static const uint8_t zero_name[16];
+static const uint8_t a[16] = {'a'}, b[16] = {'b'};
+static const uint8_t four[4] = {1, 2, 3, 4};
+static const uint8_t twenty[20] = {1, 2, 3, 4, 5, 6, 7, 8, 9, 10, 11, 12, 13, 14, 15, 16, 17, 18, 19, 20};
+
+static void blocks(void)
+{
+    uint8_t buf[4] = {9, 8, 7, 6};
+    mukthiban_tested tested;
+    mukthiban_created created;
+    mukthiban_listed listed;
+
+    EXPECT(mukthiban_fat_format(table, 7).answer == MUKTHIBAN_SIZE_MISMATCH);
+    EXPECT(mukthiban_fat_format(table, 8).answer == MUKTHIBAN_INVALID_VALUE);
+    EXPECT(mukthiban_fat_format(FAT).answer == MUKTHIBAN_DONE);
+    tested = mukthiban_fat_test(FAT, WORK);
+    EXPECT(tested.answer == MUKTHIBAN_DONE && tested.free == 4 && tested.files == 0);
+    EXPECT(mukthiban_fat_test(FAT, work, 3).answer == MUKTHIBAN_WORK_TOO_SHORT);
+
+    created = mukthiban_fat_create(FAT, DATA, WORK, 2);
+    EXPECT(created.answer == MUKTHIBAN_DONE && created.first_block == 0);
+    created = mukthiban_fat_create(FAT, DATA, WORK, 1);
+    EXPECT(created.answer == MUKTHIBAN_DONE && created.first_block == 2);
+    created = mukthiban_fat_create(FAT, DATA, WORK, 2);
+    EXPECT(created.answer == MUKTHIBAN_NO_SPACE && created.first_block == 0);
+
+    EXPECT(mukthiban_fat_resize(FAT, DATA, WORK, 0, 3).answer == MUKTHIBAN_DONE);
+    EXPECT(mukthiban_fat_resize(FAT, DATA, WORK, 1, 3).answer == MUKTHIBAN_NOT_A_FILE);
+    listed = mukthiban_fat_open_list(FAT, DATA, WORK, 0, LIST);
+    EXPECT(listed.answer == MUKTHIBAN_DONE && listed.count == 3);
+    EXPECT(list[0] == 0 && list[1] == 1 && list[2] == 3);
+    EXPECT(mukthiban_fat_open_list(FAT, DATA, WORK, 0, list, 2).answer == MUKTHIBAN_LIST_TOO_SHORT);
+
+    EXPECT(mukthiban_fat_write(FAT, DATA, WORK, 0, 2, buf, 4).answer == MUKTHIBAN_DONE);
+    EXPECT(data[2] == 9 && data[3] == 8 && data[6] == 7 && data[7] == 6);
+    memset(buf, 0, sizeof buf);
+    EXPECT(mukthiban_fat_read(FAT, DATA, WORK, 0, 2, buf, 4).answer == MUKTHIBAN_DONE);
+    EXPECT(buf[0] == 9 && buf[3] == 6);
+    EXPECT(mukthiban_fat_read(FAT, DATA, WORK, 0, 3, buf, 4).answer == MUKTHIBAN_OUT_OF_BOUND);
+
+    EXPECT(mukthiban_fat_delete(FAT, DATA, WORK, 0).answer == MUKTHIBAN_DONE);
+    tested = mukthiban_fat_test(FAT, WORK);
+    EXPECT(tested.answer == MUKTHIBAN_DONE && tested.free == 3 && tested.files == 1);
+    table[0] = 1;
+    EXPECT(mukthiban_fat_delete(FAT, DATA, WORK, 2).answer == MUKTHIBAN_BROKEN_FAT);
+}
+
+static void tree(void)
+{
+    uint8_t bytes4[4], bytes20[20];
+    mukthiban_found found;
+    mukthiban_made made;
+    mukthiban_listed listed;
+    mukthiban_stat stat;
+    mukthiban_named named;
+
+    EXPECT(mukthiban_tree_format(dir_hash, sizeof dir_hash, dir_table, sizeof dir_table, 4, file_hash,
+                                 sizeof file_hash, file_table, sizeof file_table, 4)
+               .answer == MUKTHIBAN_DONE);
+    EXPECT(mukthiban_tree_test(FOUR, WORK).answer == MUKTHIBAN_DONE);
+
+    made = mukthiban_tree_make_dir(FOUR, WORK, DIR_OPENS, 1, a, four);
+    EXPECT(made.answer == MUKTHIBAN_DONE && made.inode == 2 && dir_opens[2] == 1);
+    made = mukthiban_tree_make_file(FOUR, WORK, FILE_OPENS, 2, b, twenty);
+    EXPECT(made.answer == MUKTHIBAN_DONE && made.inode == 1 && file_opens[1] == 1);
+    EXPECT(mukthiban_tree_make_file(FOUR, WORK, FILE_OPENS, 2, b, twenty).answer == MUKTHIBAN_ALREADY_EXIST);
+    EXPECT(mukthiban_tree_make_file(FOUR, WORK, FILE_OPENS, 3, b, twenty).answer == MUKTHIBAN_NOT_FOUND);
+
+    found = mukthiban_tree_lookup_dir(FOUR, WORK, 1, a);
+    EXPECT(found.answer == MUKTHIBAN_DONE && found.inode == 2 && found.compared == 1);
+    found = mukthiban_tree_lookup_dir(FOUR, WORK, 0, zero_name);
+    EXPECT(found.answer == MUKTHIBAN_DONE && found.inode == 1 && found.compared == 2);
+    found = mukthiban_tree_lookup_file(FOUR, WORK, 2, b);
+    EXPECT(found.answer == MUKTHIBAN_DONE && found.inode == 1 && found.compared == 1);
+    EXPECT(mukthiban_tree_lookup_file(FOUR, WORK, 1, b).answer == MUKTHIBAN_NOT_FOUND);
+
+    listed = mukthiban_tree_list_dirs(FOUR, WORK, 1, LIST);
+    EXPECT(listed.answer == MUKTHIBAN_DONE && listed.count == 1 && list[0] == 2);
+    listed = mukthiban_tree_list_files(FOUR, WORK, 2, LIST);
+    EXPECT(listed.answer == MUKTHIBAN_DONE && listed.count == 1 && list[0] == 1);
+    stat = mukthiban_tree_stat(FOUR, WORK);
+    EXPECT(stat.answer == MUKTHIBAN_DONE && stat.dir_total == 3 && stat.dir_free == 1);
+    EXPECT(stat.file_total == 3 && stat.file_free == 2);
+
+    named = mukthiban_tree_name(FOUR, WORK, MUKTHIBAN_DIRECTORY, 2);
+    EXPECT(named.answer == MUKTHIBAN_DONE && memcmp(dir_table + named.offset, a, 16) == 0);
+    named = mukthiban_tree_name(FOUR, WORK, MUKTHIBAN_FILE, 1);
+    EXPECT(named.answer == MUKTHIBAN_DONE && memcmp(file_table + named.offset, b, 16) == 0);
+    EXPECT(mukthiban_tree_name(FOUR, WORK, MUKTHIBAN_FILE, 2).answer == MUKTHIBAN_NOT_FOUND);
+    EXPECT(mukthiban_tree_name(FOUR, WORK, 2, 1).answer == MUKTHIBAN_INVALID_VALUE);
+
+    EXPECT(mukthiban_tree_carried_dir(FOUR, WORK, 2, bytes4).answer == MUKTHIBAN_DONE);
+    EXPECT(memcmp(bytes4, four, 4) == 0);
+    EXPECT(mukthiban_tree_carried_dir(FOUR, WORK, 3, bytes4).answer == MUKTHIBAN_NOT_FOUND && bytes4[0] == 0);
+    EXPECT(mukthiban_tree_carried_file(FOUR, WORK, 1, bytes20).answer == MUKTHIBAN_DONE);
+    EXPECT(memcmp(bytes20, twenty, 20) == 0);
+    bytes4[3] = 77;
+    EXPECT(mukthiban_tree_set_carried_dir(FOUR, WORK, 2, bytes4).answer == MUKTHIBAN_DONE);
+    EXPECT(mukthiban_tree_carried_dir(FOUR, WORK, 2, bytes4).answer == MUKTHIBAN_DONE && bytes4[3] == 77);
+    bytes20[19] = 77;
+    EXPECT(mukthiban_tree_set_carried_file(FOUR, WORK, 1, bytes20).answer == MUKTHIBAN_DONE);
+    EXPECT(mukthiban_tree_carried_file(FOUR, WORK, 1, bytes20).answer == MUKTHIBAN_DONE && bytes20[19] == 77);
+
+    EXPECT(mukthiban_tree_rename_dir(FOUR, WORK, DIR_OPENS, 2, 2, b).answer == MUKTHIBAN_INTO_ITSELF);
+    EXPECT(mukthiban_tree_rename_dir(FOUR, WORK, DIR_OPENS, 2, 1, b).answer == MUKTHIBAN_DONE);
+    EXPECT(mukthiban_tree_rename_file(FOUR, WORK, FILE_OPENS, 1, 1, a).answer == MUKTHIBAN_DONE);
+    EXPECT(mukthiban_tree_open_dir(FOUR, WORK, DIR_OPENS, 2).answer == MUKTHIBAN_DONE && dir_opens[2] == 2);
+    EXPECT(mukthiban_tree_delete_dir(FOUR, WORK, DIR_OPENS, 2).answer == MUKTHIBAN_BUSY);
+    EXPECT(mukthiban_tree_close_dir(FOUR, WORK, DIR_OPENS, 2).answer == MUKTHIBAN_DONE && dir_opens[2] == 1);
+    EXPECT(mukthiban_tree_delete_dir(FOUR, WORK, DIR_OPENS, 2).answer == MUKTHIBAN_DONE && dir_opens[2] == 0);
+    EXPECT(mukthiban_tree_delete_dir(FOUR, WORK, DIR_OPENS, 1).answer == MUKTHIBAN_NOT_OPEN);
+    EXPECT(mukthiban_tree_close_file(FOUR, WORK, FILE_OPENS, 1).answer == MUKTHIBAN_DONE && file_opens[1] == 0);
+    EXPECT(mukthiban_tree_close_file(FOUR, WORK, FILE_OPENS, 1).answer == MUKTHIBAN_NOT_OPEN);
+    file_opens[1] = 65535;
+    EXPECT(mukthiban_tree_open_file(FOUR, WORK, FILE_OPENS, 1).answer == MUKTHIBAN_TOO_MANY_OPENS);
+    file_opens[1] = 0;
+    EXPECT(mukthiban_tree_open_file(FOUR, WORK, FILE_OPENS, 1).answer == MUKTHIBAN_DONE && file_opens[1] == 1);
+    EXPECT(mukthiban_tree_delete_file(FOUR, WORK, FILE_OPENS, 1).answer == MUKTHIBAN_DONE && file_opens[1] == 0);
+    file_table[0] = 99;
+    EXPECT(mukthiban_tree_test(FOUR, WORK).answer == MUKTHIBAN_BROKEN_TREE);
+}
+
+int main(void)
+{
+    blocks();
+    tree();
+    return failures == 0 ? 0 : 1;
+}
