@@ -5,13 +5,15 @@ use mathlib.Core.Logic.{_⊎_, inl, inr, ⊎-elim, _≢_, _↔_}
 use mathlib.Core.Bool.{Bool, true, false, false≢true}
 use Prim.Native.Nat.{ℕ, zero, suc, _+_, _-_, _*_, _≤_, _<_}
 use native.Mathlib.Omega.{arith}
-use lib.ListN.{length, getD}
+use lib.Dec.{eqb}
+use borrow.Author.Tests.{eqb-true, eq-eqb}
+use lib.ListN.{length, getD, set}
 use Rattle.links.specs.Links.{_∈_, Links, Holds}
 use Rattle.links.proofs.Laws.{one-list, positive}
 use Rattle.links.proofs.Held.{same-or}
-use Rattle.meta_marks.specs.Marks.{gone, markAt, Free, Marked, Listed, Within}
-use Rattle.meta_marks.proofs.Walks.{le-or-lt, within-refl, within-trans}
-use Rattle.meta_marks.specs.Gather.{Alive, Gathered, Gathers, any, Told, Dir}
+use Rattle.meta_marks.specs.Marks.{gone, markAt, Free, Marked, Listed, Within, Tells}
+use Rattle.meta_marks.proofs.Walks.{le-or-lt, within-refl, within-trans, within-set, mark-same, mark-other}
+use Rattle.meta_marks.specs.Gather.{Alive, Gathered, Gathers, any, Told, Dir, Kept, Named}
 
 pub in-or : (y : ℕ) (xs : List ℕ) → (y ∈ xs) ⊎ (y ∈ xs → ⊥)
 in-or y [] = inr (λ h. h)
@@ -276,3 +278,82 @@ dir-some {nx} {count} {head} {p} {off} {i} {first} {work} {work′} {r} e k f L 
   none = λ z. absurd (k (subst (λ y. getD work y 0 ≡ gone) (sym e) z));
   some = λ _. subst (λ y. Listed nx count y p off work work′ r) (f ∙ ap head e) L;
 }
+
+-- ---- the loop of keep_gone, before place y
+
+pub record Keeping (off count : ℕ) (work₀ work : List ℕ) (y : ℕ) : Type 0 where
+  pub dead : (z : ℕ) → z < y → markAt work₀ off z ≡ gone → markAt work off z ≡ gone
+  pub others : (z : ℕ) → z < y → (markAt work₀ off z ≡ gone → ⊥) → markAt work off z ≡ 0
+  pub rest : (z : ℕ) → y ≤ z → markAt work off z ≡ markAt work₀ off z
+  pub within : Within off count work₀ work
+
+pub keep-begin : (off count : ℕ) (work : List ℕ) → Keeping off count work work 0
+keep-begin off count work = record {
+  dead = λ z h. absurd (omega arith);
+  others = λ z h. absurd (omega arith);
+  rest = λ z h. refl;
+  within = within-refl off count work;
+}
+
+pub keep-on : {off count : ℕ} {work₀ work : List ℕ} {y : ℕ} (i m : ℕ) → Keeping off count work₀ work y → i ≡ y → y < count → off + count ≤ length work
+    → (getD work (off + i) 0 ≡ gone → m ≡ gone) × ((getD work (off + i) 0 ≡ gone → ⊥) → m ≡ 0) → Keeping off count work₀ (set work (off + i) m) (y + 1)
+keep-on {off} {count} {work₀} {work} {y} i m K ei hc hl M = record {
+  dead = λ z h g.
+      ⊎-elim
+      (λ (e : z ≡ i). at z e ∙ M .0 (ap (markAt work off) (sym e) ∙ K .rest z (omega arith) ∙ g))
+      (λ (n : z ≢ i). mark-other work off i m z n ∙ K .dead z (omega arith) g)
+      (same-or z i);
+  others = λ z h g.
+      ⊎-elim
+      (λ (e : z ≡ i). at z e ∙ M .1 (λ (k : markAt work off i ≡ gone). g (sym (K .rest z (omega arith)) ∙ ap (markAt work off) e ∙ k)))
+      (λ (n : z ≢ i). mark-other work off i m z n ∙ K .others z (omega arith) g)
+      (same-or z i);
+  rest = λ z h. mark-other work off i m z (omega arith) ∙ K .rest z (omega arith);
+  within = within-trans (K .within) (within-set off count i m work (omega arith));
+}
+  where
+    at : (z : ℕ) → z ≡ i → markAt (set work (off + i) m) off z ≡ m
+    at z e = ap (markAt (set work (off + i) m) off) e ∙ mark-same work off i m (omega arith)
+
+pub keep-done : {off count : ℕ} {work₀ work : List ℕ} {y : ℕ} → Keeping off count work₀ work y → count ≤ y → Kept off count work₀ work
+keep-done K h = record { dead = λ z l. K .dead z (omega arith); others = λ z l. K .others z (omega arith); within = K .within }
+
+-- ---- named, and the loop of check_parents
+
+pub named-gone : (root y mark parent : ℕ) → mark ≡ gone → Tells (Named root y mark parent) true
+named-gone root y mark parent e = record { yes = λ _. inl e; only = λ _. refl }
+
+pub named-other : (root y mark parent : ℕ) → (mark ≡ gone → ⊥) → (mark ≡ parent → ⊥) → Tells (Named root y mark parent) false
+named-other root y mark parent g n = record {
+  yes = λ e. absurd (false≢true e);
+  only = λ p. absurd (⊎-elim g (λ (q : (mark ≡ parent) × ((0 < mark) ⊎ (y ≡ root))). n (q .0)) p);
+}
+
+pub named-some : (root y mark parent : ℕ) → mark ≡ parent → (mark ≡ 0 → ⊥) → Tells (Named root y mark parent) true
+named-some root y mark parent e n = record { yes = λ _. inr (e, inl (omega arith)); only = λ _. refl }
+
+pub named-root : (root y mark parent : ℕ) (r : Bool) → mark ≡ parent → mark ≡ 0 → r ≡ eqb y root → Tells (Named root y mark parent) r
+named-root root y mark parent r e z t = record {
+  yes = λ q. inr (e, inr (eqb-true y root (sym t ∙ q)));
+  only = λ p. t ∙ eq-eqb y root (⊎-elim (λ (g : mark ≡ gone). absurd (omega arith))
+      (λ (q : (mark ≡ parent) × ((0 < mark) ⊎ (y ≡ root))). ⊎-elim (λ (a : 0 < mark). absurd (omega arith)) (λ (a : y ≡ root). a) (q .1)) p);
+}
+
+pub record Checking (P : ℕ → Type 0) (y : ℕ) : Type 0 where
+  pub some : 0 < y
+  pub right : (z : ℕ) → 0 < z → z < y → P z
+
+pub check-begin : (P : ℕ → Type 0) → Checking P 1
+check-begin P = record { some = omega arith; right = λ z a b. absurd (omega arith) }
+
+pub check-on : {P : ℕ → Type 0} {y : ℕ} {r : Bool} → Checking P y → Tells (P y) r → r ≡ true → Checking P (y + 1)
+check-on {P} {y} {r} C T t = record {
+  some = omega arith;
+  right = λ z a b. ⊎-elim (λ (e : z ≡ y). subst P (sym e) (T .yes t)) (λ (n : z ≢ y). C .right z a (omega arith)) (same-or z y);
+}
+
+pub check-stop : {P : ℕ → Type 0} {y count : ℕ} {r : Bool} → Checking P y → y < count → Tells (P y) r → r ≡ false → Tells ((z : ℕ) → 0 < z → z < count → P z) false
+check-stop {P} {y} {count} {r} C h T f = record { yes = λ e. absurd (false≢true e); only = λ all. absurd (false≢true (sym f ∙ T .only (all y (C .some) h))) }
+
+pub check-done : {P : ℕ → Type 0} {y count : ℕ} → Checking P y → count ≤ y → Tells ((z : ℕ) → 0 < z → z < count → P z) true
+check-done C h = record { yes = λ _ z a b. C .right z a (omega arith); only = λ _. refl }

@@ -7,7 +7,7 @@ use Prim.Native.Nat.{ℕ, _+_, _-_, _*_, _≤_, _<_}
 use lib.ListN.{length, getD}
 use Rattle.links.specs.Links.{_∈_, Links, Holds}
 use Rattle.words.specs.Word.{word}
-use Rattle.meta_marks.specs.Marks.{gone, markAt, Listed}
+use Rattle.meta_marks.specs.Marks.{gone, markAt, Within, Listed}
 
 -- from 1 below count and not removed
 abbrev pub Alive : ℕ → List ℕ → ℕ → Type 0
@@ -45,3 +45,9 @@ pub record Dir (nx : ℕ → ℕ) (count : ℕ) (head : ℕ → ℕ) (p off : �
 -- an entry's mark is `gone`, or the parent that the entry names, which is 0 for the root alone
 abbrev pub Named : ℕ → ℕ → ℕ → ℕ → Type 0
 Named root y mark parent = (mark ≡ gone) ⊎ ((mark ≡ parent) × ((0 < mark) ⊎ (y ≡ root)))
+
+-- every mark but `gone` is taken away
+pub record Kept (off count : ℕ) (work work′ : List ℕ) : Type 0 where
+  pub dead : (y : ℕ) → y < count → markAt work off y ≡ gone → markAt work′ off y ≡ gone
+  pub others : (y : ℕ) → y < count → (markAt work off y ≡ gone → ⊥) → markAt work′ off y ≡ 0
+  pub within : Within off count work work′

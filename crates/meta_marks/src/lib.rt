@@ -3,8 +3,9 @@ ghost use mathlib.Core.Path.{_≡_};
 ghost use mathlib.Core.List.{List};
 ghost use Prim.Native.Nat.{ℕ, _+_, _-_, _*_, _≤_, _<_};
 ghost use lib.ListN.{length, getD};
-ghost use Rattle.meta_marks.specs.Marks.{gone, linkOf, markAt, Within, Marked, Listed};
-ghost use Rattle.meta_marks.specs.Gather.{Alive, Gathered, Gathers, bucketAt, any, Told, Dir, Named};
+ghost use Rattle.meta_marks.specs.Marks.{gone, linkOf, markAt, markOf, Tells, Within, Marked, Listed};
+ghost use Rattle.meta_marks.specs.Gather.{Alive, Gathered, Gathers, bucketAt, any, Told, Dir, Named, Kept};
+ghost use Rattle.meta_marks.specs.Climb.{Ends, Flat, Risen, AllRisen};
 
 // An inode as an index.
 fn index(x: u32) -> usize
@@ -119,6 +120,139 @@ pub fn mark_children(
             return false;
         }
         p += 1;
+    }
+    true
+}
+
+// A mark that stays only where it is that of a removed entry.
+fn kept(mark: u32) -> u32
+    ensures { λ r. ⌜ (mark ≡ gone → r ≡ gone) × ((mark ≡ gone → ⊥) → r ≡ 0) ⌝ }
+{
+    if mark == GONE { GONE } else { 0 }
+}
+
+// Takes away every mark but those of the removed entries.
+pub fn keep_gone(work: &mut [u32], off: usize, count: u32)
+    requires { ⌜ off + count ≤ length (now work) ⌝ }
+    ensures { λ _. ⌜ Kept off count (now (work .entry)) (now (work .exit)) ⌝ }
+{
+    let mut y: u32 = 0;
+    while y < count {
+        let i = off + index(y);
+        let m = work[i];
+        work[i] = kept(m);
+        y += 1;
+    }
+}
+
+// Whether an entry's mark is that of a removed one, or the parent that the entry names. Only the root's may be 0.
+fn named(root: u32, y: u32, mark: u32, parent: u32) -> bool
+    ensures { λ r. ⌜ Tells (Named root y mark parent) r ⌝ }
+{
+    if mark == GONE {
+        return true;
+    }
+    if mark != parent {
+        return false;
+    }
+    if mark != 0 {
+        return true;
+    }
+    y == root
+}
+
+// Where an entry names its parent.
+const PARENT: usize = 0;
+
+// Whether each entry was met in the list of the parent that it names.
+pub fn check_parents(
+    table: &[u8],
+    w: usize,
+    root: u32,
+    count: u32,
+    work: &[u32],
+    off: usize,
+) -> bool
+    requires { ⌜ (count * w ≤ length (now table)) × (4 ≤ w) × (off + count ≤ length (now work)) ⌝ }
+    ensures { λ r. ⌜ Tells ((y : ℕ) → 0 < y → y < count → Named root y (markAt (now (work .entry)) off y) (linkOf (now (table .entry)) w 0 y)) r ⌝ }
+{
+    let mut y: u32 = 1;
+    while y < count {
+        let i = index(y);
+        if !named(
+            root,
+            y,
+            work[off + i],
+            words::get_u32(table, i * w + PARENT),
+        ) {
+            return false;
+        }
+        y += 1;
+    }
+    true
+}
+
+// Whether one comes to a mark 0 by going up from y by the marks. More steps than entries are a ring.
+fn climbs(work: &[u32], count: u32, y: u32) -> bool
+    requires { ⌜ count ≤ length (now work) ⌝ }
+    ensures { λ r. ⌜ Tells (Ends count (now (work .entry)) y) r ⌝ }
+{
+    let mut x = y;
+    let mut n: u32 = 0;
+    while x != 0 {
+        if x >= count {
+            return false;
+        }
+        if n == count {
+            return false;
+        }
+        x = work[index(x)];
+        n += 1;
+    }
+    true
+}
+
+// Sets the marks to 0 on the way up from y.
+fn flatten(work: &mut [u32], count: u32, y: u32)
+    requires { ⌜ (count ≤ length (now work)) × (0 < y) × (y < count) × Ends count (now work) y ⌝ }
+    ensures { λ _. ⌜ Flat count y (now (work .entry)) (now (work .exit)) ⌝ }
+{
+    let mut x = y;
+    let mut p = work[index(y)];
+    while p != 0 {
+        work[index(x)] = 0;
+        x = p;
+        p = work[index(x)];
+    }
+}
+
+// Whether directory y comes to the root. If it does, the marks know it of every directory on the way.
+fn rises(work: &mut [u32], count: u32, y: u32) -> bool
+    requires { ⌜ (count ≤ length (now work)) × (0 < y) × (y < count) ⌝ }
+    ensures { λ r. ⌜ Risen count y (now (work .entry)) (now (work .exit)) r ⌝ }
+{
+    let m = work[index(y)];
+    if m == GONE {
+        return true;
+    }
+    if !climbs(work, count, y) {
+        return false;
+    }
+    flatten(work, count, y);
+    true
+}
+
+// Whether every directory comes to the root by parents. The marks of the live ones are their parents, and the root's is 0.
+pub fn all_reach(work: &mut [u32], count: u32) -> bool
+    requires { ⌜ count ≤ length (now work) ⌝ }
+    ensures { λ r. ⌜ AllRisen count (now (work .entry)) (now (work .exit)) r ⌝ }
+{
+    let mut y: u32 = 1;
+    while y < count {
+        if !rises(work, count, y) {
+            return false;
+        }
+        y += 1;
     }
     true
 }

@@ -19,13 +19,10 @@ Inv-loop table w link count first work₀ off m x₀ work x = Going (linkOf tabl
 abbrev μ-loop : tie.MeasureT-loop
 μ-loop table w link count first work₀ off m x₀ work x = zeros work
 
--- pre<
 -- the entry lies in the table
 inside : (c : lts.Else2 (index-reads.Asked, index-reads.Learnt, get-u32-reads.Asked, get-u32-reads.Learnt) reads.Pre reads.Post Inv-loop μ-loop)
     → c .before .before .index .result * c .before .before .before .before .before .before .before .before .args .w + c .before .before .before .before .before .before .before .before .args .w ≤ length (c .before .before .before .before .before .before .before .before .args .table .now)
 inside c = entry-in _ _ (c .before .before .before .before .before .before .before .before .args .count) _ (omega arith) (omega arith)
-
--- >pre
 
 -- src/lib.rt:21:5
 loop-holds : tie.Need-loop-holds Inv-loop μ-loop
