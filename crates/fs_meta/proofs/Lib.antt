@@ -1,3 +1,4 @@
 pub mod Lists
 pub mod Live
 pub mod Opens
+pub mod Lookups

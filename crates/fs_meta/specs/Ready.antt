@@ -33,3 +33,7 @@ pub record Single (h t : List ℕ) (w : ℕ) : Type 0 where
 -- a table by itself, for the rows that ask only which of its entries are live
 abbrev pub alone : ℕ → List ℕ → View
 alone w t = viewOf 0 0 0 (field w t) (λ b. 0) (λ p. 0)
+
+-- a table with its hash, for the rows that ask for keys
+abbrev pub hashed : ℕ → List ℕ → List ℕ → View
+hashed w h t = viewOf (buckets h) 0 0 (field w t) (hashAt h) (λ p. 0)

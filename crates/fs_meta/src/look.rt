@@ -4,8 +4,10 @@ ghost use mathlib.Core.Bool.{true};
 ghost use Prim.Native.Nat.{_/_, _≤_};
 ghost use lib.ListN.{length};
 ghost use Rattle.order.specs.First.{First};
-ghost use Rattle.fs_meta.specs.Calls.{openRows, openDone, closeRows, closeDone, openingGives};
-ghost use Rattle.fs_meta.specs.Ready.{Ready, LiveAt, Single, alone};
+ghost use Rattle.fs_meta.specs.Calls.{openRows, openDone, closeRows, closeDone, openingGives, lookupRows, lookupDone, lookupGives};
+ghost use Rattle.meta_key.specs.Key.{keyWords};
+ghost use Rattle.fs_meta.specs.Ready.{Ready, LiveAt, Single, alone, hashed};
+use meta_key::SaveExtKey;
 use order::Answer;
 
 // Whether inode x of a table is live: it stands in the bucket of its own key.
@@ -59,4 +61,33 @@ pub fn close(hash: &[u8], table: &[u8], w: usize, opens: &mut [u32], x: u32) -> 
     }
     opens[i] = n - 1;
     Answer::Done
+}
+
+// A lookup's answer: the entry's inode, and the number of entries compared.
+pub struct Looked {
+    pub answer: Answer,
+    pub inode: u32,
+    pub compared: u32,
+}
+
+// The entry with a key.
+pub fn lookup(hash: &[u8], table: &[u8], w: usize, key: SaveExtKey) -> Looked
+    requires { ⌜ Single (now hash) (now table) w ⌝ }
+    ensures { λ r. ⌜ First (lookupRows (hashed w (now (hash .entry)) (now (table .entry))) (keyWords key)) (lookupDone (hashed w (now (hash .entry)) (now (table .entry))) (keyWords key)) (lookupGives (r .answer) (r .inode) (r .compared)) ⌝ }
+{
+    let b = meta_key::hash(key, hash.len() / 4);
+    let first = words::get_u32(hash, b * 4);
+    let hit = meta_table::get(table, w, first, key);
+    if hit.inode == 0 {
+        return Looked {
+            answer: Answer::NotFound,
+            inode: 0,
+            compared: hit.compared,
+        };
+    }
+    Looked {
+        answer: Answer::Done,
+        inode: hit.inode,
+        compared: hit.compared,
+    }
 }
