@@ -2,3 +2,5 @@ pub mod Copied
 pub mod Over
 pub mod Joins
 pub mod Few
+pub mod Cases
+pub mod Walks

@@ -13,6 +13,8 @@ use Rattle.fat_table.specs.Chain.{total, sizeAt, chainAt}
 use Rattle.fat_table.specs.Layout.{hits, covers, empties}
 use Rattle.fat_table.specs.Steps.{first}
 use Rattle.fat_table.specs.Holds.{Laid}
+use Rattle.fat.specs.declared.Sought.{Sought}
+use Rattle.fat.specs.declared.Sought.the-variants.{Within, Past}
 
 -- what the calls that require soundness ask for: a sound table of n blocks
 pub record Volume (n : ℕ) (t : Bytes) : Type 0 where
@@ -69,3 +71,30 @@ splitAt t b m =
 
 unfoldable pub cutAt : Bytes → ℕ → ℕ → Bytes
 cutAt t b m = cond (eqb m (sizeAt t b)) (endAt t b) (splitAt t b m)
+
+-- the m-th block of the node at block b is the k-th of a chain
+pub record Inside (l : List Run) (k b m : ℕ) : Type 0 where
+  pub before : List Run
+  pub node : Run
+  pub after : List Run
+  pub is : l ≡ before ++ node ∷ after
+  pub at : node .start ≡ b
+  pub sum : k ≡ total before + m
+  pub some : 1 ≤ m
+  pub fits : m ≤ node .size
+
+-- index i names the last node of a chain, or none in a chain of none
+pub data LastIs (l : List Run) (i : ℕ) : Type 0 where
+  none : l ≡ [] → i ≡ 0 → LastIs l i
+  node : (before : List Run) (y : Run) → l ≡ before ++ y ∷ [] → i ≡ suc (y .start) → LastIs l i
+
+-- a chain ends m blocks before its k-th
+pub record Beyond (l : List Run) (k i m : ℕ) : Type 0 where
+  pub last : LastIs l i
+  pub sum : k ≡ total l + m
+  pub some : 1 ≤ m
+
+-- what `seek` says of the k-th block of a chain
+abbrev pub SeekSays : List Run → ℕ → Sought → Type 0
+SeekSays l k (Within b m) = Inside l k b m
+SeekSays l k (Past i m) = Beyond l k i m

@@ -1,7 +1,11 @@
 // The calls of the block table.
 ghost use mathlib.Core.Path.{_≡_};
-ghost use Prim.Native.Nat.{_+_, _*_, _≤_};
+ghost use Prim.Native.Nat.{_+_, _*_, _≤_, _<_};
 ghost use lib.ListN.{length};
+ghost use Rattle.fat_node.specs.Node.{prevAt, nextAt};
+ghost use Rattle.fat_table.specs.Chain.{sizeAt, chainAt};
+ghost use Rattle.fat.specs.Inner.{Standing, StandingAt, ChainFrom, withPrev, joinAt, endAt, splitAt, cutAt, SeekSays};
+use fat_node::Node;
 
 // Copies one part over another of the same length.
 fn copy(dst: &mut [u8], src: &[u8])
@@ -14,4 +18,165 @@ fn copy(dst: &mut [u8], src: &[u8])
         dst[i] = src[i];
         i += 1;
     }
+}
+
+// The size of the node that stands at block b.
+fn size_at(table: &[u8], n: usize, b: usize) -> usize
+    requires { ⌜ Standing n (now table) b ⌝ }
+    ensures { λ r. ⌜ r ≡ sizeAt (now (table .entry)) b ⌝ }
+{
+    fat_node::size_of(table, n, b) as usize
+}
+
+// The node that stands at block b.
+fn node_at(table: &[u8], n: usize, b: usize) -> Node
+    requires { ⌜ Standing n (now table) b ⌝ }
+    ensures { λ r. ⌜ (r .size ≡ sizeAt (now (table .entry)) b) × (r .prev ≡ prevAt (now (table .entry)) b) × (r .next ≡ nextAt (now (table .entry)) b) ⌝ }
+{
+    let size = size_at(table, n, b);
+    let prev = fat_node::prev_of(table, b);
+    let next = fat_node::next_of(table, b);
+    Node { size, prev, next }
+}
+
+// Gives the node that index i names, if it names one, another previous.
+fn set_prev(table: &mut [u8], n: usize, i: usize, prev: usize)
+    requires { ⌜ StandingAt n (now table) i ⌝ }
+    requires { ⌜ prev ≤ n ⌝ }
+    ensures { λ _. ⌜ now (table .exit) ≡ withPrev (now (table .entry)) i prev ⌝ }
+{
+    if i == 0 {
+        return;
+    }
+    let b = i - 1;
+    let node = node_at(table, n, b);
+    let size = node.size;
+    let next = node.next;
+    fat_node::set_node(table, n, b, Node { size, prev, next });
+}
+
+// Lets the chain whose last node is at block y go on with the chain that index i starts.
+fn join(table: &mut [u8], n: usize, y: usize, i: usize)
+    requires { ⌜ Standing n (now table) y ⌝ }
+    requires { ⌜ StandingAt n (now table) i ⌝ }
+    requires { ⌜ i ≤ n ⌝ }
+    ensures { λ _. ⌜ now (table .exit) ≡ joinAt (now (table .entry)) y i ⌝ }
+{
+    let node = node_at(table, n, y);
+    let size = node.size;
+    let prev = node.prev;
+    set_prev(table, n, i, y + 1);
+    fat_node::set_node(
+        table,
+        n,
+        y,
+        Node {
+            size,
+            prev,
+            next: i,
+        },
+    );
+}
+
+// Ends a chain after the node at block b; what comes after it becomes the free chain.
+fn end_at(table: &mut [u8], n: usize, b: usize)
+    requires { ⌜ Standing n (now table) b ⌝ }
+    requires { ⌜ StandingAt n (now table) (nextAt (now table) b) ⌝ }
+    ensures { λ _. ⌜ now (table .exit) ≡ endAt (now (table .entry)) b ⌝ }
+{
+    let node = node_at(table, n, b);
+    let size = node.size;
+    let prev = node.prev;
+    let next = node.next;
+    set_prev(table, n, next, 0);
+    fat_node::set_node(
+        table,
+        n,
+        b,
+        Node {
+            size,
+            prev,
+            next: 0,
+        },
+    );
+    fat_node::set_head(table, next);
+}
+
+// Ends a chain after m blocks of the node at block b; the rest of the node and what comes after it become the free chain.
+fn split_at(table: &mut [u8], n: usize, b: usize, m: usize)
+    requires { ⌜ Standing n (now table) b ⌝ }
+    requires { ⌜ StandingAt n (now table) (nextAt (now table) b) ⌝ }
+    requires { ⌜ (1 ≤ m) × (m < sizeAt (now table) b) ⌝ }
+    ensures { λ _. ⌜ now (table .exit) ≡ splitAt (now (table .entry)) b m ⌝ }
+{
+    let node = node_at(table, n, b);
+    let prev = node.prev;
+    let next = node.next;
+    let rest = node.size - m;
+    let right = b + m;
+    set_prev(table, n, next, right + 1);
+    fat_node::set_node(
+        table,
+        n,
+        b,
+        Node {
+            size: m,
+            prev,
+            next: 0,
+        },
+    );
+    fat_node::set_node(
+        table,
+        n,
+        right,
+        Node {
+            size: rest,
+            prev: 0,
+            next,
+        },
+    );
+    fat_node::set_head(table, right + 1);
+}
+
+// Ends a chain after m blocks of the node at block b; what comes after becomes the free chain.
+fn cut(table: &mut [u8], n: usize, b: usize, m: usize)
+    requires { ⌜ Standing n (now table) b ⌝ }
+    requires { ⌜ StandingAt n (now table) (nextAt (now table) b) ⌝ }
+    requires { ⌜ (1 ≤ m) × (m ≤ sizeAt (now table) b) ⌝ }
+    ensures { λ _. ⌜ now (table .exit) ≡ cutAt (now (table .entry)) b m ⌝ }
+{
+    let size = size_at(table, n, b);
+    if m == size {
+        end_at(table, n, b);
+    } else {
+        split_at(table, n, b, m);
+    }
+}
+
+// Where a block of a chain lies: the part-th of the node at block `node`; or part blocks past the end of the chain, whose last node index `last` names.
+pub enum Sought {
+    Within { node: usize, part: usize },
+    Past { last: usize, part: usize },
+}
+
+// Seeks the count-th block of the chain that index first starts, hopping by node.
+fn seek(table: &[u8], n: usize, first: usize, count: usize) -> Sought
+    requires { ⌜ ChainFrom n (now table) first ⌝ }
+    requires { ⌜ 1 ≤ count ⌝ }
+    ensures { λ r. ⌜ SeekSays (chainAt (now (table .entry)) n first) count r ⌝ }
+{
+    let mut i = first;
+    let mut last: usize = 0;
+    let mut k = count;
+    while i != 0 {
+        let b = i - 1;
+        let size = size_at(table, n, b);
+        if k <= size {
+            return Sought::Within { node: b, part: k };
+        }
+        k -= size;
+        last = i;
+        i = fat_node::next_of(table, b);
+    }
+    Sought::Past { last, part: k }
 }
