@@ -29,6 +29,10 @@ pub fn new(call: &Call) -> Outcome<u8> {
         file_max: bounded("--files", Some(256), 0, 65_535)? + 1,
         buckets: bounded("--buckets", Some(61), 1, 65_536)?,
     };
+    let bytes = shape.blocks * shape.block_len;
+    if Vec::<u8>::new().try_reserve_exact(bytes).is_err() {
+        return Err(Fail::failed(format!("{}: no memory for {} of data", path.display(), count(bytes as u64, "byte"))));
+    }
     let place = Place::at(path)?;
     if place.exists() {
         return Err(Fail::failed(format!("{}: it exists already; a new volume needs a new name", path.display())));
@@ -53,29 +57,29 @@ pub fn put(call: &Call) -> Outcome<u8> {
     let host = Path::new(&call.words[1]);
     let mut path = call.path(2)?;
     let (place, mut session) = Session::change(Path::new(&call.words[0]))?;
-    if host.is_dir() {
-        return Err(Fail::failed(format!("{}: this is a folder; put takes files", host.display())));
-    }
-    let bytes = fs::read(host).map_err(|e| Fail::host(host, &e))?;
     let own_name = || host_name(host);
     into_directory(&session, &mut path, own_name)?;
     let (parents, name) = path.split().expect("a name was added");
     let about = joined(&path.names);
     let dir = session.dir(parents)?;
-
-    match session.child(dir, Kind::File, name) {
-        Some(at) if call.has("--replace") => {
-            replace(&mut session, at, &bytes).map_err(|r| full(&about, &bytes, &session, r))?
-        }
-        Some(_) => {
-            let line = format!("{about}: there is such a file; --replace would change it [AlreadyExist 11]");
-            return Err(Fail::failed(line));
-        }
+    let there = session.child(dir, Kind::File, name);
+    if there.is_some() && !call.has("--replace") {
+        let line = format!("{about}: there is such a file; --replace would change it [AlreadyExist 11]");
+        return Err(Fail::failed(line));
+    }
+    let room = session.volume.free() + there.map_or(0, |at| session.entries[at].blocks.len());
+    let bytes = read_host(host, &about, &session, room)?;
+    let done = match there {
+        Some(at) => replace(&mut session, at, &bytes),
         None => {
             let parent = session.entries[dir].inode;
-            add(&mut session.volume, parent, name, &bytes).map_err(|r| full(&about, &bytes, &session, r))?;
+            add(&mut session.volume, parent, name, &bytes)
         }
-    }
+    };
+    done.map_err(|r| match r {
+        Refusal::NoSpace => Fail::failed(format!("{about}: the table of files is full [NoSpace 6]")),
+        _ => Fail::refused(&about, r),
+    })?;
     let blocks = session_blocks(&session, bytes.len());
     session.save(&place)?;
     say(&format!("put {about}: {} in {}\n", count(bytes.len() as u64, "byte"), count(blocks as u64, "block")))?;
@@ -87,17 +91,26 @@ fn session_blocks(session: &Session, bytes: usize) -> usize {
     bytes.div_ceil(session.volume.parts().block_len)
 }
 
-/// Why a file could not be put: mostly, what was too small.
-fn full(about: &str, bytes: &[u8], session: &Session, refusal: Refusal) -> Fail {
-    let (need, free) = (session_blocks(session, bytes.len()), session.volume.free());
-    let line = match refusal {
-        Refusal::NoSpace if need > free => {
-            format!("{about}: it needs {}, and {} free", count(need as u64, "block"), are(free))
+/// The bytes of a host file, if so many blocks have room for them. What has none is not read.
+fn read_host(host: &Path, about: &str, session: &Session, room: usize) -> Outcome<Vec<u8>> {
+    let too_long = |len: usize| {
+        let need = session_blocks(session, len);
+        match need > room {
+            true => {
+                let line = format!("{about}: it needs {}, and {} free", count(need as u64, "block"), are(room));
+                Err(Fail::failed(format!("{line} [NoSpace 6]")))
+            }
+            false => Ok(()),
         }
-        Refusal::NoSpace => format!("{about}: the table of files is full"),
-        _ => return Fail::refused(about, refusal),
     };
-    Fail::failed(format!("{line} [{} {}]", refusal.name(), refusal.number()))
+    let about_host = fs::metadata(host).map_err(|e| Fail::host(host, &e))?;
+    if about_host.is_dir() {
+        return Err(Fail::failed(format!("{}: this is a folder; put takes files", host.display())));
+    }
+    too_long(about_host.len() as usize)?;
+    let bytes = fs::read(host).map_err(|e| Fail::host(host, &e))?;
+    too_long(bytes.len())?;
+    Ok(bytes)
 }
 
 fn are(n: usize) -> String {

@@ -87,8 +87,8 @@ fn lift(session: &mut Session, part: &Path) -> Outcome<Lifted> {
                 lifted.left.extend(session.finding_of(at).map(|f| f.line.clone()));
             }
             Kind::File => {
-                progress.at(lifted.bytes, &session.path(at));
-                lifted.bytes += lift_file(session, at, &host)?;
+                let (before, path) = (lifted.bytes, session.path(at));
+                lifted.bytes += lift_file(session, at, &host, |done| progress.at(before + done, &path))?;
                 lifted.files += 1;
             }
         }
@@ -108,11 +108,15 @@ fn host_name(session: &Session, at: usize) -> String {
 }
 
 /// Writes a file, reads it back, and compares it with the volume, which is read once more.
-fn lift_file(session: &mut Session, at: usize, host: &Path) -> Outcome<u64> {
+fn lift_file(session: &mut Session, at: usize, host: &Path, mut progress: impl FnMut(u64)) -> Outcome<u64> {
     let bytes = session.content(at)?;
-    let write = || {
+    let mut write = || {
         let mut file = File::create_new(host)?;
-        file.write_all(&bytes)?;
+        progress(0);
+        for (i, part) in bytes.chunks(1 << 20).enumerate() {
+            file.write_all(part)?;
+            progress((i as u64) << 20);
+        }
         file.sync_all()?;
         fs::read(host)
     };
