@@ -1,0 +1,5 @@
+-- The mathematics of the two passes, and the counts that they find.
+pub mod Laws
+pub mod Ends
+pub mod Cover
+pub mod Counts

@@ -1,0 +1,113 @@
+-- `fat_ends::judge` meets its contract. Assumes nothing.
+use Rattle.fat_ends.proofs.Ends.{links-ready, head-is, head-fits, tile-covered, free-ready, all-good, sound-long, backs-long}
+use Rattle.fat_ends.proofs.Laws.{untrue}
+use Rattle.fat_ends.specs.Ends.{TiledAs}
+use Rattle.fat_table.specs.Sound.{Counted, File}
+use Rattle.fat_node.specs.Reads.{HeadReads}
+use lib.ListN.{length}
+use native.Mathlib.Omega.{arith}
+use Prim.Native.Nat.{ℕ}
+use mathlib.Core.Path.{_≡_, sym, subst, subst⁻¹, _∙_}
+use borrow.Author.Needs.{needs}
+use Rattle.fat_ends.proofs.Counts.{counted}
+use Rattle.fat_ends.proofs.judge.Statement.{statement}
+use Rattle.fat_ends.proofs.judge.Tie as tie
+
+get-head-requires : tie.Need-get-head-requires
+get-head-requires c κs = search needs
+
+enum-known-head : tie.Need-enum-known-head
+enum-known-head c = search needs
+
+enum-told : tie.Need-enum-told
+enum-told c = search needs
+
+returns : tie.Need-returns
+returns c = λ s. subst (HeadReads (c .before .before .before .before .before .args .table .now)) (c .enum-told .given .1) (c .before .before .get-head .ensures) (s .head)
+
+tile-requires : tie.Need-tile-requires
+tile-requires c κs =
+    let hd = subst (HeadReads (c .before .before .before .before .before .before .before .args .table .now)) (c .before .before .head .given .1) (c .before .before .before .before .get-head .ensures) in
+    (c .before .before .before .before .before .before .before .pre .0, (c .before .before .before .before .before .before .before .pre .1 .0, (c .before .before .before .before .before .before .before .pre .1 .1, hd .1)))
+
+enum-known-r : tie.Need-enum-known-r
+enum-known-r c = search needs
+
+enum-told-2 : tie.Need-enum-told-2
+enum-told-2 c = search needs
+
+same-length : tie.Need-same-length
+same-length c = search needs
+
+returns-2 : tie.Need-returns-2
+returns-2 c = λ s. subst (TiledAs (c .before .before .before .before .before .before .before .before .before .before .before .before .args .table .now) (length (c .before .before .before .before .before .before .before .before .before .before .before .before .args .work .now)) (c .before .before .before .before .tile .last .1 .0)) (c .enum-told2 .given .1) (c .before .before .before .before .tile .ensures) (s .covered)
+
+head-fits-requires : tie.Need-head-fits-requires
+head-fits-requires c κs = search needs
+
+links-requires : tie.Need-links-requires
+links-requires c κs =
+    let l : length (c .before .before .before .before .before .before .before .before .before .tile .last .1 .0) ≡ length (c .before .before .before .before .before .before .before .before .before .before .before .before .before .before .before .before .before .args .work .now) = c .before .before .before .before .before .before .before .before .before .tile .kept .1 .0 in
+    let q = subst (TiledAs (c .before .before .before .before .before .before .before .before .before .before .before .before .before .before .before .before .before .args .table .now) (length (c .before .before .before .before .before .before .before .before .before .before .before .before .before .before .before .before .before .args .work .now)) (c .before .before .before .before .before .before .before .before .before .tile .last .1 .0)) (c .before .before .before .before .before .r .given .1) (c .before .before .before .before .before .before .before .before .before .tile .ensures) in
+    (omega arith, (omega arith, (links-ready l (q .0), backs-long l (q .1))))
+
+free-of-requires : tie.Need-free-of-requires
+free-of-requires c κs =
+    let l : length (c .before .before .before .before .before .before .before .before .before .before .before .before .before .before .tile .last .1 .0) ≡ length (c .before .before .before .before .before .before .before .before .before .before .before .before .before .before .before .before .before .before .before .before .before .before .args .work .now) = c .before .before .before .before .before .before .before .before .before .before .before .before .before .before .tile .kept .1 .0 in
+    let q = subst (TiledAs (c .before .before .before .before .before .before .before .before .before .before .before .before .before .before .before .before .before .before .before .before .before .before .args .table .now) (length (c .before .before .before .before .before .before .before .before .before .before .before .before .before .before .before .before .before .before .before .before .before .before .args .work .now)) (c .before .before .before .before .before .before .before .before .before .before .before .before .before .before .tile .last .1 .0)) (c .before .before .before .before .before .before .before .before .before .before .r .given .1) (c .before .before .before .before .before .before .before .before .before .before .before .before .before .before .tile .ensures) in
+    let f = free-ready l (c .before .before .before .before .links .ensures .0 (c .before .if2 .taken)) (head-is l (q .0) (c .before .before .before .before .before .before .before .head-fits .ensures .0 (c .before .before .before .before .before .before .if1 .taken))) in
+    let e = f .0 in
+    (omega arith, (omega arith, f .1))
+
+same-length-2 : tie.Need-same-length-2
+same-length-2 c = search needs
+
+returns-3 : tie.Need-returns-3
+returns-3 c =
+    let l : length (c .before .before .before .before .before .before .before .before .before .before .before .before .before .before .before .tile .last .1 .0) ≡ length (c .before .before .before .before .before .before .before .before .before .before .before .before .before .before .before .before .before .before .before .before .before .before .before .args .work .now) = c .before .before .before .before .before .before .before .before .before .before .before .before .before .before .before .tile .kept .1 .0 in
+    let q = subst (TiledAs (c .before .before .before .before .before .before .before .before .before .before .before .before .before .before .before .before .before .before .before .before .before .before .before .args .table .now) (length (c .before .before .before .before .before .before .before .before .before .before .before .before .before .before .before .before .before .before .before .before .before .before .before .args .work .now)) (c .before .before .before .before .before .before .before .before .before .before .before .before .before .before .before .tile .last .1 .0)) (c .before .before .before .before .before .before .before .before .before .before .before .r .given .1) (c .before .before .before .before .before .before .before .before .before .before .before .before .before .before .before .tile .ensures) in
+    let hd = subst (HeadReads (c .before .before .before .before .before .before .before .before .before .before .before .before .before .before .before .before .before .before .before .before .before .before .before .args .table .now)) (c .before .before .before .before .before .before .before .before .before .before .before .before .before .before .before .before .before .before .head .given .1) (c .before .before .before .before .before .before .before .before .before .before .before .before .before .before .before .before .before .before .before .before .get-head .ensures) in
+    counted (all-good l
+    (c .before .before .before .before .before .links .ensures .0 (c .before .before .if2 .taken), subst⁻¹ (λ (y : ℕ). Counted (File (c .before .before .before .before .before .before .before .before .before .before .before .before .before .before .before .before .before .before .before .before .before .before .before .args .table .now) y) y (c .before .before .before .before .before .before .before .before .before .before .before .r .given .0 .0)) l (q .2))
+    (hd .0) (tile-covered (q .0)) (hd .1) (head-is l (q .0) (c .before .before .before .before .before .before .before .before .head-fits .ensures .0 (c .before .before .before .before .before .before .before .if1 .taken))) (c .free-of .ensures))
+
+same-length-3 : tie.Need-same-length-3
+same-length-3 c = search needs
+
+returns-4 : tie.Need-returns-4
+returns-4 c =
+    let l : length (c .before .before .before .before .before .before .before .before .before .before .before .before .before .tile .last .1 .0) ≡ length (c .before .before .before .before .before .before .before .before .before .before .before .before .before .before .before .before .before .before .before .before .before .args .work .now) = c .before .before .before .before .before .before .before .before .before .before .before .before .before .tile .kept .1 .0 in
+    λ s. untrue (sym (c .if2 .left) ∙ c .before .before .before .links .ensures .1 (sound-long l s))
+
+same-length-4 : tie.Need-same-length-4
+same-length-4 c = search needs
+
+returns-5 : tie.Need-returns-5
+returns-5 c =
+    let l : length (c .before .before .before .before .before .before .before .before .tile .last .1 .0) ≡ length (c .before .before .before .before .before .before .before .before .before .before .before .before .before .before .before .before .args .work .now) = c .before .before .before .before .before .before .before .before .tile .kept .1 .0 in
+    let q = subst (TiledAs (c .before .before .before .before .before .before .before .before .before .before .before .before .before .before .before .before .args .table .now) (length (c .before .before .before .before .before .before .before .before .before .before .before .before .before .before .before .before .args .work .now)) (c .before .before .before .before .before .before .before .before .tile .last .1 .0)) (c .before .before .before .before .r .given .1) (c .before .before .before .before .before .before .before .before .tile .ensures) in
+    let hd = subst (HeadReads (c .before .before .before .before .before .before .before .before .before .before .before .before .before .before .before .before .args .table .now)) (c .before .before .before .before .before .before .before .before .before .before .before .head .given .1) (c .before .before .before .before .before .before .before .before .before .before .before .before .before .get-head .ensures) in
+    λ s. untrue (sym (c .if1 .left) ∙ c .before .head-fits .ensures .1 (head-fits l (q .0) (hd .1) s))
+
+pub judge-spec : {M : Type 1} → statement M
+judge-spec =
+    tie.close
+    (tie.spec
+    get-head-requires
+    enum-known-head
+    enum-told
+    returns
+    tile-requires
+    enum-known-r
+    enum-told-2
+    same-length
+    returns-2
+    head-fits-requires
+    links-requires
+    free-of-requires
+    same-length-2
+    returns-3
+    same-length-3
+    returns-4
+    same-length-4
+    returns-5)

@@ -1,0 +1,21 @@
+-- What the tiling says of the sizes of the nodes, by where they start.
+-- Assumes nothing.
+use mathlib.Core.Path.{_≡_}
+use mathlib.Core.List.{List, [], _∷_}
+use Prim.Native.Nat.{ℕ, _+_, _<_}
+use lib.ListN.{length, getD}
+use Rattle.fat_node.specs.Node.{NodeAt, prevAt, nextAt}
+use Rattle.fat_table.specs.Sound.{IsNode, Along, Reached}
+
+unfoldable pub total : List ℕ → ℕ
+total [] = 0
+total (x ∷ l) = x + total l
+
+-- the nodes of t are exactly where w is not 0, which is their size
+pub record Tiled (t : List ℕ) (n : ℕ) (w : List ℕ) : Type 0 where
+  pub node : (b : ℕ) → 0 < getD w b 0 → IsNode t n b × NodeAt t n b (getD w b 0)
+  pub mark : (b : ℕ) → IsNode t n b → 0 < getD w b 0
+  pub whole : total w ≡ n
+
+abbrev pub HeadFits : List ℕ → List ℕ → ℕ → Type 0
+HeadFits t w h = (j : ℕ) → h ≡ j + 1 → (0 < getD w j 0) × (prevAt t j ≡ 0)
