@@ -17,6 +17,7 @@ use mukthiban::Parts;
 use std::ffi::OsString;
 use std::fs::{self, File};
 use std::io::{self, Write};
+use std::os::unix::fs::{chown, MetadataExt};
 use std::path::{Path, PathBuf};
 use std::sync::atomic::{AtomicU64, Ordering};
 
@@ -154,15 +155,11 @@ impl Place {
             file.write_all(front).map_err(at(&path))?;
             step();
             file.write_all(back).map_err(at(&path))?;
-            if let Ok(before) = fs::metadata(self.folder.join(name)) {
-                file.set_permissions(before.permissions()).map_err(at(&path))?;
-            }
+            like(&path, &self.folder.join(name)).map_err(at(&path))?;
             file.sync_all().map_err(at(&path))?;
             step();
         }
-        if let Ok(before) = fs::metadata(&self.folder) {
-            fs::set_permissions(new_one, before.permissions()).map_err(at(new_one))?;
-        }
+        like(new_one, &self.folder).map_err(at(new_one))?;
         sync(new_one).map_err(at(new_one))?;
         sync(&self.parent).map_err(at(&self.parent))?;
         step();
@@ -218,6 +215,17 @@ fn lock(parent: &Path) -> Option<File> {
     let folder = File::open(parent).ok()?;
     folder.lock().ok()?;
     Some(folder)
+}
+
+/// Gives a new file or folder the owner and the permissions of the one that it replaces, if there is one.
+fn like(new_one: &Path, before: &Path) -> io::Result<()> {
+    let Ok(before) = fs::metadata(before) else { return Ok(()) };
+    let now = fs::metadata(new_one)?;
+    if (now.uid(), now.gid()) != (before.uid(), before.gid()) {
+        // only the administrator may; for others the file becomes theirs
+        let _ = chown(new_one, Some(before.uid()), Some(before.gid()));
+    }
+    fs::set_permissions(new_one, before.permissions())
 }
 
 fn sync(folder: &Path) -> io::Result<()> {

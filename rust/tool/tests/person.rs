@@ -534,6 +534,20 @@ fn other_files_in_the_folder_stay() {
 }
 
 #[test]
+fn owner_and_permissions_stay() {
+    use std::os::unix::fs::{chown, MetadataExt, PermissionsExt};
+    let b = two_files();
+    let data = b.at("v/data.bin");
+    fs::set_permissions(&data, fs::Permissions::from_mode(0o640)).unwrap();
+    fs::set_permissions(b.at("v"), fs::Permissions::from_mode(0o750)).unwrap();
+    let _ = chown(&data, Some(1234), Some(1234)); // where the test may
+    let seen = |path: &Path| fs::metadata(path).map(|m| (m.mode(), m.uid(), m.gid())).unwrap();
+    let before = (seen(&data), seen(&b.at("v")));
+    b.done(&["mkdir", "v", "d"]);
+    assert_eq!((seen(&data), seen(&b.at("v"))), before);
+}
+
+#[test]
 fn many_at_once() {
     let b = Bench::with_volume();
     b.host("f", b"12345");
