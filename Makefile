@@ -4,10 +4,14 @@ test:
 	tools/gate
 
 # Against the Rust: the long comparison, with a new seed or SEED=number.
-.PHONY: oracle
+.PHONY: oracle bench
 oracle:
 	if [ -d crates/mukthiban/src ]; then rt staticlib mukthiban > /dev/null; fi
 	cd oracle && cargo run --offline --release --quiet -p compare -- long $(SEED)
+# The original, a careful test in plain Rust, and the library, measured in one run.
+bench:
+	if [ -d crates/mukthiban/src ]; then rt staticlib mukthiban > /dev/null; fi
+	cd oracle && cargo run --offline --release --quiet -p bench
 
 # A sample volume, looked at, lifted and damaged.
 .PHONY: demo

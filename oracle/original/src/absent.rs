@@ -25,6 +25,7 @@ absent! {
         fn data(&self) -> Vec<u8>;
         fn holds(&self, table: &[u8], data: &[u8]) -> bool;
         fn set(&self, table: &[u8], data: &[u8]) -> ();
+        fn set_table(&self, table: &[u8]) -> ();
         fn list(&mut self, first: usize) -> Result<Vec<u32>, u32>;
         fn fresh_list(&self, first: usize) -> Result<Vec<u32>, u32>;
         fn create(&mut self, count: usize) -> Result<usize, u32>;
@@ -42,6 +43,7 @@ absent! {
         fn four(&self) -> [Vec<u8>; 4];
         fn holds(&self, four: [&[u8]; 4]) -> bool;
         fn set(&self, four: [&[u8]; 4]) -> ();
+        fn drop_handles(&mut self) -> ();
         fn open_dir(&mut self, ino: u32) -> ();
         fn open_file(&mut self, ino: u32) -> ();
         fn close_dir(&mut self, ino: u32) -> ();

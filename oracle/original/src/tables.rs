@@ -63,6 +63,11 @@ impl Tables {
         }
     }
 
+    pub fn drop_handles(&mut self) {
+        self.dirs.clear();
+        self.files.clear();
+    }
+
     fn dir(&self, ino: u32) -> Dir {
         Dir::open_ino(self.fs.clone(), ino).map_err(number).unwrap()
     }

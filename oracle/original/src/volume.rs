@@ -48,6 +48,9 @@ impl Volume {
     pub fn holds(&self, table: &[u8], data: &[u8]) -> bool {
         self.table.holds(table) && self.data.holds(data)
     }
+    pub fn set_table(&self, table: &[u8]) {
+        self.table.set(table);
+    }
     /// Puts other bytes of the same lengths into the two files, behind the original's back.
     pub fn set(&self, table: &[u8], data: &[u8]) {
         self.table.set(table);

@@ -41,13 +41,6 @@ fn stat(s: Stat) -> Answered {
 fn named(n: Named) -> Answered {
     Answered::with(n.number, &[n.offset as u64])
 }
-fn carried_dir(c: CarriedDir) -> Answered {
-    Answered::carrying(c.number, &c.bytes)
-}
-fn carried_file(c: CarriedFile) -> Answered {
-    Answered::carrying(c.number, &c.bytes)
-}
-
 /// A call over table, data, block length and work list, if it is there.
 macro_rules! on_volume {
     ($to:ident, $call:ident, $lent:ident $(, $more:expr)*) => {
@@ -169,8 +162,17 @@ unsafe fn tree_call(call: &TreeCall, lent: &mut Tree) -> Option<Answered> {
             on_four!(plain, mukthiban_tree_name_answer, lent, kind, inode)
         }
         TreeCall::Carried { kind, inode } => match kind {
-            Kind::Dir => on_four!(carried_dir, mukthiban_tree_carried_dir, lent, inode),
-            Kind::File => on_four!(carried_file, mukthiban_tree_carried_file, lent, inode),
+            // The lent place holds junk before, so that a byte left alone shows.
+            Kind::Dir => {
+                let mut place = [0xEE; 4];
+                let number = on_four!(plain, mukthiban_tree_carried_dir, lent, inode, &mut place)?;
+                Some(Answered::carrying(number.number, &place))
+            }
+            Kind::File => {
+                let mut place = [0xEE; 20];
+                let number = on_four!(plain, mukthiban_tree_carried_file, lent, inode, &mut place)?;
+                Some(Answered::carrying(number.number, &place))
+            }
         },
         TreeCall::SetCarried { kind, inode, ref carried } => match kind {
             Kind::Dir => {

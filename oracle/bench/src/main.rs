@@ -1,0 +1,21 @@
+//! `bench [quick]`: the original, a careful test in plain Rust, and the port, on the same inputs in one run. It prints tables in Markdown.
+
+mod careful;
+mod measure;
+mod shapes;
+
+use measure::{blocks, tree};
+
+fn main() {
+    let quick = std::env::args().any(|word| word == "quick");
+    println!("Times in microseconds: the median of several runs. `own` is the port's time less its test's.");
+    println!("`test` is at most 1.0 times `careful` and `own` at most 1.2 times `original` where the aim is met.");
+    if !original::PRESENT {
+        println!("!!!! THE ORIGINAL'S SOURCE IS NOT HERE: IT IS NOT MEASURED. !!!!");
+    }
+    if !port::Library::has_blocks() || !port::Library::has_tree() {
+        println!("!!!! THE PROVED LIBRARY LACKS CALLS: THEY ARE NOT MEASURED. !!!!");
+    }
+    blocks::run(quick);
+    tree::run(quick);
+}
