@@ -10,13 +10,8 @@ use Rattle.meta_key.specs.Key.{nameKey}
 use Rattle.meta_key.specs.Hash.{hashOf}
 use Rattle.meta_table.specs.Field.{field, Write, write, wrote}
 use Rattle.meta_table.specs.View.{View, place, hashAt, parent}
-use Rattle.meta_table.specs.Steps.{taken, takeWrites, enterWrites, bucketBefore, childBefore, cutWrites, giveWrites}
+use Rattle.meta_table.specs.Steps.{taken, takeWrites, enterWrites, bucketBefore, childBefore, cutWrites, headWrites, giveWrites}
 use Rattle.fs_meta.specs.Tables.{Tables, tables, dirs, files}
-
--- the first entry of a list leaves it: what follows it is written where the list's head stands (t says that it is the first)
-abbrev pub headWrites : Bool → ℕ → ℕ → ℕ → List Write
-headWrites true e f new = write e f new ∷ []
-headWrites false e f new = []
 
 -- take: the entry that make uses, out of the removed list or new
 abbrev pub takenDir : Tables → Tables

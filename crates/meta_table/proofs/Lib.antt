@@ -3,3 +3,4 @@ pub mod Table
 pub mod Agree
 pub mod Steps
 pub mod Chain
+pub mod Cases

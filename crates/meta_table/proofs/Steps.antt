@@ -131,7 +131,7 @@ module _ (n r o : ℕ) (m : ℕ → ℕ → ℕ) (h hd : ℕ → ℕ) (x : ℕ) 
         head = upd hd (m x 1) (pick u (m x 6) (hd (m x 1)));
         key = λ z. keyAt m z;
       })
-      (viewOf n r o (reads (cutWrites u q 6 (m x 6) ++ cutWrites t p 0 (m x 0)) m) (pick t (upd h b (m x 0)) h) (pick u (upd hd (m x 1) (m x 6)) hd))
+      (viewOf n r o (reads (cutWrites t p 0 (m x 0) ++ cutWrites u q 6 (m x 6)) m) (pick t (upd h b (m x 0)) h) (pick u (upd hd (m x 1) (m x 6)) hd))
   cut-agrees true true p q = record {
     buckets = refl;
     room = refl;
@@ -184,7 +184,7 @@ module _ (n r o : ℕ) (m : ℕ → ℕ → ℕ) (h hd : ℕ → ℕ) (x : ℕ) 
   -- the two tests put in: the step on views
   pub unlink-agrees :
       Agree (unlink v x)
-      (viewOf n r o (reads (cutWrites (eqb (childBefore v x) 0) (childBefore v x) 6 (m x 6) ++ cutWrites (eqb (bucketBefore v x) 0) (bucketBefore v x) 0 (m x 0)) m)
+      (viewOf n r o (reads (cutWrites (eqb (bucketBefore v x) 0) (bucketBefore v x) 0 (m x 0) ++ cutWrites (eqb (childBefore v x) 0) (childBefore v x) 6 (m x 6)) m)
       (pick (eqb (bucketBefore v x) 0) (upd h b (m x 0)) h) (pick (eqb (childBefore v x) 0) (upd hd (m x 1) (m x 6)) hd))
   unlink-agrees = cut-agrees (eqb (bucketBefore v x) 0) (eqb (childBefore v x) 0) (bucketBefore v x) (childBefore v x)
 

@@ -34,6 +34,11 @@ abbrev pub cutWrites : Bool → ℕ → ℕ → ℕ → List Write
 cutWrites true p f new = []
 cutWrites false p f new = write p f new ∷ []
 
+-- and then, where x is the first, what follows it is written to field f of entry e, where the list's head stands
+abbrev pub headWrites : Bool → ℕ → ℕ → ℕ → List Write
+headWrites true e f new = write e f new ∷ []
+headWrites false e f new = []
+
 -- n fields from f on of entry 0, over those of entry x
 abbrev pub copyWrites : ℕ → ℕ → (ℕ → ℕ → ℕ) → ℕ → List Write
 copyWrites zero f m x = []
