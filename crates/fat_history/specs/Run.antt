@@ -1,0 +1,37 @@
+-- A run of the block layer: format, and then create, resize and delete, each answered Done. A step of a run is the call's own promise, with its inputs and
+-- what it gave. Assumes nothing.
+use mathlib.Core.Path.{_≡_}
+use mathlib.Core.List.{List}
+use Prim.Native.Nat.{ℕ, zero, suc, _+_, _<_}
+use lib.ListN.{getD}
+use Rattle.order.specs.declared.Answer.{Answer}
+use Rattle.order.specs.declared.Answer.the-variants.{Done}
+use Rattle.fat_node.specs.Entry.{Bytes}
+use Rattle.fat_node.specs.Format.{FormatPromise}
+use Rattle.fat_node.specs.declared.Formatted.{Formatted}
+use Rattle.fat.specs.Promise.{Beside}
+use Rattle.fat.specs.Calls.{Create, CreatePromise, Change, ResizePromise, DeletePromise}
+
+-- every number of the list is a byte, as in a slice of u8
+abbrev pub AreBytes : Bytes → Type 0
+AreBytes t = (i : ℕ) → getD t i 0 < 256
+
+-- a run of k calls after format, that ends in the table; d is the length of the data, l the block length
+pub data Run : ℕ → Bytes → Type 0 where
+  formats : (t t′ : Bytes) (r : Formatted) → AreBytes t → FormatPromise t r t′ → r .answer ≡ Done → Run 0 t′
+  creates : (k : ℕ) (t : Bytes) → Run k t → (d l : ℕ) (work : List ℕ) (count : ℕ) (o : Beside Create) → CreatePromise t d l work count o
+      → o .given .answer ≡ Done
+      → Run (suc k) (o .given .table)
+  resizes : (k : ℕ) (t : Bytes) → Run k t → (d l : ℕ) (work : List ℕ) (b count : ℕ) (o : Beside Change) → ResizePromise t d l work b count o
+      → o .given .answer ≡ Done
+      → Run (suc k) (o .given .table)
+  deletes : (k : ℕ) (t : Bytes) → Run k t → (d l : ℕ) (work : List ℕ) (b : ℕ) (o : Beside Change) → DeletePromise t d l work b o
+      → o .given .answer ≡ Done
+      → Run (suc k) (o .given .table)
+
+-- the calls of a run that are resize
+abbrev pub resizesIn : {k : ℕ} {t : Bytes} → Run k t → ℕ
+resizesIn (formats t t′ r g p e) = 0
+resizesIn (creates k t w d l work count o p e) = resizesIn w
+resizesIn (resizes k t w d l work b count o p e) = suc (resizesIn w)
+resizesIn (deletes k t w d l work b o p e) = resizesIn w

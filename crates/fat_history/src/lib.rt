@@ -1,0 +1,1 @@
+// Whole histories of the calls on a block table: theorems, and no code.
