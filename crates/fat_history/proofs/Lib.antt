@@ -1,2 +1,4 @@
 pub mod Rows
 pub mod Means
+pub mod Reaches
+pub mod Honest

@@ -171,10 +171,10 @@ format-done t f = last-given (formatRows t) (formatDone t) (fits-not-misfit t f,
 -- create ----------------------------------------------------------------------------------------------------------
 
 module _ (t : Bytes) (d l : ℕ) (work : List ℕ) (count : ℕ) where
-  abbrev createAll : List (Row (Beside Create))
+  abbrev pub createAll : List (Row (Beside Create))
   createAll = blockGate (λ a w. beside (createGives a 0 t) w) t d l work ++ within (cleared (blocks t) work) (createRows (blocks t) t count)
 
-  abbrev createLast : Beside Create
+  abbrev pub createLast : Beside Create
   createLast = beside (createDone (blocks t) t count) (cleared (blocks t) work)
 
   -- no row of create applies
@@ -230,10 +230,10 @@ file-stable n t b w h = ⊎-elim (λ f. f) (λ f. absurd (h f)) (file-decided n 
 -- resize ----------------------------------------------------------------------------------------------------------
 
 module _ (t : Bytes) (d l : ℕ) (work : List ℕ) (b count : ℕ) where
-  abbrev resizeAll : List (Row (Beside Change))
+  abbrev pub resizeAll : List (Row (Beside Change))
   resizeAll = blockGate (λ a w. beside (changeGives a t) w) t d l work ++ within (cleared (blocks t) work) (resizeRows (blocks t) t b count)
 
-  abbrev resizeLast : Beside Change
+  abbrev pub resizeLast : Beside Change
   resizeLast = beside (resizeDone (blocks t) t b count) (cleared (blocks t) work)
 
   -- no row of resize applies
@@ -281,10 +281,10 @@ module _ (t : Bytes) (d l : ℕ) (work : List ℕ) (b count : ℕ) where
 -- delete ----------------------------------------------------------------------------------------------------------
 
 module _ (t : Bytes) (d l : ℕ) (work : List ℕ) (b : ℕ) where
-  abbrev deleteAll : List (Row (Beside Change))
+  abbrev pub deleteAll : List (Row (Beside Change))
   deleteAll = blockGate (λ a w. beside (changeGives a t) w) t d l work ++ within (cleared (blocks t) work) (deleteRows (blocks t) t b)
 
-  abbrev deleteLast : Beside Change
+  abbrev pub deleteLast : Beside Change
   deleteLast = beside (deleteDone (blocks t) t b) (cleared (blocks t) work)
 
   -- no row of delete applies
@@ -328,10 +328,10 @@ pub record MayCarry (t d : Bytes) (l : ℕ) (work : List ℕ) (b pos many : ℕ)
   pub enough : pos + many ≤ sizeOf (blocks t) t l b
 
 module _ (t d : Bytes) (l : ℕ) (work : List ℕ) (b pos : ℕ) (buf : Bytes) where
-  abbrev readAll : List (Row (Beside Carry))
+  abbrev pub readAll : List (Row (Beside Carry))
   readAll = blockGate (λ a w. beside (carryGives a buf) w) t (length d) l work ++ within (cleared (blocks t) work) (carryRows (blocks t) t l b pos (length buf) buf)
 
-  abbrev readLast : Beside Carry
+  abbrev pub readLast : Beside Carry
   readLast = beside (readDone (blocks t) t d l b pos buf) (cleared (blocks t) work)
 
   may-read : words.Bytes t → None readAll → MayCarry t d l work b pos (length buf)
@@ -357,10 +357,10 @@ module _ (t d : Bytes) (l : ℕ) (work : List ℕ) (b pos : ℕ) (buf : Bytes) w
       p e in
       (may-read g (w .0), w .1)
 
-  abbrev writeAll : List (Row (Beside Carry))
+  abbrev pub writeAll : List (Row (Beside Carry))
   writeAll = blockGate (λ a w. beside (carryGives a d) w) t (length d) l work ++ within (cleared (blocks t) work) (carryRows (blocks t) t l b pos (length buf) d)
 
-  abbrev writeLast : Beside Carry
+  abbrev pub writeLast : Beside Carry
   writeLast = beside (writeDone (blocks t) t d l b pos buf) (cleared (blocks t) work)
 
   may-write : words.Bytes t → None writeAll → MayCarry t d l work b pos (length buf)

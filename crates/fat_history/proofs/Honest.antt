@@ -1,0 +1,232 @@
+-- Demand 3 over the calls' promises: what a run ends in is sound, and every sound table is what a run ends in, where the rules read. Assumes nothing.
+use mathlib.Core.Path.{_≡_, refl, sym, ap, subst, subst⁻¹, _∙_}
+use mathlib.Core.List.{List, [], _∷_, _++_}
+use mathlib.Core.Logic.{_≢_, _⊎_, inl, inr, ⊎-elim}
+use Prim.Native.Nat.{ℕ, zero, suc, _+_, _-_, _*_, _/_, _≤_, _<_}
+use native.Mathlib.Omega.{arith}
+use lib.ListN.{length, getD, replicate, length-replicate}
+use Rattle.words.proofs.Laws as words
+use Rattle.order.specs.declared.Answer.{Answer}
+use Rattle.order.specs.declared.Answer.the-variants.{Done}
+use Rattle.fat_node.specs.Entry.{Bytes}
+use Rattle.fat_node.specs.Node.{Run, run}
+use Rattle.fat_node.specs.Sizes.{blocks}
+use Rattle.fat_node.specs.Format.{formatted}
+use Rattle.fat_node.specs.declared.Formatted.{Formatted}
+use Rattle.fat_table.specs.Sound.{Sound, File}
+use Rattle.fat_table.specs.Chain.{total, freeAt, fileAt}
+use Rattle.fat_table.specs.Layout.{Layout, layout, taken, left}
+use Rattle.fat_table.specs.Layout as layouts
+use Rattle.fat_table.specs.Steps.{first, created, resized, deleted}
+use Rattle.fat_table.specs.Holds.{Holds}
+use Rattle.fat_table.specs.Counts.{nodes}
+use Rattle.fat_table.specs.Agree.{Agree}
+use Rattle.fat_table.proofs.Layouts.{end-after, length-perm}
+use Rattle.fat_table.proofs.Stepped.{free-read, holds-format, holds-create, holds-delete, holds-order}
+use Rattle.fat_table.proofs.Sounds.{node-size, sound-holds, holds-sound, node-of, in-order}
+use Rattle.fat_table.proofs.Counting.{scan-read}
+use Rattle.fat_table.proofs.Files.{
+  Whole,
+  Seen,
+  seen,
+  some-first,
+  is-file,
+  bytes-formatted,
+  bytes-created,
+  bytes-deleted,
+  whole-formatted,
+  whole-created,
+  whole-resized,
+  whole-deleted,
+}
+use Rattle.fat_table.proofs.Agreeing.{holds-agree, agree-holds}
+use Rattle.fat.specs.Promise.{Beside}
+use Rattle.fat.specs.Calls.{Create, Change}
+use Rattle.fat_history.specs.Run as runs
+use Rattle.fat_history.specs.Run.{AreBytes, formats, creates, resizes, deletes, resizesIn}
+use Rattle.fat_history.proofs.Means.{
+  are-bytes,
+  Fits,
+  Passed,
+  format-means,
+  format-done,
+  create-means,
+  create-done,
+  createLast,
+  resize-means,
+  delete-means,
+  delete-done,
+  deleteLast,
+}
+use Rattle.fat_history.proofs.Reaches as reaches
+use Rattle.fat_history.proofs.Reaches.{Reach, tiled-reach}
+
+-- the number of blocks ------------------------------------------------------------------------------------------
+
+pub blocks-of : (n : ℕ) (t : Bytes) → length t ≡ 8 * (n + 1) → blocks t ≡ n
+blocks-of n t e = omega (arith, e)
+
+pub as-blocks : (n : ℕ) (t : Bytes) → Whole n t → Whole (blocks t) t
+as-blocks n t w = subst⁻¹ (λ (m : ℕ). Whole m t) (blocks-of n t (w .room)) w
+
+-- the tables of a run are whole -----------------------------------------------------------------------------------
+
+pub run-whole : {k : ℕ} {t : Bytes} → runs.Run k t → Whole (blocks t) t × (1 ≤ blocks t)
+run-whole (formats t t′ r g p e) =
+    let w = format-means t t′ r p e in
+    let f : Fits t = w .0 in
+    let h : Whole (blocks t) (formatted (blocks t) t) = whole-formatted (blocks t) t (f .some) (f .few) (are-bytes t g) (f .room) in
+    subst⁻¹ (λ (x : Bytes). Whole (blocks x) x × (1 ≤ blocks x)) (w .1)
+    (as-blocks (blocks t) (formatted (blocks t) t) h, omega (arith, f .some, blocks-of (blocks t) (formatted (blocks t) t) (h .room)))
+run-whole (creates k t v d l work count o p e) =
+    let i = run-whole v in
+    let w = create-means t d l work count o (i .0 .bytes) p e in
+    let n : ℕ = blocks t in
+    let h : Whole n (created n t count) = whole-created n t (i .0) count (w .0 .some) (w .0 .enough) in
+    subst⁻¹ (λ (x : Bytes). Whole (blocks x) x × (1 ≤ blocks x)) (ap (λ (x : Beside Create). x .given .table) (w .1))
+    (as-blocks n (created n t count) h, omega (arith, i .1, blocks-of n (created n t count) (h .room)))
+run-whole (resizes k t v d l work b count o p e) =
+    let i = run-whole v in
+    let w = resize-means t d l work b count o (i .0 .bytes) p e in
+    let n : ℕ = blocks t in
+    let h : Whole n (resized n t b count) = whole-resized n t (i .0) b count (w .0 .file) (w .0 .some) (w .0 .enough) in
+    subst⁻¹ (λ (x : Bytes). Whole (blocks x) x × (1 ≤ blocks x)) (ap (λ (x : Beside Change). x .given .table) (w .1))
+    (as-blocks n (resized n t b count) h, omega (arith, i .1, blocks-of n (resized n t b count) (h .room)))
+run-whole (deletes k t v d l work b o p e) =
+    let i = run-whole v in
+    let w = delete-means t d l work b o (i .0 .bytes) p e in
+    let n : ℕ = blocks t in
+    let h : Whole n (deleted n t b) = whole-deleted n t (i .0) b (w .0 .file) in
+    subst⁻¹ (λ (x : Bytes). Whole (blocks x) x × (1 ≤ blocks x)) (ap (λ (x : Beside Change). x .given .table) (w .1))
+    (as-blocks n (deleted n t b) h, omega (arith, i .1, blocks-of n (deleted n t b) (h .room)))
+
+-- a table that agrees with a run's end is sound
+pub run-sound : (t t′ : Bytes) (k : ℕ) → runs.Run k t′ → Agree (blocks t) t t′ → Sound t (blocks t)
+run-sound t t′ k r a =
+    let w = run-whole r in
+    let e : blocks t′ ≡ blocks t = ap (λ (x : ℕ). x / 8 - 1) (sym (a .room)) in
+    let h : Whole (blocks t) t′ = subst (λ (m : ℕ). Whole m t′) e (w .0) in
+    let s : Seen (blocks t) t′ = seen (blocks t) t′ h in
+    let L : Layout = layout (freeAt (blocks t) t′) (s .files) in
+    holds-sound (blocks t) (h .small) t L (agree-holds (blocks t) (h .small) t t′ L a (s .holds))
+
+-- every tiled layout is held by the end of a run ------------------------------------------------------------------
+
+-- the end of a run of k calls, none of them resize, that holds a layout
+record Made (n k : ℕ) (L : Layout) : Type 0 where
+  end : Bytes
+  run-to : runs.Run k end
+  plain : resizesIn run-to ≡ 0
+  bytes : words.Bytes end
+  blocks-are : blocks end ≡ n
+  holds : Holds n end L
+
+module _ (n : ℕ) (some : 1 ≤ n) (small : n ≤ 1000000) where
+  -- a table that holds a layout may be worked on, with blocks of one byte
+  ready : (t : Bytes) (L : Layout) → words.Bytes t → blocks t ≡ n → Holds n t L → Passed t n 1 (replicate n 0)
+  ready t L g e h =
+      let w : Whole n t = record { small = small; bytes = g; room = h .room; sound = holds-sound n small t L h } in
+      record {
+        whole = as-blocks n t w;
+        some = omega (arith, e, some);
+        data-fits = omega (arith, e);
+        length-fits = (omega arith, omega arith);
+        work-fits = omega (arith, e, length-replicate {A = ℕ} n 0);
+      }
+
+  made-create : {k : ℕ} (free : List Run) (files : List (List Run)) (c : ℕ) → 1 ≤ c → c ≤ total free → Made n k (layout free files)
+      → Made n (suc k) (layout (left free c) (taken free c ∷ files))
+  made-create {k} free files c h l m =
+      let t : Bytes = m .end in
+      let L : Layout = layout free files in
+      let o : Beside Create = createLast t n 1 (replicate n 0) c in
+      let e : blocks t ≡ n = m .blocks-are in
+      let fr : total (freeAt (blocks t) t) ≡ total free = ap (λ (x : ℕ). total (freeAt x t)) e ∙ ap total (free-read n small t L (m .holds)) in
+      let q : o .given .table ≡ created n t c = ap (λ (x : ℕ). created x t c) e in
+      let s : Holds n (o .given .table) (layout (left free c) (taken free c ∷ files)) =
+      subst⁻¹ (λ (x : Bytes). Holds n x (layout (left free c) (taken free c ∷ files))) q (holds-create n small t free files (m .holds) c h l) in
+      record {
+        end = o .given .table;
+        run-to = creates k t (m .run-to) n 1 (replicate n 0) c o
+            (create-done t n 1 (replicate n 0) c (record { passed = ready t L (m .bytes) e (m .holds); some = h; enough = omega (arith, fr, l) })) refl;
+        plain = m .plain;
+        bytes = bytes-created (blocks t) t 0 c (m .bytes);
+        blocks-are = blocks-of n (o .given .table) (s .room);
+        holds = s;
+      }
+
+  made-delete : {k : ℕ} (free f : List Run) (files : List (List Run)) → Made n k (layout free (f ∷ files)) → Made n (suc k) (layout (f ++ free) files)
+  made-delete {k} free f files m =
+      let t : Bytes = m .end in
+      let L : Layout = layout free (f ∷ files) in
+      let at = some-first f (omega (arith, m .holds .tiled .nonempty)) in
+      let b : ℕ = at .0 in
+      let o : Beside Change = deleteLast t n 1 (replicate n 0) b in
+      let e : blocks t ≡ n = m .blocks-are in
+      let i : File t (blocks t) b = subst⁻¹ (λ (x : ℕ). File t x b) e (is-file n small t free f files b (m .holds) (at .1)) in
+      let q : o .given .table ≡ deleted n t b = ap (λ (x : ℕ). deleted x t b) e in
+      let s : Holds n (o .given .table) (layout (f ++ free) files) =
+      subst⁻¹ (λ (x : Bytes). Holds n x (layout (f ++ free) files)) q (holds-delete n small t free f files (m .holds) b (at .1)) in
+      record {
+        end = o .given .table;
+        run-to = deletes k t (m .run-to) n 1 (replicate n 0) b o
+            (delete-done t n 1 (replicate n 0) b (record { passed = ready t L (m .bytes) e (m .holds); file = i })) refl;
+        plain = m .plain;
+        bytes = bytes-deleted (blocks t) t b 0 (m .bytes);
+        blocks-are = blocks-of n (o .given .table) (s .room);
+        holds = s;
+      }
+
+made-format : (t : Bytes) → AreBytes t → Fits t → Made (blocks t) 0 (layout (run 0 (blocks t) ∷ []) [])
+made-format t g f =
+    let n : ℕ = blocks t in
+    let s : Holds n (formatted n t) (layout (run 0 n ∷ []) []) = holds-format n (f .few) t (f .some) (f .room) in
+    record {
+      end = formatted n t;
+      run-to = formats t (formatted n t) (record { answer = Done }) g (format-done t f) refl;
+      plain = refl;
+      bytes = bytes-formatted n t 0 0 (are-bytes t g);
+      blocks-are = blocks-of n (formatted n t) (s .room);
+      holds = s;
+    }
+
+made : (t : Bytes) → AreBytes t → Fits t → {k : ℕ} {L : Layout} → Reach (blocks t) k L → Made (blocks t) k L
+made t g f reaches.formatted = made-format t g f
+made t g f (reaches.create {k} {free} {files} c h l r) = made-create (blocks t) (f .some) (f .few) free files c h l (made t g f r)
+made t g f (reaches.delete {k} {free} {f = c} {files} r) = made-delete (blocks t) (f .some) (f .few) free c files (made t g f r)
+made t g f (reaches.order {k} {free} {fs} {gs} r p) =
+    let m : Made (blocks t) k (layout free fs) = made t g f r in
+    record { end = m .end; run-to = m .run-to; plain = m .plain; bytes = m .bytes; blocks-are = m .blocks-are; holds = holds-order p (m .holds) }
+
+-- the nodes of a table are as many as the runs of its layout
+nodes-many : (n : ℕ) → n ≤ 1000000 → (t : Bytes) (L : Layout) → Holds n t L → length (nodes n t) ≡ length (layouts.runs L)
+nodes-many n small t L s =
+    let o = in-order n small t L s in
+    let nd = node-of n small t L s (o .0) (o .1) (o .2) in
+    ap {B = ℕ} length
+    (scan-read n t (o .0) n 0 (omega (arith, end-after 0 (o .0) n (o .2))) (o .2) (λ r m. node-size t n (r .start) (r .size) (nd r m)))
+    ∙ sym (length-perm (o .1))
+
+-- a run of k creates and deletes after format whose end agrees with t
+pub record Reached (t : Bytes) : Type 0 where
+  pub k : ℕ
+  pub end : Bytes
+  pub run-to : runs.Run k end
+  pub few : k ≤ 3 * length (nodes (blocks t) t)
+  pub plain : resizesIn run-to ≡ 0
+  pub agrees : Agree (blocks t) t end
+
+pub sound-run : (t : Bytes) → AreBytes t → Fits t → Sound t (blocks t) → Reached t
+sound-run t g f s =
+    let n : ℕ = blocks t in
+    let w = sound-holds n t (are-bytes t g) (f .room) s in
+    let v = tiled-reach n (w .0) (f .some) (w .1 .tiled) in
+    let m = made t g f (v .2) in
+    record {
+      k = v .0;
+      end = m .end;
+      run-to = m .run-to;
+      few = omega (arith, v .1, nodes-many n (f .few) t (w .0) (w .1));
+      plain = m .plain;
+      agrees = holds-agree n (f .few) t (m .end) (w .0) (w .1) (m .holds);
+    }
