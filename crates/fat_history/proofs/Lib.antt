@@ -2,3 +2,5 @@ pub mod Rows
 pub mod Means
 pub mod Reaches
 pub mod Honest
+pub mod Lies
+pub mod Theorems

@@ -1,2 +1,4 @@
 pub mod Run
 pub mod Away
+pub mod OneChain
+pub mod KeptBy

@@ -3,6 +3,7 @@ use mathlib.Core.Path.{_≡_}
 use mathlib.Core.List.{List}
 use Prim.Native.Nat.{ℕ}
 use Rattle.order.specs.Gate.{cleared, Refusal, refusal}
+use Rattle.order.specs.First.{First}
 use Rattle.order.specs.Given.{Given, None}
 use Rattle.order.specs.declared.Answer.{Answer}
 use Rattle.order.specs.declared.Answer.the-variants.{Done}
@@ -10,7 +11,7 @@ use Rattle.fat_node.specs.Entry.{Bytes}
 use Rattle.fat_node.specs.Sizes.{blocks}
 use Rattle.fat_table.specs.Sound.{Sound}
 use Rattle.fat_table.specs.Counts.{freeBlocks, otherChains}
-use Rattle.fat_test.specs.Gate.{blockGate}
+use Rattle.fat_test.specs.Gate.{testGate, blockGate}
 use Rattle.fat_test.specs.declared.Tested.{Tested}
 use Rattle.fat_test.specs.declared.Gated.{Gated}
 use Rattle.fat_test.specs.declared.Gated.the-variants.{Open, Refused}
@@ -38,3 +39,7 @@ GateOf t d l work work′ (Open free files) =
     × (free ≡ freeBlocks (blocks t) t)
     × (files ≡ otherChains (blocks t) t)
 GateOf t d l work work′ (Refused answer) = Given (blockGate refusal t d l work) (refusal answer work′)
+
+-- the promise of the test: its rows in document 01's order, and what Done gives
+abbrev pub TestPromise : Bytes → List ℕ → Tested × List ℕ → Type 0
+TestPromise t work o = First (testGate testRefused t work) (testDone t work) o
