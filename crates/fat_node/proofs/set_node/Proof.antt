@@ -68,7 +68,11 @@ same-length-2 : tie.Need-same-length-2
 same-length-2 c = search needs
 
 returns-2 : tie.Need-returns-2
-returns-2 c = search node-put-more
+returns-2 c =
+    node-put-more (c .before .before .before .before .before .before .before .before .before .before .before .before .before .before .before .args .table .now) (c .before .before .before .before .before .before .before .before .before .before .before .before .before .before .before .args .b) (c .before .before .before .before .before .before .before .before .before .before .before .before .before .before .before .args .node .size) (c .before .before .before .before .before .before .before .before .before .before .before .before .before .before .before .args .node .prev) (c .before .before .before .before .before .before .before .before .before .before .before .before .before .before .before .args .node .next)
+    (c .before .before .before .before .before .before .before .before .before .before .before .before .before .prev-half .result) (c .before .before .before .before .before .before .before .before .before .before .before .before .before .prev-half .ensures)
+    (c .before .before .before .before .before .before .before .before .before .before .set-entry2 .last .0) (c .before .before .before .before .before .before .set-entry3 .last .0) (c .before .before .set-entry4 .last .0)
+    (c .before .before .before .before .before .before .before .before .before .before .before .before .if1 .left) (c .before .before .before .before .before .before .before .before .before .before .set-entry2 .ensures) (c .before .before .before .before .before .before .set-entry3 .ensures) (c .before .before .set-entry4 .ensures)
 
 pub set-node-spec : {M : Type 1} → statement M
 set-node-spec =
