@@ -23,3 +23,17 @@ front (r ∷ rs) qs d o (inr p) = inr (p .0, front rs qs d o (p .1))
 pub behind : {A : Type 0} (rs qs : List (Row A)) (d o : A) → None rs → First qs d o → First (rs ++ qs) d o
 behind [] qs d o n p = p
 behind (r ∷ rs) qs d o n p = inr (n .0, behind rs qs d o (n .1) p)
+
+-- where no row applies, what is given is what Done gives
+pub settled : {A : Type 0} (rs : List (Row A)) (d o : A) → None rs → First rs d o → o ≡ d
+settled [] d o n p = p
+settled (r ∷ rs) d o n (inl p) = absurd (n .0 (p .0))
+settled (r ∷ rs) d o n (inr p) = settled rs d o (n .1) (p .1)
+
+-- where a row gives an outcome, that is what is given
+pub refused : {A : Type 0} (rs : List (Row A)) (d o o′ : A) → Given rs o′ → First rs d o → o ≡ o′
+refused [] d o o′ g p = absurd g
+refused (r ∷ rs) d o o′ (inl g) (inl p) = p .1 ∙ sym (g .1)
+refused (r ∷ rs) d o o′ (inl g) (inr p) = absurd (p .0 (g .0))
+refused (r ∷ rs) d o o′ (inr g) (inl p) = absurd (g .0 (p .0))
+refused (r ∷ rs) d o o′ (inr g) (inr p) = refused rs d o o′ (g .1) (p .1)

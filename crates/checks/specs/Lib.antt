@@ -1,0 +1,3 @@
+pub mod Check
+pub mod Blocks
+pub mod Checks

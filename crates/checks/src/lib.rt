@@ -1,0 +1,1 @@
+// The checks of document 01 that are proved: one list, one statement.
