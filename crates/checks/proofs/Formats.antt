@@ -1,15 +1,16 @@
 -- The checks of format. Assumes nothing.
 use mathlib.Core.Path.{_≡_, refl, ap, _∙_}
-use mathlib.Core.Logic.{⊎-elim}
-use Prim.Native.Nat.{ℕ, _+_, _*_, _≤_}
+use mathlib.Core.Logic.{inl, inr, ⊎-elim}
+use Prim.Native.Nat.{ℕ, _+_, _*_, _≤_, _<_}
 use native.Mathlib.Omega.{arith}
 use lib.ListN.{length}
 use Rattle.words.specs.Word.{word, putWord}
-use Rattle.order.proofs.One.{settled}
+use Rattle.order.specs.declared.Answer.the-variants.{InvalidValue}
+use Rattle.order.proofs.One.{settled, refused}
 use Rattle.fat_node.specs.Entry.{Bytes, get, put}
 use Rattle.fat_node.specs.Node.{setNode, setHead, prevHalf, nextHalf}
-use Rattle.fat_node.specs.Sizes.{Misfit, Outside}
-use Rattle.fat_node.specs.Format.{formatted, formatRows, formatDone, FormatPromise}
+use Rattle.fat_node.specs.Sizes.{blocks, Misfit, Outside}
+use Rattle.fat_node.specs.Format.{formatted, formatRows, formatDone, formatGives, FormatPromise}
 use Rattle.fat_node.specs.declared.Formatted.{Formatted}
 use Rattle.checks.specs.Check.{Check, Shows}
 use Rattle.checks.specs.Blocks.{zeros, formats, format4, format1}
@@ -32,3 +33,7 @@ shows4 o p = ap (λ (x : Formatted × Bytes). format4 .seen x) (formats-done (ze
 pub shows1 : Shows format1
 unfolding word putWord get put prevHalf nextHalf setNode setHead formatted
 shows1 o p = ap (λ (x : Formatted × Bytes). format1 .seen x) (formats-done (zeros 1) 1 refl (omega arith) (omega arith) o p)
+
+-- beside the list: a table of more than a million blocks is refused with InvalidValue, and stays as it was
+pub format-many : (t : Bytes) → (Misfit t → ⊥) → 1000000 < blocks t → (o : Formatted × Bytes) → FormatPromise t (o .0) (o .1) → o ≡ formatGives InvalidValue t
+format-many t fit many o p = refused (formatRows t) (formatDone t) o (formatGives InvalidValue t) (inr (fit, inl (inr many, refl))) p
