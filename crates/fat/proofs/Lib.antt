@@ -4,3 +4,4 @@ pub mod Joins
 pub mod Few
 pub mod Cases
 pub mod Walks
+pub mod Hops

@@ -3,8 +3,10 @@ ghost use mathlib.Core.Path.{_≡_};
 ghost use Prim.Native.Nat.{_+_, _*_, _≤_, _<_};
 ghost use lib.ListN.{length};
 ghost use Rattle.fat_node.specs.Node.{prevAt, nextAt};
-ghost use Rattle.fat_table.specs.Chain.{sizeAt, chainAt};
-ghost use Rattle.fat.specs.Inner.{Standing, StandingAt, ChainFrom, withPrev, joinAt, endAt, splitAt, cutAt, SeekSays};
+ghost use mathlib.Core.Bool.{true};
+ghost use Rattle.fat_table.specs.Sound.{IsNode, File};
+ghost use Rattle.fat_table.specs.Chain.{sizeAt, headAt, chainAt};
+ghost use Rattle.fat.specs.Inner.{Volume, Standing, StandingAt, ChainFrom, withPrev, joinAt, endAt, splitAt, cutAt, SeekSays};
 use fat_node::Node;
 
 // Copies one part over another of the same length.
@@ -179,4 +181,44 @@ fn seek(table: &[u8], n: usize, first: usize, count: usize) -> Sought
         i = fat_node::next_of(table, b);
     }
     Sought::Past { last, part: k }
+}
+
+// Whether a node starts at block b, hopping by node from block 0.
+fn starts_at(table: &[u8], n: usize, b: usize) -> bool
+    requires { ⌜ Volume n (now table) ⌝ }
+    requires { ⌜ b < n ⌝ }
+    ensures { λ r. ⌜ (r ≡ true → IsNode (now (table .entry)) n b) × (IsNode (now (table .entry)) n b → r ≡ true) ⌝ }
+{
+    let mut c: usize = 0;
+    while c < b {
+        c += size_at(table, n, c);
+    }
+    c == b
+}
+
+// The index of the first free node.
+fn head_of(table: &[u8]) -> usize
+    requires { ⌜ 8 ≤ length (now table) ⌝ }
+    ensures { λ r. ⌜ r ≡ headAt (now (table .entry)) ⌝ }
+{
+    fat_node::v_of(table, 0) as usize
+}
+
+// Whether block b is the first block of a chain other than the free one.
+pub fn is_file(table: &[u8], n: usize, b: usize) -> bool
+    requires { ⌜ Volume n (now table) ⌝ }
+    ensures { λ r. ⌜ (r ≡ true → File (now (table .entry)) n b) × (File (now (table .entry)) n b → r ≡ true) ⌝ }
+{
+    if n <= b {
+        return false;
+    }
+    if !starts_at(table, n, b) {
+        return false;
+    }
+    let prev = fat_node::prev_of(table, b);
+    if prev != 0 {
+        return false;
+    }
+    let head = head_of(table);
+    head != b + 1
 }
