@@ -6,7 +6,7 @@ use mathlib.Core.List.{List, [], _∷_, _++_}
 use mathlib.Core.Logic.{_⊎_}
 use Prim.Native.Nat.{ℕ, _+_, _-_, _*_, _<_, _≤_}
 use lib.ListN.{length, getD, set, take, drop}
-use Rattle.order.specs.First.{Row, row}
+use Rattle.order.specs.First.{Row, row, First}
 use Rattle.order.specs.declared.Answer.{Answer}
 use Rattle.order.specs.declared.Answer.the-variants.{
   Done,
@@ -177,16 +177,26 @@ pub record Listing : Type 0 where
 abbrev pub listGives : Answer → ℕ → List ℕ → Listing
 listGives answer count list = record { answer = answer; count = count; list = list }
 
+-- where the list xs is to be written: a lent list that is too short; the inodes in list order, and later places as they were
+abbrev pub shortRows : List ℕ → List ℕ → List (Row Listing)
+shortRows xs list = row (length list < length xs) (listGives ListTooShort 0 list) ∷ []
+
+abbrev pub listedDone : List ℕ → List ℕ → Listing
+listedDone xs list = listGives Done (length xs) (xs ++ drop (length xs) list)
+
 -- v are the directories or the files, x the directory whose children in v are listed
 abbrev pub listRows : Tables → View → ℕ → List ℕ → List (Row Listing)
-listRows s v x list =
-    row (LiveIn (dirs s) x → ⊥) (listGives NotFound 0 list)
-    ∷ row (length list < length (childrenOf v x)) (listGives ListTooShort 0 list)
-    ∷ []
+listRows s v x list = row (LiveIn (dirs s) x → ⊥) (listGives NotFound 0 list) ∷ shortRows (childrenOf v x) list
 
--- the inodes in list order; later places stay
 abbrev pub listDone : View → ℕ → List ℕ → Listing
-listDone v x list = listGives Done (length (childrenOf v x)) (childrenOf v x ++ drop (length (childrenOf v x)) list)
+listDone v x list = listedDone (childrenOf v x) list
+
+-- what the two listings say of sound tables
+abbrev pub ListDirs : Tables → ℕ → List ℕ → Listing → Type 0
+ListDirs s x list o = First (listRows s (dirs s) x list) (listDone (dirs s) x list) o
+
+abbrev pub ListFiles : Tables → ℕ → List ℕ → Listing → Type 0
+ListFiles s x list o = First (listRows s (files s) x list) (listDone (files s) x list) o
 
 -- stat ---------------------------------------------------------------------------------------------------------------------------------------------
 

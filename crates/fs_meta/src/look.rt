@@ -1,12 +1,17 @@
 // What stands in sound entry tables: the inner calls that look, and those that touch open counts alone. Each requires soundness and tests nothing.
 ghost use mathlib.Core.Path.{_≡_};
 ghost use mathlib.Core.Bool.{true};
-ghost use Prim.Native.Nat.{_/_, _≤_};
-ghost use lib.ListN.{length};
+ghost use Prim.Native.Nat.{_+_, _/_, _≤_};
+ghost use lib.ListN.{length, take, drop};
 ghost use Rattle.order.specs.First.{First};
-ghost use Rattle.fs_meta.specs.Calls.{openRows, openDone, closeRows, closeDone, openingGives, lookupRows, lookupDone, lookupGives};
+ghost use Rattle.fs_meta.specs.Calls.{openRows, openDone, closeRows, closeDone, openingGives, lookupRows, lookupDone, lookupGives, listGives, shortRows, listedDone, ListDirs, ListFiles};
+ghost use Rattle.meta_table.specs.Chain.{listAt, Ends};
+ghost use Rattle.meta_table.specs.Steps.{freeOf};
+ghost use Rattle.fs_meta.specs.Tables.{tables};
 ghost use Rattle.meta_key.specs.Key.{keyWords};
 ghost use Rattle.fs_meta.specs.Ready.{Ready, LiveAt, Single, alone, hashed};
+use meta_key::SaveExtDirEntry;
+use meta_key::SaveExtFileEntry;
 use meta_key::SaveExtKey;
 use order::Answer;
 
@@ -90,4 +95,109 @@ pub fn lookup(hash: &[u8], table: &[u8], w: usize, key: SaveExtKey) -> Looked
         inode: hit.inode,
         compared: hit.compared,
     }
+}
+
+// A listing's answer: how many places of the lent list hold it.
+pub struct Listed {
+    pub answer: Answer,
+    pub count: usize,
+}
+
+// Writes a list of children to the front of the lent one.
+fn list_children(table: &[u8], w: usize, first: u32, list: &mut [u32]) -> Listed
+    requires { ⌜ Ends (now table) w 20 first × (24 ≤ w) ⌝ }
+    ensures { λ r. ⌜ First (shortRows (listAt (now (table .entry)) w 20 first) (now (list .entry))) (listedDone (listAt (now (table .entry)) w 20 first) (now (list .entry))) (listGives (r .answer) (r .count) (now (list .exit))) ⌝ }
+{
+    let n = meta_table::index(meta_table::count_list(table, w, 20, first));
+    if list.len() < n {
+        return Listed {
+            answer: Answer::ListTooShort,
+            count: 0,
+        };
+    }
+    meta_table::write_list(table, w, 20, first, list);
+    Listed {
+        answer: Answer::Done,
+        count: n,
+    }
+}
+
+// The directories in a directory, in their list's order.
+pub fn list_dirs(
+    dir_hash: &[u8],
+    dir_table: &[u8],
+    file_hash: &[u8],
+    file_table: &[u8],
+    inode: u32,
+    list: &mut [u32],
+) -> Listed
+    requires { ⌜ Ready (tables (now «dir_hash») (now «dir_table») (now «file_hash») (now «file_table»)) ⌝ }
+    ensures { λ r. ⌜ ListDirs (tables (now («dir_hash» .entry)) (now («dir_table» .entry)) (now («file_hash» .entry)) (now («file_table» .entry))) inode (now (list .entry)) (listGives (r .answer) (r .count) (now (list .exit))) ⌝ }
+{
+    if !live(dir_hash, dir_table, SaveExtDirEntry::WIDTH, inode) {
+        return Listed {
+            answer: Answer::NotFound,
+            count: 0,
+        };
+    }
+    let at = meta_table::index(inode) * SaveExtDirEntry::WIDTH;
+    let first = words::get_u32(dir_table, at + SaveExtDirEntry::SUB_DIR);
+    list_children(dir_table, SaveExtDirEntry::WIDTH, first, list)
+}
+
+// The files in a directory, in their list's order.
+pub fn list_files(
+    dir_hash: &[u8],
+    dir_table: &[u8],
+    file_hash: &[u8],
+    file_table: &[u8],
+    inode: u32,
+    list: &mut [u32],
+) -> Listed
+    requires { ⌜ Ready (tables (now «dir_hash») (now «dir_table») (now «file_hash») (now «file_table»)) ⌝ }
+    ensures { λ r. ⌜ ListFiles (tables (now («dir_hash» .entry)) (now («dir_table» .entry)) (now («file_hash» .entry)) (now («file_table» .entry))) inode (now (list .entry)) (listGives (r .answer) (r .count) (now (list .exit))) ⌝ }
+{
+    if !live(dir_hash, dir_table, SaveExtDirEntry::WIDTH, inode) {
+        return Listed {
+            answer: Answer::NotFound,
+            count: 0,
+        };
+    }
+    let at = meta_table::index(inode) * SaveExtDirEntry::WIDTH;
+    let first = words::get_u32(dir_table, at + SaveExtDirEntry::SUB_FILE);
+    list_children(file_table, SaveExtFileEntry::WIDTH, first, list)
+}
+
+// The entries of a table that make can still use.
+fn free_of(hash: &[u8], table: &[u8], w: usize) -> usize
+    requires { ⌜ Single (now hash) (now table) w ⌝ }
+    ensures { λ r. ⌜ r ≡ freeOf (alone w (now (table .entry))) ⌝ }
+{
+    let count = meta_table::index(words::get_u32(table, 0));
+    let maximum = meta_table::index(words::get_u32(table, 4));
+    let first = words::get_u32(table, w - 4);
+    let removed = meta_table::index(meta_table::count_list(table, w, w - 4, first));
+    maximum - count + removed
+}
+
+// Twenty bytes of a table, from a place on.
+fn bytes20(table: &[u8], at: usize) -> [u8; 20]
+    requires { ⌜ at + 20 ≤ length (now table) ⌝ }
+    ensures { λ r. ⌜ r ≡ take 20 (drop at (now (table .entry))) ⌝ }
+{
+    let mut out = [0u8; 20];
+    let mut i: usize = 0;
+    while i < 20 {
+        out[i] = table[at + i];
+        i += 1;
+    }
+    out
+}
+
+// Four bytes of a table, from a place on.
+fn bytes4(table: &[u8], at: usize) -> [u8; 4]
+    requires { ⌜ at + 4 ≤ length (now table) ⌝ }
+    ensures { λ r. ⌜ r ≡ take 4 (drop at (now (table .entry))) ⌝ }
+{
+    [table[at], table[at + 1], table[at + 2], table[at + 3]]
 }
