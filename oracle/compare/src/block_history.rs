@@ -2,6 +2,7 @@
 
 use crate::chance::Chance;
 use crate::check;
+use crate::stored;
 use crate::volumes;
 use original::Volume;
 use port::{Answered, BlockCall, Blocks};
@@ -26,11 +27,15 @@ impl Session {
         let answered = check::block_call(call, &mut self.lent);
         if let Some(original) = &mut self.original {
             // Only calls on files: the original opens more than the files of a sound table.
-            if answered.number != 5 {
+            let followed = answered.number != 5 && !wraps(call, &read);
+            if followed {
                 follow(original, call, &answered, &self.lent, &mut read);
             }
             let same = original.holds(&self.lent.table, &self.lent.data);
             assert!(same, "the original's bytes differ after {call:?}\nrules {:?}", self.lent);
+            if followed {
+                stored::confirm_block();
+            }
         }
         answered
     }
@@ -54,6 +59,14 @@ impl Session {
             assert_eq!(original.list(first), Ok(listed.clone()), "list of {first}");
             assert_eq!(original.fresh_list(first), Ok(listed), "fresh list of {first}");
         }
+    }
+}
+
+/// Where position plus length wraps the original answers Ok: a listed difference.
+fn wraps(call: &BlockCall, buf: &[u8]) -> bool {
+    match call {
+        BlockCall::Read { pos, .. } | BlockCall::Write { pos, .. } => pos.checked_add(buf.len()).is_none(),
+        _ => false,
     }
 }
 
@@ -84,16 +97,11 @@ fn follow(original: &mut Volume, call: &BlockCall, answered: &Answered, lent: &B
         }
         BlockCall::Delete { first } => assert_eq!(original.delete(first), rules, "{call:?}"),
         BlockCall::Read { first, pos } => {
-            // Where position plus length wraps the original answers Ok: a listed difference.
-            if pos.checked_add(buf.len()).is_some() {
-                assert_eq!(original.read(first, pos, buf), rules, "{call:?}");
-                assert!(buf == lent.buf, "the original reads otherwise: {call:?}");
-            }
+            assert_eq!(original.read(first, pos, buf), rules, "{call:?}");
+            assert!(buf == lent.buf, "the original reads otherwise: {call:?}");
         }
         BlockCall::Write { first, pos } => {
-            if pos.checked_add(buf.len()).is_some() {
-                assert_eq!(original.write(first, pos, buf), rules, "{call:?}");
-            }
+            assert_eq!(original.write(first, pos, buf), rules, "{call:?}")
         }
     }
 }

@@ -1,5 +1,6 @@
 //! One call on the statement of the rules and on the proved library, compared whole.
 
+use crate::stored;
 use port::{Answered, BlockCall, Blocks, Library, Port, Stated, Tree, TreeCall};
 use std::sync::atomic::{AtomicU64, Ordering};
 use std::thread;
@@ -44,6 +45,7 @@ pub fn block_call(call: &BlockCall, lent: &mut Blocks) -> Answered {
         );
     }
     unchanged_when_refused(stated.number, || before.table == lent.table && before.data == lent.data);
+    stored::offer_block(call, &before, lent, &stated);
     stated
 }
 
@@ -64,6 +66,7 @@ pub fn tree_call(call: &TreeCall, lent: &mut Tree) -> Answered {
         let opens = before.dir_opens == lent.dir_opens && before.file_opens == lent.file_opens;
         before.four() == lent.four() && before.list == lent.list && opens
     });
+    stored::offer_tree(call, &before, lent, &stated);
     stated
 }
 

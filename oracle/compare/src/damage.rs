@@ -236,7 +236,7 @@ fn wrongly_moved(chance: &mut Chance, lent: &mut Tree) {
 
 /// Sound tables, damaged in a few places; counts at their edges.
 pub fn damaged_tree(chance: &mut Chance) {
-    let mut lent = trees::any_sound(chance);
+    let mut lent = if chance.one_in(3) { trees::small_sound(chance) } else { trees::any_sound(chance) };
     for count in lent.dir_opens.iter_mut().chain(lent.file_opens.iter_mut()) {
         *count = chance.pick(&[0, 1, 1, 2, 65_534, 65_535, 65_536, 70_000, u32::MAX]);
     }
@@ -271,10 +271,7 @@ pub fn run(chance: &mut Chance, whole: usize, cases: usize) {
             block_call(&call, &mut lent);
         }
         each_block_byte(chance, &lent);
-        let mut tree = trees::any_sound(chance);
-        while tree.dir_opens.len() > 6 || tree.file_opens.len() > 6 {
-            tree = trees::any_sound(chance);
-        }
+        let tree = trees::small_sound(chance);
         each_tree_byte(chance, &tree);
     }
     for _ in 0..cases {

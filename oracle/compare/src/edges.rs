@@ -162,7 +162,8 @@ fn tree_numbers(chance: &mut Chance) {
 
 /// Each lent thing one shorter, one longer, empty, and odd.
 fn tree_lengths(chance: &mut Chance) {
-    let lent = trees::any_sound(chance);
+    let mut lent = trees::small_sound(chance);
+    lent.list = chance.words(4);
     let other = |len: usize, chance: &mut Chance| {
         let by = chance.pick(&[0, 1, 2, 3, 4, 5, 40, 48]);
         match chance.below(4) {
@@ -171,7 +172,7 @@ fn tree_lengths(chance: &mut Chance) {
             _ => len + by,
         }
     };
-    for _ in 0..40 {
+    for _ in 0..200 {
         let mut cut: Tree = lent.clone();
         for _ in 0..chance.within(1, 2) {
             match chance.below(7) {

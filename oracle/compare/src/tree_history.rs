@@ -2,6 +2,7 @@
 
 use crate::chance::Chance;
 use crate::check;
+use crate::stored;
 use crate::trees::{self, any_name};
 use original::Tables;
 use port::{Answered, Kind, Tree, TreeCall};
@@ -37,7 +38,10 @@ impl Session {
     pub fn run(&mut self, call: &TreeCall) -> Answered {
         let answered = check::tree_call(call, &mut self.lent);
         if let Some(original) = &mut self.original {
-            follow(original, call, &answered, &self.lent);
+            let followed = followed(call, answered.number);
+            if followed {
+                follow(original, call, &answered, &self.lent);
+            }
             let same = original.holds(self.lent.four());
             assert!(same, "the original's bytes differ after {call:?}\nrules {:?}\noriginal {:?}", self.lent, original.four());
             for (x, count) in self.lent.dir_opens.iter().enumerate() {
@@ -45,6 +49,9 @@ impl Session {
             }
             for (x, count) in self.lent.file_opens.iter().enumerate() {
                 assert_eq!(original.file_opens(x as u32), *count, "opens of file {x} after {call:?}");
+            }
+            if followed && has_counterpart(call) {
+                stored::confirm_tree();
             }
         }
         answered
@@ -95,10 +102,19 @@ fn followed(call: &TreeCall, number: u32) -> bool {
     }
 }
 
+/// Whether the original has such a call.
+fn has_counterpart(call: &TreeCall) -> bool {
+    !matches!(
+        call,
+        TreeCall::Test
+            | TreeCall::Name { .. }
+            | TreeCall::NameAnswer { .. }
+            | TreeCall::Carried { kind: Kind::Dir, .. }
+            | TreeCall::SetCarried { kind: Kind::Dir, .. }
+    )
+}
+
 fn follow(original: &mut Tables, call: &TreeCall, answered: &Answered, lent: &Tree) {
-    if !followed(call, answered.number) {
-        return;
-    }
     let rules = if answered.number == 0 { Ok(()) } else { Err(answered.number) };
     let field = answered.fields[0] as u32;
     match *call {
@@ -185,7 +201,7 @@ pub fn any_call(chance: &mut Chance, lent: &mut Tree) -> TreeCall {
     let inode = any_inode(chance, lent, kind);
     let name = any_name(chance);
     let carried: [u8; 20] = chance.bytes(20).try_into().unwrap();
-    let len = chance.pick(&[0, 1, 2, 50, 50, 50]);
+    let len = chance.pick(&[0, 1, 2, 8, 50, 50]);
     lent.list = chance.words(len);
     match chance.below(40) {
         0..=9 => TreeCall::Make { kind, parent, name, carried },
@@ -204,6 +220,33 @@ pub fn any_call(chance: &mut Chance, lent: &mut Tree) -> TreeCall {
     }
 }
 
+/// Format over any bytes, on the original too.
+fn compare_format(chance: &mut Chance) {
+    let (dir_max, file_max) = (chance.within(2, 5), chance.within(1, 5));
+    let (dir_buckets, file_buckets) = (chance.within(1, 7), chance.within(1, 7));
+    let mut lent = Tree {
+        dir_hash: chance.bytes(4 * dir_buckets),
+        dir_table: chance.bytes(40 * dir_max + spare(dir_max)),
+        file_hash: chance.bytes(4 * file_buckets),
+        file_table: chance.bytes(48 * file_max + spare(file_max)),
+        ..Tree::default()
+    };
+    let before = lent.clone();
+    let answered = check::tree_call(&TreeCall::Format { dir_max, file_max }, &mut lent);
+    assert_eq!(answered.number, 0);
+    if original::PRESENT {
+        let (answer, four) = Tables::format(before.four(), dir_max, file_max);
+        assert_eq!(answer, Ok(()));
+        assert!(four.iter().zip(lent.four()).all(|(a, b)| a == b), "the original formats otherwise");
+        stored::confirm_tree();
+    }
+}
+
+/// A few bytes more than whole entries.
+fn spare(maximum: usize) -> usize {
+    maximum % 4
+}
+
 /// One random history.
 pub fn run(chance: &mut Chance) {
     let mut start = if chance.one_in(2) { trees::formatted(chance) } else { trees::any_sound(chance) };
@@ -214,6 +257,7 @@ pub fn run(chance: &mut Chance) {
     for x in held.files.inodes() {
         start.file_opens[x as usize] = chance.below(3) as u32;
     }
+    compare_format(chance);
     let mut session = Session::new(start);
     let steps = chance.within(1, 60);
     for _ in 0..steps {

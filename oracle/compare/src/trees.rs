@@ -158,6 +158,16 @@ pub fn any_sound(chance: &mut Chance) -> Tree {
     }
 }
 
+/// Arbitrary sound tables with few entries.
+pub fn small_sound(chance: &mut Chance) -> Tree {
+    loop {
+        let lent = any_sound(chance);
+        if lent.dir_opens.len() <= 6 && lent.file_opens.len() <= 6 {
+            return lent;
+        }
+    }
+}
+
 /// Formatted tables, over zeros or junk.
 pub fn formatted(chance: &mut Chance) -> Tree {
     let dir_max = chance_size(chance);
