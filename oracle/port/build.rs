@@ -57,6 +57,13 @@ fn archive(root: &Path) -> Option<PathBuf> {
     Some(archive)
 }
 
+/// The library's names in an archive or shared object. A name ends at a 0; what stands before it may touch it.
+fn names(bytes: &[u8]) -> HashSet<&[u8]> {
+    let start = b"mukthiban_";
+    let places = (0..bytes.len()).filter(|at| bytes[*at..].starts_with(start));
+    places.filter_map(|at| bytes[at..].split(|b| *b == 0).next()).collect()
+}
+
 fn main() {
     for call in CALLS {
         println!("cargo::rustc-check-cfg=cfg(has_{call})");
@@ -72,7 +79,7 @@ fn main() {
     };
     println!("cargo::rerun-if-changed={}", archive.display());
     let bytes = fs::read(&archive).expect("the archive can be read");
-    let names: HashSet<&[u8]> = bytes.split(|b| *b == 0 || *b == b'\n').collect();
+    let names = names(&bytes);
     for call in CALLS {
         if names.contains(format!("mukthiban_{call}").as_bytes()) {
             println!("cargo::rustc-cfg=has_{call}");

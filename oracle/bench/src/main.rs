@@ -13,8 +13,9 @@ fn main() {
     if !original::PRESENT {
         println!("!!!! THE ORIGINAL'S SOURCE IS NOT HERE: IT IS NOT MEASURED. !!!!");
     }
-    if !port::Library::has_blocks() || !port::Library::has_tree() {
-        println!("!!!! THE PROVED LIBRARY LACKS CALLS: THEY ARE NOT MEASURED. !!!!");
+    let missing = port::Library::missing();
+    if !missing.is_empty() {
+        println!("!!!! THE PROVED LIBRARY LACKS CALLS, WHICH ARE NOT MEASURED: {} !!!!", missing.join(", "));
     }
     blocks::run(quick);
     tree::run(quick);

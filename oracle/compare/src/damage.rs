@@ -145,6 +145,32 @@ pub fn arbitrary_blocks(chance: &mut Chance) {
     judge_blocks(chance, &lent);
 }
 
+/// Every table of n blocks whose words are indexes up to one past n, with and without the flag; the first word is 0. The test and one create on each: how many there are.
+pub fn all_small(n: usize) -> usize {
+    let values: Vec<u32> = (0..=n as u32 + 1).flat_map(|i| [i, i | 0x8000_0000]).collect();
+    let words = 2 * (n + 1) - 1;
+    let mut lent = Blocks {
+        table: vec![0; 8 * (n + 1)],
+        data: vec![0; n],
+        block_len: 1,
+        work: vec![7; n],
+        list: vec![],
+        buf: vec![],
+    };
+    let all = values.len().pow(words as u32);
+    for case in 0..all {
+        let mut rest = case;
+        for w in 1..=words {
+            put_word(&mut lent.table, w * 4, values[rest % values.len()]);
+            rest /= values.len();
+        }
+        if block_call(&BlockCall::Test, &mut lent).number == 0 {
+            block_call(&BlockCall::Create { count: 1 }, &mut lent);
+        }
+    }
+    all
+}
+
 // Tree.
 
 /// Any call with any numbers, on tables that need not be sound.

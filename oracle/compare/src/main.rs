@@ -13,10 +13,11 @@ struct Run {
     whole: usize,
     damaged: usize,
     edges: usize,
+    all_small: usize,
 }
 
-const SHORT: Run = Run { histories: 2_000, depth: 4, states: 300, whole: 2, damaged: 20_000, edges: 1 };
-const LONG: Run = Run { histories: 20_000, depth: 5, states: 20_000, whole: 40, damaged: 400_000, edges: 20 };
+const SHORT: Run = Run { histories: 2_000, depth: 4, states: 300, whole: 2, damaged: 20_000, edges: 1, all_small: 2 };
+const LONG: Run = Run { histories: 20_000, depth: 5, states: 20_000, whole: 40, damaged: 400_000, edges: 20, all_small: 3 };
 
 /// Random histories, each from a seed of its own, so that one can be run again alone.
 fn histories(name: &str, run: fn(&mut Chance), seed: u64, count: u64) {
@@ -34,10 +35,9 @@ fn say_what_is_here() {
     if !original::PRESENT {
         println!("!!!! THE ORIGINAL'S SOURCE IS NOT HERE: NOTHING IS COMPARED WITH IT. SAVE3DS_SRC names its folder. !!!!");
     }
-    for (layer, here) in [("block", Library::has_blocks()), ("tree", Library::has_tree())] {
-        if !here {
-            println!("!!!! THE PROVED LIBRARY HAS NO {layer} CALLS YET: THEY ARE NOT COMPARED. !!!!");
-        }
+    let missing = Library::missing();
+    if !missing.is_empty() {
+        println!("!!!! THE PROVED LIBRARY LACKS {} CALLS, WHICH ARE NOT COMPARED: {} !!!!", missing.len(), missing.join(", "));
     }
 }
 
@@ -59,6 +59,9 @@ fn main() {
     closure::run(&mut Chance::new(seed), run.depth, run.states);
     damage::run(&mut Chance::new(seed), run.whole, run.damaged);
     println!("every byte of {} small volumes and tables, {} times three damaged tables", run.whole, run.damaged);
+    for n in 1..=run.all_small {
+        println!("n = {n}: all {} tables of small words", damage::all_small(n));
+    }
     edges::run(&mut Chance::new(seed), run.edges);
     println!("lengths and numbers at their edges, {} times", run.edges);
     let (calls, with_library) = check::made();

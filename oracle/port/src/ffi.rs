@@ -20,6 +20,8 @@ macro_rules! declared {
         #[allow(non_upper_case_globals)]
         pub mod present {
             $(pub const $name: bool = cfg!($has);)*
+
+            pub const ALL: &[(&str, bool)] = &[$((stringify!($name), $name),)*];
         }
     };
 }

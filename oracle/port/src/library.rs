@@ -7,12 +7,10 @@ use interface::*;
 pub struct Library;
 
 impl Library {
-    /// Whether the block calls are linked, and whether the tree calls are: all of a layer.
-    pub fn has_blocks() -> bool {
-        present::mukthiban_fat_write
-    }
-    pub fn has_tree() -> bool {
-        present::mukthiban_tree_close_file
+    /// The calls that are not linked.
+    pub fn missing() -> Vec<&'static str> {
+        let missing = present::ALL.iter().filter(|(_, here)| !here);
+        missing.map(|(name, _)| name.trim_start_matches("mukthiban_")).collect()
     }
 }
 
