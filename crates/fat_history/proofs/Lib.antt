@@ -4,3 +4,4 @@ pub mod Reaches
 pub mod Honest
 pub mod Lies
 pub mod Theorems
+pub mod Places
