@@ -5,3 +5,4 @@ pub mod Honest
 pub mod Lies
 pub mod Theorems
 pub mod Places
+pub mod Apart

@@ -13,6 +13,7 @@ use Rattle.order.specs.First.{Row, row, First}
 use Rattle.order.specs.Given.{None}
 use Rattle.order.specs.Gate.{cleared}
 use Rattle.order.specs.Answer.{numberOf}
+use Rattle.order.proofs.One.{one}
 use Rattle.order.specs.declared.Answer.{Answer}
 use Rattle.order.specs.declared.Answer.the-variants.{
   Done,
@@ -356,6 +357,23 @@ module _ (t d : Bytes) (l : ℕ) (work : List ℕ) (b pos : ℕ) (buf : Bytes) w
       )
       p e in
       (may-read g (w .0), w .1)
+
+  pub read-done : MayCarry t d l work b pos (length buf) → ReadPromise t d l work b pos buf readLast
+  read-done m =
+      last-given readAll readLast (
+        row-1 t (length d) l work (m .passed),
+        (
+          row-2 t (length d) l work (m .passed),
+          (
+            row-3 t (length d) l work (m .passed),
+            (row-4 t (length d) l work (m .passed), (λ h. h (m .file), (λ h. omega (arith, h, m .enough), tt))),
+          ),
+        ),
+      )
+
+  -- a read that may be done is
+  pub read-gives : (o : Beside Carry) → MayCarry t d l work b pos (length buf) → ReadPromise t d l work b pos buf o → o ≡ readLast
+  read-gives o m p = one readAll readLast o readLast p (read-done m)
 
   abbrev pub writeAll : List (Row (Beside Carry))
   writeAll = blockGate (λ a w. beside (carryGives a d) w) t (length d) l work ++ within (cleared (blocks t) work) (carryRows (blocks t) t l b pos (length buf) d)

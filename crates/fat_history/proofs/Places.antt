@@ -1,6 +1,6 @@
 -- The places of a file's bytes in the data: those of one file differ from each other and from those of another file; what a write changes. Assumes nothing.
 use mathlib.Core.Path.{_≡_, refl, sym, ap, subst, subst⁻¹, _∙_}
-use mathlib.Core.List.{List, [], _∷_, _++_}
+use mathlib.Core.List.{List, [], _∷_, _++_, List·Memᴰ, List·Memᴰ·head, List·Memᴰ·tail}
 use mathlib.Core.Bool.{Bool, true, false, cond}
 use mathlib.Core.Logic.{_≢_, _⊎_, inl, inr, ⊎-elim}
 use Prim.Native.Nat.{ℕ, zero, suc, _+_, _-_, _*_, _/_, _%_, _≤_, _<_}
@@ -79,6 +79,10 @@ pub occurs-at : (l : List ℕ) (i : ℕ) → i < length l → 1 ≤ occurs (getD
 occurs-at [] i h = omega arith
 occurs-at (y ∷ l) zero h = omega (arith, is-same y y refl)
 occurs-at (y ∷ l) (suc i) h = omega (arith, occurs-at l i (omega arith))
+
+pub occurs-mem : {x : ℕ} {l : List ℕ} → List·Memᴰ x l → 1 ≤ occurs x l
+occurs-mem {x} (List·Memᴰ·head {x = y} e) = omega (arith, is-same x y e)
+occurs-mem (List·Memᴰ·tail m) = omega (arith, occurs-mem m)
 
 occurs-two : (l : List ℕ) (i j : ℕ) → i < j → j < length l → getD l i 0 ≡ getD l j 0 → 2 ≤ occurs (getD l j 0) l
 occurs-two [] i j h k e = omega arith

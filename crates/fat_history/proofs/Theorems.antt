@@ -1,6 +1,6 @@
 -- The theorems of the block layer over whole histories. Their statements name definitions of specs/ alone. Assumes nothing.
 use mathlib.Core.Path.{_≡_, refl, sym, ap, subst, subst⁻¹, _∙_}
-use mathlib.Core.List.{List}
+use mathlib.Core.List.{List, List·Memᴰ}
 use mathlib.Core.Logic.{_≢_, _⊎_, inl, inr, ⊎-elim}
 use Prim.Native.Nat.{ℕ, _+_, _*_, _≤_, _<_}
 use native.Mathlib.Omega.{arith}
@@ -11,7 +11,9 @@ use Rattle.fat_node.specs.Entry.{Bytes}
 use Rattle.fat_node.specs.Sizes.{blocks, Misfit, Outside}
 use Rattle.fat_node.specs.Format.{formatted, FormatPromise}
 use Rattle.fat_node.specs.declared.Formatted.{Formatted}
-use Rattle.fat_table.specs.Sound.{Sound}
+use Rattle.fat_node.specs.Node as nodes-of
+use Rattle.fat_table.specs.Sound.{Sound, File}
+use Rattle.fat_table.specs.Chain.{total, freeAt, fileAt}
 use Rattle.fat_table.specs.Counts.{nodes}
 use Rattle.fat_table.specs.Steps.{created, resized, deleted}
 use Rattle.fat_table.specs.Agree.{Agree}
@@ -19,13 +21,17 @@ use Rattle.fat_table.proofs.Files.{Whole, whole-formatted, whole-created, whole
 use Rattle.fat_test.specs.Promise.{TestPromise}
 use Rattle.fat_test.specs.declared.Tested.{Tested}
 use Rattle.fat.specs.Promise.{Beside}
-use Rattle.fat.specs.Calls.{Create, CreatePromise, Change, ResizePromise, DeletePromise, Carry, WritePromise}
+use Rattle.fat.specs.Blocks.{blocksOf, placeOf, bytesAt, written}
+use Rattle.fat.specs.Calls.{Create, CreatePromise, Change, ResizePromise, DeletePromise, Carry, ReadPromise, WritePromise, sizeOf}
 use Rattle.fat_history.specs.Run.{AreBytes, Run, resizesIn}
 use Rattle.fat_history.specs.OneChain.{OneChain}
+use Rattle.fat_history.specs.Away.{Away, none, writes}
 use Rattle.fat_history.specs.KeptBy.{KeptBy}
 use Rattle.fat_history.proofs.Means.{
   are-bytes,
   Fits,
+  Passed,
+  MayCarry,
   fits,
   whole-of-fits,
   format-means,
@@ -38,13 +44,18 @@ use Rattle.fat_history.proofs.Means.{
   delete-means,
   delete-keeps,
   deleteLast,
+  read-means,
+  read-gives,
+  write-means,
   write-keeps,
   writeLast,
   test-means,
   test-accepts,
 }
-use Rattle.fat_history.proofs.Honest.{as-blocks, run-sound, sound-run}
+use Rattle.fat_history.proofs.Honest.{blocks-of, as-blocks, run-sound, sound-run}
 use Rattle.fat_history.proofs.Lies.{one-chain-of}
+use Rattle.fat_history.proofs.Places.{occurs-mem, places-differ, place-low, length-written, written-other, written-at, read-same, read-is}
+use Rattle.fat_history.proofs.Apart.{Still, still, blocks-once, blocks-low, blocks-apart, below-end}
 
 -- honest: the test of a table of 1 to 1,000,000 blocks answers Done exactly when some run of format and then create, resize and delete, each answered
 -- Done, ends in a table equal to it in every entry that the rules read
@@ -131,3 +142,156 @@ pub kept-write : (t d : Bytes) (l : ℕ) (work : List ℕ) (b pos : ℕ) (buf : 
     → (o .given .answer ≡ Done → ⊥) → o .given .bytes ≡ d
 kept-write t d l work b pos buf o g p e =
     ⊎-elim (λ q. q) (λ w. absurd (e (ap (λ (x : Beside Carry). x .given .answer) (w .1)))) (write-keeps t d l work b pos buf o (are-bytes t g) p)
+
+-- apart: over any run of calls from a sound table, a file that no call names stays a file with the same chain and reads the same bytes -------------------
+
+pub apart : (l b : ℕ) (t d t′ d′ : Bytes) → AreBytes t → (Misfit t → ⊥) → (Outside t → ⊥) → Sound t (blocks t) → File t (blocks t) b → Away l b t d t′ d′
+    → File t′ (blocks t) b
+    × (fileAt (blocks t) t′ b ≡ fileAt (blocks t) t b)
+    × ((many pos : ℕ)
+    → pos + many ≤ sizeOf (blocks t) t l b
+    → bytesAt many d′ l (blocksOf (fileAt (blocks t) t′ b)) pos ≡ bytesAt many d l (blocksOf (fileAt (blocks t) t b)) pos)
+apart l b t d t′ d′ g m u s i a =
+    let n : ℕ = blocks t in
+    let v = still n l b t d (whole-of-fits t (are-bytes t g) (fits t m u) s) i a in (
+      v .file,
+      v .same,
+      λ many pos h.
+          ap (λ (f : List nodes-of.Run). bytesAt many d′ l (blocksOf f) pos) (v .same)
+          ∙ read-same many d d′ l (blocksOf (fileAt n t b)) pos (λ k x y. v .bytes k (omega (arith, y, h))),
+    )
+
+-- no write changes a byte of another file
+pub write-apart : (l b c pos : ℕ) (t d buf : Bytes) (work : List ℕ) (o : Beside Carry) → AreBytes t → (Misfit t → ⊥) → (Outside t → ⊥) → Sound t (blocks t)
+    → File t (blocks t) b
+    → c ≢ b
+    → WritePromise t d l work c pos buf o
+    → (many at : ℕ)
+    → at + many ≤ sizeOf (blocks t) t l b
+    → bytesAt many (o .given .bytes) l (blocksOf (fileAt (blocks t) t b)) at ≡ bytesAt many d l (blocksOf (fileAt (blocks t) t b)) at
+write-apart l b c pos t d buf work o g m u s i ne p = apart l b t d t (o .given .bytes) g m u s i (writes t d none work c pos buf o ne p) .2
+
+-- two files never share a block
+pub files-apart : (t : Bytes) (b c x : ℕ) → AreBytes t → (Misfit t → ⊥) → (Outside t → ⊥) → Sound t (blocks t) → File t (blocks t) b → File t (blocks t) c → b ≢ c
+    → List·Memᴰ x (blocksOf (fileAt (blocks t) t b))
+    → List·Memᴰ x (blocksOf (fileAt (blocks t) t c))
+    → ⊥
+files-apart t b c x g m u s i j ne p q =
+    omega (
+      arith,
+      blocks-apart (blocks t) t (whole-of-fits t (are-bytes t g) (fits t m u) s) b c i j ne x,
+      occurs-mem p,
+      occurs-mem q,
+    )
+
+-- read back: what a write put is what a read of the same place gives, and a read beside it gives what it gave before, also after calls that name other
+-- files -------------------------------------------------------------------------------------------------------------------------------------------------
+
+-- a read after the run, where one before it may be done
+may-after : (l b : ℕ) (t d t′ d′ : Bytes) (work work′ : List ℕ) (pos many : ℕ) → Still (blocks t) l b t d t′ d′ → Passed t (length d) l work
+    → pos + many ≤ sizeOf (blocks t) t l b
+    → blocks t ≤ length work′
+    → MayCarry t′ d′ l work′ b pos many
+may-after l b t d t′ d′ work work′ pos many v q h k =
+    let n : ℕ = blocks t in
+    let e : blocks t′ ≡ n = blocks-of n t′ (v .whole .room) in
+    record {
+      passed = record {
+        whole = as-blocks n t′ (v .whole);
+        some = omega (arith, e, q .some);
+        data-fits = v .long ∙ q .data-fits ∙ ap (λ (x : ℕ). x * l) (sym e);
+        length-fits = q .length-fits;
+        work-fits = omega (arith, e, k);
+      };
+      file = subst⁻¹ (λ (x : ℕ). File t′ x b) e (v .file);
+      enough = subst⁻¹ (λ (x : ℕ). pos + many ≤ total (fileAt x t′ b) * l) e (subst⁻¹ (λ (f : List nodes-of.Run). pos + many ≤ total f * l) (v .same) h);
+    }
+
+module _ (l b : ℕ) (t d : Bytes) (work : List ℕ) (pos : ℕ) (buf : Bytes) (o : Beside Carry) (t′ d′ : Bytes) (g : AreBytes t)
+    (p : WritePromise t d l work b pos buf o) (done : o .given .answer ≡ Done) (a : Away l b t (o .given .bytes) t′ d′) where
+  may-write : MayCarry t d l work b pos (length buf)
+  may-write = write-means t d l work b pos buf o (are-bytes t g) p done .0
+
+  now-is : o .given .bytes ≡ written buf d l (blocksOf (fileAt (blocks t) t b)) pos
+  now-is = ap (λ (x : Beside Carry). x .given .bytes) (write-means t d l work b pos buf o (are-bytes t g) p done .1)
+
+  after : Still (blocks t) l b t (o .given .bytes) t′ d′
+  after = still (blocks t) l b t (o .given .bytes) (may-write .passed .whole) (may-write .file) a
+
+  long : length (o .given .bytes) ≡ length d
+  long = ap {B = ℕ} length now-is ∙ length-written buf d l (blocksOf (fileAt (blocks t) t b)) pos
+
+  passed-now : Passed t (length (o .given .bytes)) l work
+  passed-now = subst⁻¹ (λ (x : ℕ). Passed t x l work) long (may-write .passed)
+
+  -- what a read after the run gives, in terms of the data after the write
+  reads-now : (work′ : List ℕ) (at : ℕ) (buf′ : Bytes) (r : Beside Carry) → blocks t ≤ length work′ → at + length buf′ ≤ sizeOf (blocks t) t l b
+      → ReadPromise t′ d′ l work′ b at buf′ r
+      → (r .given .answer ≡ Done) × (r .given .bytes ≡ bytesAt (length buf′) (o .given .bytes) l (blocksOf (fileAt (blocks t) t b)) at)
+  reads-now work′ at buf′ r k h q =
+      let n : ℕ = blocks t in
+      let e : blocks t′ ≡ n = blocks-of n t′ (after .whole .room) in
+      let m = may-after l b t (o .given .bytes) t′ d′ work work′ at (length buf′) after passed-now h k in
+      let z = read-gives t′ d′ l work′ b at buf′ r m q in (
+        ap (λ (x : Beside Carry). x .given .answer) z,
+        ap (λ (x : Beside Carry). x .given .bytes) z
+            ∙ ap (λ (x : ℕ). bytesAt (length buf′) d′ l (blocksOf (fileAt x t′ b)) at) e
+            ∙ ap (λ (f : List nodes-of.Run). bytesAt (length buf′) d′ l (blocksOf f) at) (after .same)
+            ∙ read-same (length buf′) (o .given .bytes) d′ l (blocksOf (fileAt n t b)) at (λ x y w. after .bytes x (omega (arith, w, h))),
+      )
+
+  -- a read of the same place is answered Done and gives the bytes that were written
+  pub read-back : (work′ : List ℕ) (buf′ : Bytes) (r : Beside Carry) → blocks t ≤ length work′ → length buf′ ≡ length buf → ReadPromise t′ d′ l work′ b pos buf′ r
+      → (r .given .answer ≡ Done) × (r .given .bytes ≡ buf)
+  read-back work′ buf′ r k e q =
+      let n : ℕ = blocks t in
+      let C : List ℕ = blocksOf (fileAt n t b) in
+      let w : Whole n t = may-write .passed .whole in
+      let lp : 0 < l = omega (arith, may-write .passed .length-fits .0) in
+      let en : pos + length buf ≤ sizeOf n t l b = may-write .enough in
+      let low : (x : ℕ) → x < pos + length buf → x < length C * l = λ x h. below-end n t w b l x (omega (arith, h, en)) in
+      let z = reads-now work′ pos buf′ r k (subst⁻¹ (λ (x : ℕ). pos + x ≤ sizeOf n t l b) e en) q in (
+        z .0,
+        z .1
+            ∙ ap (λ (x : ℕ). bytesAt x (o .given .bytes) l C pos) e
+            ∙ ap (λ (y : Bytes). bytesAt (length buf) y l C pos) now-is
+            ∙ read-is buf (written buf d l C pos) l C pos
+            (written-at buf d l C pos
+            (λ x y h m. places-differ l lp C (blocks-once n t w b (may-write .file)) x y (low x h) (low y m))
+            (λ x h.
+            subst⁻¹ (λ (y : ℕ). placeOf C l x < y) (may-write .passed .data-fits)
+            (place-low l lp C n x (blocks-low n t w b (may-write .file)) (low x h)))),
+      )
+
+  -- a read beside it, which before the write was answered Done, is answered Done and gives what it gave
+  pub read-beside : (work₀ work′ : List ℕ) (at : ℕ) (buf₀ buf′ : Bytes) (r₀ r : Beside Carry) → (at + length buf′ ≤ pos) ⊎ (pos + length buf ≤ at)
+      → length buf′ ≡ length buf₀
+      → blocks t ≤ length work′
+      → ReadPromise t d l work₀ b at buf₀ r₀
+      → r₀ .given .answer ≡ Done
+      → ReadPromise t′ d′ l work′ b at buf′ r
+      → (r .given .answer ≡ Done) × (r .given .bytes ≡ r₀ .given .bytes)
+  read-beside work₀ work′ at buf₀ buf′ r₀ r away e k p₀ d₀ q =
+      let n : ℕ = blocks t in
+      let C : List ℕ = blocksOf (fileAt n t b) in
+      let w : Whole n t = may-write .passed .whole in
+      let lp : 0 < l = omega (arith, may-write .passed .length-fits .0) in
+      let en : pos + length buf ≤ sizeOf n t l b = may-write .enough in
+      let v = read-means t d l work₀ b at buf₀ r₀ (are-bytes t g) p₀ d₀ in
+      let en₀ : at + length buf₀ ≤ sizeOf n t l b = v .0 .enough in
+      let en′ : at + length buf′ ≤ sizeOf n t l b = subst⁻¹ (λ (x : ℕ). at + x ≤ sizeOf n t l b) e en₀ in
+      let z = reads-now work′ at buf′ r k en′ q in (
+        z .0,
+        z .1
+            ∙ ap (λ (y : Bytes). bytesAt (length buf′) y l C at) now-is
+            ∙ read-same (length buf′) d (written buf d l C pos) l C at
+            (λ x h m.
+            written-other buf d l C pos (placeOf C l x)
+            (λ i y c.
+            let same : x ≡ pos + i =
+            places-differ l lp C (blocks-once n t w b (may-write .file)) x (pos + i) (below-end n t w b l x (omega (arith, m, en′)))
+            (below-end n t w b l (pos + i) (omega (arith, y, en))) c in
+            ⊎-elim (λ s. omega (arith, s, same, h, m, y)) (λ s. omega (arith, s, same, h, m, y)) away))
+            ∙ ap (λ (x : ℕ). bytesAt x d l C at) e
+            ∙ sym (ap (λ (x : Beside Carry). x .given .bytes) (v .1)),
+      )
