@@ -415,7 +415,7 @@ module _ (n : ℕ) (small : n ≤ 1000000) (t : Bytes) (L : Layout) (s : Holds n
 
     chain-reached : (c : List Run) → Linked (prevAt t) (nextAt t) 0 c → ((x : Run) → In x c → In x ns) → (r : Run) → In r c → Reached t n (r .start)
     chain-reached [] p o r m = absurd (List·Memᴰ·not-nil m)
-    chain-reached (f ∷ c) p o r m = record { start = f .start; node = is (o f (List·Memᴰ·head refl)); first = p .0; path = path-to t (f .start) 0 f c here p m }
+    chain-reached (f ∷ c) p o r m = record { start = f .start; node = is (o f (List·Memᴰ·head refl)); first = omega (arith, p .0); path = path-to t (f .start) 0 f c here p m }
 
     head-free : (l : List Run) → Linked (prevAt t) (nextAt t) 0 l → ((x : Run) → In x l → In x ns) → (j : ℕ) → first l ≡ j + 1 → IsNode t n j × (prevAt t j ≡ 0)
     head-free [] p o j e = let z : ⊥ = omega (arith, e) in absurd z
