@@ -1,2 +1,3 @@
 // The calls on the entry tables.
+pub mod carry;
 pub mod look;

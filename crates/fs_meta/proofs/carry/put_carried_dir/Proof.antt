@@ -1,0 +1,22 @@
+use borrow.Author.Needs.{needs}
+use Rattle.fs_meta.proofs.carry.put_carried_dir.Statement.{statement}
+use Rattle.fs_meta.proofs.carry.put_carried_dir.Tie as tie
+use Rattle.fs_meta.proofs.carry.put_carried_dir.Reads as reads
+use Rattle.fs_meta.proofs.carry.put_carried_dir.Lts as lts
+use Rattle.meta_table.proofs.put_link.Reads as put-link-reads
+use Rattle.words.proofs.get_u32.Reads as get-u32-reads
+
+get-u32-requires : tie.Need-get-u32-requires
+get-u32-requires c κs = search needs
+
+put-link-requires : tie.Need-put-link-requires
+put-link-requires c κs = search needs
+
+same-length : tie.Need-same-length
+same-length c = search needs
+
+returns : tie.Need-returns
+returns c = cc
+
+pub put-carried-dir-spec : {M : Type 1} → statement M
+put-carried-dir-spec = tie.close (tie.spec get-u32-requires put-link-requires same-length returns)
