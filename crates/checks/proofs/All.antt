@@ -2,6 +2,36 @@
 use Rattle.checks.specs.Check.{AllShow}
 use Rattle.checks.specs.Checks.{checks}
 use Rattle.checks.proofs.Formats.{shows4, shows1}
+use Rattle.checks.proofs.Blocks.{
+  shows-create1,
+  shows-create2,
+  shows-delete0,
+  shows-free2,
+  shows-create2again,
+  shows-open0,
+  shows-resize1,
+  shows-resize3,
+  shows-read0,
+  shows-read1,
+}
 
 pub all : AllShow checks
-all = (shows4, (shows1, tt))
+all = (
+  shows4,
+  (
+    shows-create1,
+    (
+      shows-create2,
+      (
+        shows-delete0,
+        (
+          shows-free2,
+          (
+            shows-create2again,
+            (shows-open0, (shows-resize1, (shows-resize3, (shows-read0, (shows-read1, (shows1, tt)))))),
+          ),
+        ),
+      ),
+    ),
+  ),
+)

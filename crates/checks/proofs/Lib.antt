@@ -1,2 +1,5 @@
 pub mod Formats
+pub mod Passes
+pub mod History
+pub mod Blocks
 pub mod All

@@ -1,0 +1,63 @@
+-- A call on a table that is whole passes the rows of sizes, work list and soundness, and its own rows decide. Assumes nothing.
+use mathlib.Core.Path.{_≡_, refl, sym, ap, subst, _∙_}
+use mathlib.Core.List.{List, [], _∷_, _++_}
+use mathlib.Core.Logic.{_⊎_, inl, inr, ⊎-elim}
+use Prim.Native.Nat.{ℕ, _+_, _*_, _<_, _≤_}
+use native.Mathlib.Omega.{arith}
+use lib.ListN.{length}
+use Rattle.order.specs.First.{Row, First}
+use Rattle.order.specs.Given.{None}
+use Rattle.order.specs.Gate.{cleared}
+use Rattle.order.specs.declared.Answer.{Answer}
+use Rattle.fat_node.specs.Entry.{Bytes}
+use Rattle.fat_node.specs.Sizes.{blocks, Misfit, Outside}
+use Rattle.fat_table.specs.Sound.{Sound}
+use Rattle.fat_table.proofs.Files.{Whole}
+use Rattle.fat_test.specs.Gate.{blockGate, testGate}
+use Rattle.fat.specs.Promise.{Beside, beside, within, Promise}
+
+-- where no front row applies, the rows after them decide
+past : {A : Type 0} (rs qs : List (Row A)) (d o : A) → None rs → First (rs ++ qs) d o → First qs d o
+past [] qs d o n p = p
+past (r ∷ rs) qs d o n (inl p) = absurd (n .0 (p .0))
+past (r ∷ rs) qs d o n (inr p) = past rs qs d o (n .1) (p .1)
+
+-- the work list left aside
+own-of : {A : Type 0} (work : List ℕ) (own : List (Row A)) (done : A) (o : Beside A) → First (within work own) (beside done work) o
+    → First own done (o .given)
+own-of {A} work [] done o p = ap (λ (x : Beside A). x .given) p
+own-of {A} work (r ∷ rs) done o (inl p) = inl (p .0, ap (λ (x : Beside A). x .given) (p .1))
+own-of work (r ∷ rs) done o (inr p) = inr (p .0, own-of work rs done o (p .1))
+
+module _ (n : ℕ) (some : 1 ≤ n) (t : Bytes) (w : Whole n t) (work : List ℕ) (room : n ≤ length work) where
+  blocks-of : blocks t ≡ n
+  blocks-of = omega (arith, w .room)
+
+  sound : Sound t (blocks t)
+  sound = subst (λ (i : ℕ). Sound t i) (sym blocks-of) (w .sound)
+
+  fits : Misfit t → ⊥
+  fits m = ⊎-elim (λ h. omega (arith, w .room, h)) (λ h. h (omega (arith, w .room))) m
+
+  inside : Outside t → ⊥
+  inside m = ⊎-elim (λ h. omega (arith, blocks-of, some, h)) (λ h. omega (arith, blocks-of, w .small, h)) m
+
+  pub test-passes : {A : Type 0} (refuse : Answer → List ℕ → A) → None (testGate refuse t work)
+  test-passes refuse = (fits, (inside, (λ h. omega (arith, blocks-of, room, h), (λ h. h sound, tt))))
+
+  module _ {A : Type 0} (refuse : Answer → A) (d l : ℕ) (fit : d ≡ n * l) (l1 : 1 ≤ l) (l2 : l ≤ 65536) where
+    call-passes : None (blockGate (λ a w. beside (refuse a) w) t d l work)
+    call-passes = (
+      λ m. ⊎-elim fits (λ h. h (fit ∙ ap (λ (i : ℕ). i * l) (sym blocks-of))) m,
+      (
+        λ m. ⊎-elim inside (λ k. ⊎-elim (λ h. omega (arith, l1, h)) (λ h. omega (arith, l2, h)) k) m,
+        (λ h. omega (arith, blocks-of, room, h), (λ h. h sound, tt)),
+      ),
+    )
+
+    pub passes : (own : ℕ → List (Row A)) (done : ℕ → A) (o : Beside A) → Promise refuse t d l work (own (blocks t)) (done (blocks t)) o
+        → First (own n) (done n) (o .given)
+    passes own done o p =
+        subst (λ (i : ℕ). First (own i) (done i) (o .given)) blocks-of
+        (own-of (cleared (blocks t) work) (own (blocks t)) (done (blocks t)) o
+        (past (blockGate (λ a w. beside (refuse a) w) t d l work) (within (cleared (blocks t) work) (own (blocks t))) (beside (done (blocks t)) (cleared (blocks t) work)) o call-passes p))
