@@ -16,28 +16,27 @@ use Rattle.fat_test.specs.declared.Tested.{Tested}
 use Rattle.fat_test.specs.declared.Gated.{Gated}
 use Rattle.fat_test.specs.declared.Gated.the-variants.{Open, Refused}
 
--- the test gives its answer with the counts, and the work list afterwards
-abbrev pub tested : Answer → ℕ → ℕ → List ℕ → Tested × List ℕ
-tested answer free files work = (record { answer = answer; free = free; files = files }, work)
+abbrev pub tested : Answer → ℕ → ℕ → Tested
+tested answer free files = record { answer = answer; free = free; files = files }
 
--- a refusal's counts are 0
+-- the test gives its answer, and the work list afterwards; a refusal's counts are 0
 abbrev pub testRefused : Answer → List ℕ → Tested × List ℕ
-testRefused answer work = tested answer 0 0 work
+testRefused answer work = (tested answer 0 0, work)
 
 -- Done: the free blocks and the number of other chains
 abbrev pub testDone : Bytes → List ℕ → Tested × List ℕ
-testDone t work = tested Done (freeBlocks (blocks t) t) (otherChains (blocks t) t) (cleared (blocks t) work)
+testDone t work = (tested Done (freeBlocks (blocks t) t) (otherChains (blocks t) t), cleared (blocks t) work)
 
--- the gate of a call with data of length d and block length l is open: no row applies, the table is sound, the counts are its own, and the work list
--- is cleared; or
--- the first row that applies refuses
+-- the gate of a call with data of length d and block length l is open: no row applies, the work list is cleared, and the counts are the table's
+pub record Opened (t : Bytes) (d l : ℕ) (work work′ : List ℕ) (free files : ℕ) : Type 0 where
+  pub none : None (blockGate refusal t d l work)
+  pub clear : work′ ≡ cleared (blocks t) work
+  pub count : free ≡ freeBlocks (blocks t) t
+  pub others : files ≡ otherChains (blocks t) t
+
+-- it is open, or the first row that applies refuses
 abbrev pub GateOf : Bytes → ℕ → ℕ → List ℕ → List ℕ → Gated → Type 0
-GateOf t d l work work′ (Open free files) =
-    None (blockGate refusal t d l work)
-    × Sound t (blocks t)
-    × (work′ ≡ cleared (blocks t) work)
-    × (free ≡ freeBlocks (blocks t) t)
-    × (files ≡ otherChains (blocks t) t)
+GateOf t d l work work′ (Open free files) = Opened t d l work work′ free files
 GateOf t d l work work′ (Refused answer) = Given (blockGate refusal t d l work) (refusal answer work′)
 
 -- the promise of the test: its rows in document 01's order, and what Done gives

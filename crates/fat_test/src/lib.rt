@@ -1,5 +1,17 @@
 // The test of the block table, and the gate that every call on one passes.
+use fat_ends::Verdict;
 use order::Answer;
+ghost use mathlib.Core.Path.{_≡_};
+ghost use mathlib.Core.Bool.{true, false};
+ghost use mathlib.Core.Logic.{_⊎_};
+ghost use Prim.Native.Nat.{_*_, _≤_, _<_};
+ghost use lib.ListN.{length};
+ghost use Rattle.order.specs.First.{First};
+ghost use Rattle.order.specs.Gate.{cleared};
+ghost use Rattle.fat_node.specs.Sizes.{blocks, Misfit, Outside};
+ghost use Rattle.fat_ends.specs.Promise.{Judged};
+ghost use Rattle.fat_test.specs.Gate.{testGate};
+ghost use Rattle.fat_test.specs.Promise.{tested, testRefused, testDone, GateOf};
 
 // The test's answer: of a sound table its free blocks and the number of its other chains, of any other table 0 and 0.
 pub struct Tested {
@@ -8,8 +20,143 @@ pub struct Tested {
     pub files: usize,
 }
 
+// A refusal, whose counts are 0.
+fn refused(answer: Answer) -> Tested
+    ensures { λ r. ⌜ r ≡ tested answer 0 0 ⌝ }
+{
+    Tested {
+        answer,
+        free: 0,
+        files: 0,
+    }
+}
+
 // What the gate of a block call tells: the counts of a sound table with fitting sizes, or the refusal.
 pub enum Gated {
     Open { free: usize, files: usize },
     Refused { answer: Answer },
+}
+
+// Whether the table is under 8 bytes or not a multiple of 8.
+fn misfit(table: &[u8]) -> bool
+    ensures { λ r. ⌜ (r ≡ true → Misfit (now (table .entry))) × (r ≡ false → Misfit (now (table .entry)) → ⊥) ⌝ }
+{
+    let len = table.len();
+    if len < 8 {
+        return true;
+    }
+    if len % 8 != 0 {
+        return true;
+    }
+    false
+}
+
+// Whether x is not from 1 to most.
+fn outside(x: usize, most: usize) -> bool
+    ensures { λ r. ⌜ (r ≡ true → (x < 1) ⊎ (most < x)) × (r ≡ false → (x < 1) ⊎ (most < x) → ⊥) ⌝ }
+{
+    if x < 1 {
+        return true;
+    }
+    if most < x {
+        return true;
+    }
+    false
+}
+
+// Whether data of length d is not n blocks of length l; their product may be too large for a machine word.
+fn uneven(d: usize, n: usize, l: usize) -> bool
+    ensures { λ r. ⌜ (r ≡ true → d ≡ n * l → ⊥) × (r ≡ false → d ≡ n * l) ⌝ }
+{
+    if n == 0 {
+        if d == 0 {
+            return false;
+        }
+        return true;
+    }
+    if d % n != 0 {
+        return true;
+    }
+    if d / n != l {
+        return true;
+    }
+    false
+}
+
+// The verdict on a table whose sizes fit, in the first places of the work list, one a block, which are 0 after it.
+fn verdict(table: &[u8], work: &mut [u32]) -> Verdict
+    requires { ⌜ (Misfit (now table) → ⊥) ⌝ }
+    requires { ⌜ (Outside (now table) → ⊥) ⌝ }
+    requires { ⌜ blocks (now table) ≤ length (now work) ⌝ }
+    ensures { λ r. ⌜ Judged (now (table .entry)) (blocks (now (table .entry))) r × (now (work .exit) ≡ cleared (blocks (now (table .entry))) (now (work .entry))) ⌝ }
+{
+    let n = table.len() / 8 - 1;
+    fat_ends::run(table, &mut work[..n])
+}
+
+// The test of the block table. Done: the table is sound, and these are its free blocks and the number of its other chains.
+pub fn test(table: &[u8], work: &mut [u32]) -> Tested
+    ensures { λ r. ⌜ First (testGate testRefused (now (table .entry)) (now (work .entry))) (testDone (now (table .entry)) (now (work .entry))) (r, now (work .exit)) ⌝ }
+{
+    if misfit(table) {
+        return refused(Answer::SizeMismatch);
+    }
+    let n = table.len() / 8 - 1;
+    if outside(n, 1000000) {
+        return refused(Answer::InvalidValue);
+    }
+    if work.len() < n {
+        return refused(Answer::WorkTooShort);
+    }
+    let r = verdict(table, work);
+    let Verdict::Good { free, files } = r else {
+        return refused(Answer::BrokenFat);
+    };
+    Tested {
+        answer: Answer::Done,
+        free: free as usize,
+        files: files as usize,
+    }
+}
+
+// The gate of a call with data of length data_len. Open: the sizes fit and the table is sound, and the counts are the test's.
+pub fn gate(table: &[u8], data_len: usize, block_len: usize, work: &mut [u32]) -> Gated
+    ensures { λ r. ⌜ GateOf (now (table .entry)) «data_len» «block_len» (now (work .entry)) (now (work .exit)) r ⌝ }
+{
+    if misfit(table) {
+        return Gated::Refused {
+            answer: Answer::SizeMismatch,
+        };
+    }
+    let n = table.len() / 8 - 1;
+    if uneven(data_len, n, block_len) {
+        return Gated::Refused {
+            answer: Answer::SizeMismatch,
+        };
+    }
+    if outside(n, 1000000) {
+        return Gated::Refused {
+            answer: Answer::InvalidValue,
+        };
+    }
+    if outside(block_len, 65536) {
+        return Gated::Refused {
+            answer: Answer::InvalidValue,
+        };
+    }
+    if work.len() < n {
+        return Gated::Refused {
+            answer: Answer::WorkTooShort,
+        };
+    }
+    let r = verdict(table, work);
+    let Verdict::Good { free, files } = r else {
+        return Gated::Refused {
+            answer: Answer::BrokenFat,
+        };
+    };
+    Gated::Open {
+        free: free as usize,
+        files: files as usize,
+    }
 }

@@ -1,0 +1,104 @@
+-- `fat_test::gate` meets its contract. Assumes nothing.
+use Rattle.fat_test.proofs.Cases.{fits, gate-misfit, gate-uneven, gate-outside, gate-block, gate-short, gate-broken, gate-open}
+use Rattle.fat_node.specs.Sizes.{blocks}
+use Rattle.fat_ends.specs.Promise.{Judged}
+use native.Mathlib.Omega.{arith}
+use mathlib.Core.Path.{subst}
+use borrow.Author.Needs.{needs}
+use Rattle.fat_test.proofs.gate.Statement.{statement}
+use Rattle.fat_test.proofs.gate.Tie as tie
+
+misfit-requires : tie.Need-misfit-requires
+misfit-requires c κs = search needs
+
+returns : tie.Need-returns
+returns c = gate-misfit (c .before .before .before .before .args .table .now) _ _ (c .before .before .before .before .args .work .now) (c .before .misfit .ensures .0 (c .if1 .taken))
+
+sub-n : tie.Need-sub-n
+sub-n c = omega (arith, fits (c .before .before .before .before .args .table .now) (c .before .misfit .ensures .1 (c .if1 .left)))
+
+uneven-requires : tie.Need-uneven-requires
+uneven-requires c κs = search needs
+
+returns-2 : tie.Need-returns-2
+returns-2 c = gate-uneven (c .before .before .before .before .before .before .args .table .now) _ _ (c .before .before .before .before .before .before .args .work .now) (c .before .uneven .ensures .0 (c .if2 .taken))
+
+outside-requires : tie.Need-outside-requires
+outside-requires c κs = search needs
+
+returns-3 : tie.Need-returns-3
+returns-3 c = gate-outside (c .before .before .before .before .before .before .before .before .args .table .now) _ _ (c .before .before .before .before .before .before .before .before .args .work .now) (c .before .before .before .before .before .misfit .ensures .1 (c .before .before .before .before .if1 .left)) (c .before .before .before .uneven .ensures .1 (c .before .before .if2 .left)) (c .before .outside .ensures .0 (c .if3 .taken))
+
+outside-requires-2 : tie.Need-outside-requires-2
+outside-requires-2 c κs = search needs
+
+returns-4 : tie.Need-returns-4
+returns-4 c = gate-block (c .before .before .before .before .before .before .before .before .before .before .args .table .now) _ _ (c .before .before .before .before .before .before .before .before .before .before .args .work .now) (c .before .before .before .before .before .before .before .misfit .ensures .1 (c .before .before .before .before .before .before .if1 .left)) (c .before .before .before .before .before .uneven .ensures .1 (c .before .before .before .before .if2 .left)) (c .before .outside2 .ensures .0 (c .if4 .taken))
+
+returns-5 : tie.Need-returns-5
+returns-5 c =
+    gate-short (c .before .before .before .before .before .before .before .before .before .before .before .args .table .now) _ _ (c .before .before .before .before .before .before .before .before .before .before .before .args .work .now) (c .before .before .before .before .before .before .before .before .misfit .ensures .1 (c .before .before .before .before .before .before .before .if1 .left)) (c .before .before .before .before .before .before .uneven .ensures .1 (c .before .before .before .before .before .if2 .left))
+    (c .before .before .before .before .outside .ensures .1 (c .before .before .before .if3 .left)) (c .before .before .outside2 .ensures .1 (c .before .if4 .left)) (c .if5 .taken)
+
+verdict-requires : tie.Need-verdict-requires
+verdict-requires c κs = (c .before .before .before .before .before .before .before .before .before .misfit .ensures .1 (c .before .before .before .before .before .before .before .before .if1 .left), (c .before .before .before .before .before .outside .ensures .1 (c .before .before .before .before .if3 .left), omega arith))
+
+enum-known-r : tie.Need-enum-known-r
+enum-known-r c = search needs
+
+enum-told : tie.Need-enum-told
+enum-told c = search needs
+
+same-length : tie.Need-same-length
+same-length c = search needs
+
+returns-6 : tie.Need-returns-6
+returns-6 c =
+    gate-broken (c .before .before .before .before .before .before .before .before .before .before .before .before .before .before .before .before .before .args .table .now) _ _ (c .before .before .before .before .before .before .before .before .before .before .before .before .before .before .before .before .before .args .work .now) (c .before .before .before .before .before .before .before .before .before .before .before .before .before .before .misfit .ensures .1 (c .before .before .before .before .before .before .before .before .before .before .before .before .before .if1 .left)) (c .before .before .before .before .before .before .before .before .before .before .before .before .uneven .ensures .1 (c .before .before .before .before .before .before .before .before .before .before .before .if2 .left))
+    (c .before .before .before .before .before .before .before .before .before .before .outside .ensures .1 (c .before .before .before .before .before .before .before .before .before .if3 .left)) (c .before .before .before .before .before .before .before .before .outside2 .ensures .1 (c .before .before .before .before .before .before .before .if4 .left)) (λ s. omega (arith, c .before .before .before .before .before .before .if5 .left)) (c .before .before .before .before .verdict .ensures .1)
+    (subst (Judged (c .before .before .before .before .before .before .before .before .before .before .before .before .before .before .before .before .before .args .table .now) (blocks (c .before .before .before .before .before .before .before .before .before .before .before .before .before .before .before .before .before .args .table .now))) (c .enum-told .given .1) (c .before .before .before .before .verdict .ensures .0))
+
+cast-t12 : tie.Need-cast-t12
+cast-t12 c = search needs
+
+cast-t11 : tie.Need-cast-t11
+cast-t11 c = search needs
+
+same-length-2 : tie.Need-same-length-2
+same-length-2 c = search needs
+
+returns-7 : tie.Need-returns-7
+returns-7 c =
+    let v = subst (Judged (c .before .before .before .before .before .before .before .before .before .before .before .before .before .before .before .before .before .before .args .table .now) (blocks (c .before .before .before .before .before .before .before .before .before .before .before .before .before .before .before .before .before .before .args .table .now))) (c .before .r .given .1) (c .before .before .before .before .before .verdict .ensures .0) in
+    record {
+      none =
+          gate-open (c .before .before .before .before .before .before .before .before .before .before .before .before .before .before .before .before .before .before .args .table .now) _ _ (c .before .before .before .before .before .before .before .before .before .before .before .before .before .before .before .before .before .before .args .work .now) (c .before .before .before .before .before .before .before .before .before .before .before .before .before .before .before .misfit .ensures .1 (c .before .before .before .before .before .before .before .before .before .before .before .before .before .before .if1 .left)) (c .before .before .before .before .before .before .before .before .before .before .before .before .before .uneven .ensures .1 (c .before .before .before .before .before .before .before .before .before .before .before .before .if2 .left))
+          (c .before .before .before .before .before .before .before .before .before .before .before .outside .ensures .1 (c .before .before .before .before .before .before .before .before .before .before .if3 .left)) (c .before .before .before .before .before .before .before .before .before .outside2 .ensures .1 (c .before .before .before .before .before .before .before .before .if4 .left)) (λ s. omega (arith, c .before .before .before .before .before .before .before .if5 .left)) (v .0);
+      clear = c .before .before .before .before .before .verdict .ensures .1;
+      count = v .1;
+      others = v .2;
+    }
+
+pub gate-spec : {M : Type 1} → statement M
+gate-spec =
+    tie.close
+    (tie.spec
+    misfit-requires
+    returns
+    sub-n
+    uneven-requires
+    returns-2
+    outside-requires
+    returns-3
+    outside-requires-2
+    returns-4
+    returns-5
+    verdict-requires
+    enum-known-r
+    enum-told
+    same-length
+    returns-6
+    cast-t12
+    cast-t11
+    same-length-2
+    returns-7)

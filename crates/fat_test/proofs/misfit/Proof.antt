@@ -1,0 +1,18 @@
+-- `fat_test::misfit` meets its contract. Assumes nothing.
+use Rattle.fat_test.proofs.Cases.{untrue, unfalse}
+use native.Mathlib.Omega.{arith}
+use mathlib.Core.Logic.{inl, inr, ⊎-elim}
+use Rattle.fat_test.proofs.misfit.Statement.{statement}
+use Rattle.fat_test.proofs.misfit.Tie as tie
+
+returns : tie.Need-returns
+returns c = ((λ _. inl (c .if1 .taken)), λ e. unfalse e)
+
+returns-2 : tie.Need-returns-2
+returns-2 c = ((λ _. inr (c .if2 .taken)), λ e. unfalse e)
+
+returns-3 : tie.Need-returns-3
+returns-3 c = ((λ e. untrue e), λ _ m. ⊎-elim (λ h. omega arith) (λ h. h (omega arith)) m)
+
+pub misfit-spec : {M : Type 1} → statement M
+misfit-spec = tie.close (tie.spec returns returns-2 returns-3)

@@ -1,0 +1,97 @@
+-- `fat_test::test` meets its contract. Assumes nothing.
+use Rattle.fat_test.proofs.Cases.{fits, test-misfit, test-outside, test-short, test-broken, test-sound}
+use Rattle.fat_node.specs.Sizes.{blocks}
+use Rattle.fat_ends.specs.Promise.{Judged}
+use native.Mathlib.Omega.{arith}
+use mathlib.Core.Path.{subst}
+use borrow.Author.Needs.{needs}
+use Rattle.fat_test.proofs.test.Statement.{statement}
+use Rattle.fat_test.proofs.test.Tie as tie
+
+misfit-requires : tie.Need-misfit-requires
+misfit-requires c κs = search needs
+
+refused-requires : tie.Need-refused-requires
+refused-requires c κs = search needs
+
+returns : tie.Need-returns
+returns c = test-misfit (c .before .before .before .before .before .args .table .now) (c .before .before .before .before .before .args .work .now) (c .before .before .misfit .ensures .0 (c .before .if1 .taken)) (c .refused .ensures)
+
+sub-n : tie.Need-sub-n
+sub-n c = omega (arith, fits (c .before .before .before .before .args .table .now) (c .before .misfit .ensures .1 (c .if1 .left)))
+
+outside-requires : tie.Need-outside-requires
+outside-requires c κs = search needs
+
+refused-requires-2 : tie.Need-refused-requires-2
+refused-requires-2 c κs = search needs
+
+returns-2 : tie.Need-returns-2
+returns-2 c = test-outside (c .before .before .before .before .before .before .before .args .table .now) (c .before .before .before .before .before .before .before .args .work .now) (c .before .before .before .before .misfit .ensures .1 (c .before .before .before .if1 .left)) (c .before .before .outside .ensures .0 (c .before .if2 .taken)) (c .refused2 .ensures)
+
+refused-requires-3 : tie.Need-refused-requires-3
+refused-requires-3 c κs = search needs
+
+returns-3 : tie.Need-returns-3
+returns-3 c = test-short (c .before .before .before .before .before .before .before .before .args .table .now) (c .before .before .before .before .before .before .before .before .args .work .now) (c .before .before .before .before .before .misfit .ensures .1 (c .before .before .before .before .if1 .left)) (c .before .before .before .outside .ensures .1 (c .before .before .if2 .left)) (c .before .if3 .taken) (c .refused3 .ensures)
+
+verdict-requires : tie.Need-verdict-requires
+verdict-requires c κs = (c .before .before .before .before .before .misfit .ensures .1 (c .before .before .before .before .if1 .left), (c .before .before .before .outside .ensures .1 (c .before .before .if2 .left), omega arith))
+
+enum-known-r : tie.Need-enum-known-r
+enum-known-r c = search needs
+
+enum-told : tie.Need-enum-told
+enum-told c = search needs
+
+refused-requires-4 : tie.Need-refused-requires-4
+refused-requires-4 c κs = search needs
+
+same-length : tie.Need-same-length
+same-length c = search needs
+
+returns-4 : tie.Need-returns-4
+returns-4 c =
+    test-broken (c .before .before .before .before .before .before .before .before .before .before .before .before .before .before .args .table .now) (c .before .before .before .before .before .before .before .before .before .before .before .before .before .before .args .work .now) (c .before .before .before .before .before .before .before .before .before .before .before .misfit .ensures .1 (c .before .before .before .before .before .before .before .before .before .before .if1 .left)) (c .before .before .before .before .before .before .before .before .before .outside .ensures .1 (c .before .before .before .before .before .before .before .before .if2 .left))
+    (λ s. omega (arith, c .before .before .before .before .before .before .before .if3 .left)) (c .before .before .before .before .before .verdict .ensures .1)
+    (subst (Judged (c .before .before .before .before .before .before .before .before .before .before .before .before .before .before .args .table .now) (blocks (c .before .before .before .before .before .before .before .before .before .before .before .before .before .before .args .table .now))) (c .before .enum-told .given .1) (c .before .before .before .before .before .verdict .ensures .0))
+    (c .refused4 .ensures)
+
+cast-t10 : tie.Need-cast-t10
+cast-t10 c = search needs
+
+cast-t9 : tie.Need-cast-t9
+cast-t9 c = search needs
+
+same-length-2 : tie.Need-same-length-2
+same-length-2 c = search needs
+
+returns-5 : tie.Need-returns-5
+returns-5 c =
+    test-sound (c .before .before .before .before .before .before .before .before .before .before .before .before .before .before .args .table .now) (c .before .before .before .before .before .before .before .before .before .before .before .before .before .before .args .work .now) (c .before .before .before .before .before .before .before .before .before .before .before .misfit .ensures .1 (c .before .before .before .before .before .before .before .before .before .before .if1 .left)) (c .before .before .before .before .before .before .before .before .before .outside .ensures .1 (c .before .before .before .before .before .before .before .before .if2 .left))
+    (λ s. omega (arith, c .before .before .before .before .before .before .before .if3 .left)) (c .before .before .before .before .before .verdict .ensures .1)
+    (subst (Judged (c .before .before .before .before .before .before .before .before .before .before .before .before .before .before .args .table .now) (blocks (c .before .before .before .before .before .before .before .before .before .before .before .before .before .before .args .table .now))) (c .before .r .given .1) (c .before .before .before .before .before .verdict .ensures .0))
+
+pub test-spec : {M : Type 1} → statement M
+test-spec =
+    tie.close
+    (tie.spec
+    misfit-requires
+    refused-requires
+    returns
+    sub-n
+    outside-requires
+    refused-requires-2
+    returns-2
+    refused-requires-3
+    returns-3
+    verdict-requires
+    enum-known-r
+    enum-told
+    refused-requires-4
+    same-length
+    returns-4
+    cast-t10
+    cast-t9
+    same-length-2
+    returns-5)
