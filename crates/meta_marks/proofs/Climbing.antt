@@ -13,7 +13,7 @@ use Rattle.links.proofs.Held.{same-or}
 use Rattle.links.proofs.Way.{Way, way-on, way-end, way-new, way-part, in-left, in-right}
 use Rattle.meta_marks.specs.Marks.{gone, markOf, Within, Marked, Tells}
 use Rattle.meta_marks.specs.Gather.{Alive, Told}
-use Rattle.meta_marks.specs.Climb.{Ends, Flat, Up, Rising, Risen, AllRisen}
+use Rattle.meta_marks.specs.Climb.{Tops, Flat, Up, Rising, Risen, AllRisen}
 use Rattle.meta_marks.proofs.Walks.{in-snoc, within-refl, within-trans}
 use Rattle.meta_marks.proofs.Gathering.{in-or}
 
@@ -39,13 +39,13 @@ module _ {count : ℕ} {work : List ℕ} {y x n : ℕ} (C : Climbed count work y
     most = omega arith;
   }
 
-  pub climb-end : x ≡ 0 → Tells (Ends count work y) true
+  pub climb-end : x ≡ 0 → Tells (Tops count work y) true
   climb-end e = record {
     yes = λ _. (C .ps, way-end (markOf work) y (C .ps) (subst (λ z. Way (markOf work) y (C .ps) z) e (C .way)), C .low);
     only = λ _. refl;
   }
 
-  pub climb-past : (x ≡ 0 → ⊥) → count ≤ x → Tells (Ends count work y) false
+  pub climb-past : (x ≡ 0 → ⊥) → count ≤ x → Tells (Tops count work y) false
   climb-past hx h = record {
     yes = λ e. absurd (false≢true e);
     only = λ E. absurd (
@@ -54,7 +54,7 @@ module _ {count : ℕ} {work : List ℕ} {y x n : ℕ} (C : Climbed count work y
   }
 
   -- as many steps as there are entries, and not at the end
-  pub climb-long : (x ≡ 0 → ⊥) → x < count → n ≡ count → Tells (Ends count work y) false
+  pub climb-long : (x ≡ 0 → ⊥) → x < count → n ≡ count → Tells (Tops count work y) false
   climb-long hx hc h = record {
     yes = λ e. absurd (false≢true e);
     only = λ E. absurd (
@@ -94,7 +94,7 @@ first-is : (next : ℕ → ℕ) (x : ℕ) (qs : List ℕ) → 0 < x → Links ne
 first-is next x [] h l = absurd (omega arith)
 first-is next x (a ∷ rs) h l = (rs, ap (λ z. z ∷ rs) (sym (l .0)), subst (λ z. Links next (next z) rs) (sym (l .0)) (l .2))
 
-pub flat-begin : {count y : ℕ} {work : List ℕ} (i p : ℕ) → 0 < y → Ends count work y → i ≡ y → p ≡ getD work i 0 → Flattening count y work work y p
+pub flat-begin : {count y : ℕ} {work : List ℕ} (i p : ℕ) → 0 < y → Tops count work y → i ≡ y → p ≡ getD work i 0 → Flattening count y work work y p
 flat-begin {count} {y} {work} i p h E e ep = record {
   ps = [];
   qs = E .0;
@@ -206,7 +206,7 @@ module _ (u : ℕ → ℕ) (count : ℕ) (R work : List ℕ) (S : Rising u count
       up-all (u a) qs (k .1) (subst (λ w. Links (markOf work) w qs) (k .0) (l .2)) z m)
       (S .at a (subst (λ w. Alive count R w) (l .0) al))
 
-  pub ends-of : u 1 ≡ 0 → (y : ℕ) (xs : List ℕ) → Alive count R y → Links u y xs → 1 ∈ xs → Ends count work y
+  pub ends-of : u 1 ≡ 0 → (y : ℕ) (xs : List ℕ) → Alive count R y → Links u y xs → 1 ∈ xs → Tops count work y
   ends-of u1 y (a ∷ xs) al l m =
       let la : Alive count R a = subst (λ w. Alive count R w) (l .0) al in
       ⊎-elim
@@ -260,7 +260,7 @@ rises-gone {count} {y} {work} i m a b ei em g = record {
   within = within-refl 0 count work;
 }
 
-pub rises-not : {count y : ℕ} {work : List ℕ} {r : Bool} (i m : ℕ) → 0 < y → y < count → i ≡ y → m ≡ getD work i 0 → (m ≡ gone → ⊥) → Tells (Ends count work y) r → r ≡ false
+pub rises-not : {count y : ℕ} {work : List ℕ} {r : Bool} (i m : ℕ) → 0 < y → y < count → i ≡ y → m ≡ getD work i 0 → (m ≡ gone → ⊥) → Tells (Tops count work y) r → r ≡ false
     → Risen count y work work false
 rises-not {count} {y} {work} {r} i m a b ei em n C f = record {
   good = λ e. absurd (false≢true e);
@@ -270,7 +270,7 @@ rises-not {count} {y} {work} {r} i m a b ei em n C f = record {
   within = within-refl 0 count work;
 }
 
-pub rises-up : {count y : ℕ} {work work′ : List ℕ} {r : Bool} (i m : ℕ) → 0 < y → y < count → i ≡ y → m ≡ getD work i 0 → (m ≡ gone → ⊥) → Tells (Ends count work y) r → r ≡ true
+pub rises-up : {count y : ℕ} {work work′ : List ℕ} {r : Bool} (i m : ℕ) → 0 < y → y < count → i ≡ y → m ≡ getD work i 0 → (m ≡ gone → ⊥) → Tells (Tops count work y) r → r ≡ true
     → Flat count y work work′ → Risen count y work work′ true
 rises-up {count} {y} {work} {work′} {r} i m a b ei em n C t F = record {
   good = λ _ u R T S.

@@ -12,7 +12,8 @@ use lib.Seq.{getD-set-same, getD-set-other}
 use Rattle.links.specs.Links.{_∈_, Links}
 use Rattle.links.proofs.Held.{same-or}
 use Rattle.links.proofs.Way.{Way, way-on, way-end, way-new, in-left, in-right}
-use Rattle.meta_marks.specs.Marks.{gone, linkOf, markAt, Within, Free, Marked, Listed}
+use Rattle.meta_table.specs.Chain.{linkAt}
+use Rattle.meta_marks.specs.Marks.{gone, markAt, Within, Free, Marked, Listed}
 
 pub in-snoc : (y x : ℕ) (ps : List ℕ) → y ∈ (ps ++ x ∷ []) → (y ∈ ps) ⊎ (y ≡ x)
 in-snoc y x [] (inl e) = inr e

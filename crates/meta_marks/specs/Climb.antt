@@ -9,8 +9,8 @@ use Rattle.meta_marks.specs.Marks.{markOf, Within, Marked}
 use Rattle.meta_marks.specs.Gather.{Alive, Told}
 
 -- the list of marks from y on ends, and lies below count
-abbrev pub Ends : ℕ → List ℕ → ℕ → Type 0
-Ends count work y = (ps : List ℕ) × Links (markOf work) y ps × ((z : ℕ) → z ∈ ps → z < count)
+abbrev pub Tops : ℕ → List ℕ → ℕ → Type 0
+Tops count work y = (ps : List ℕ) × Links (markOf work) y ps × ((z : ℕ) → z ∈ ps → z < count)
 
 -- the marks on the way up from y are 0, the others stay
 pub record Flat (count y : ℕ) (work work′ : List ℕ) : Type 0 where

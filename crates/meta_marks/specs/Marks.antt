@@ -2,18 +2,13 @@
 use mathlib.Core.Path.{_≡_}
 use mathlib.Core.List.{List}
 use mathlib.Core.Bool.{Bool, true, false}
-use Prim.Native.Nat.{ℕ, _+_, _*_, _≤_, _<_}
+use Prim.Native.Nat.{ℕ, _+_, _≤_, _<_}
 use lib.ListN.{length, getD}
 use Rattle.links.specs.Links.{_∈_, Links}
-use Rattle.words.specs.Word.{word}
 
 -- the mark of a removed entry; more than any bucket's number counted from 1, and any inode
 abbrev pub gone : ℕ
 gone = 65537
-
--- the link of entry x: the word at `link` in it
-abbrev pub linkOf : List ℕ → ℕ → ℕ → ℕ → ℕ
-linkOf t w link x = word t (x * w + link)
 
 -- the mark of entry y, where the marks of its table begin at `off` in the work list
 abbrev pub markAt : List ℕ → ℕ → ℕ → ℕ

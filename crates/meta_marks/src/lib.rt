@@ -3,16 +3,10 @@ ghost use mathlib.Core.Path.{_≡_};
 ghost use mathlib.Core.List.{List};
 ghost use Prim.Native.Nat.{ℕ, _+_, _-_, _*_, _≤_, _<_};
 ghost use lib.ListN.{length, getD};
-ghost use Rattle.meta_marks.specs.Marks.{gone, linkOf, markAt, markOf, Tells, Within, Marked, Listed};
+ghost use Rattle.meta_table.specs.Chain.{linkAt};
+ghost use Rattle.meta_marks.specs.Marks.{gone, markAt, markOf, Tells, Within, Marked, Listed};
 ghost use Rattle.meta_marks.specs.Gather.{Alive, Gathered, Gathers, bucketAt, any, Told, Dir, Named, Kept};
-ghost use Rattle.meta_marks.specs.Climb.{Ends, Flat, Risen, AllRisen};
-
-// An inode as an index.
-fn index(x: u32) -> usize
-    ensures { λ r. ⌜ r ≡ x ⌝ }
-{
-    x as usize
-}
+ghost use Rattle.meta_marks.specs.Climb.{Tops, Flat, Risen, AllRisen};
 
 // Goes along a list and marks its entries. It stops at an entry that is not below count, or that is marked.
 pub fn mark_list(
@@ -26,14 +20,14 @@ pub fn mark_list(
     m: u32,
 ) -> bool
     requires { ⌜ (count * w ≤ length (now table)) × (link + 4 ≤ w) × (off + count ≤ length (now work)) × (0 < m) ⌝ }
-    ensures { λ r. ⌜ Listed (linkOf (now (table .entry)) w link) count first m off (now (work .entry)) (now (work .exit)) r ⌝ }
+    ensures { λ r. ⌜ Listed (linkAt (now (table .entry)) w link) count first m off (now (work .entry)) (now (work .exit)) r ⌝ }
 {
     let mut x = first;
     while x != 0 {
         if x >= count {
             return false;
         }
-        let i = index(x);
+        let i = meta_table::index(x);
         if work[off + i] != 0 {
             return false;
         }
@@ -57,13 +51,13 @@ pub fn mark_buckets(
     off: usize,
 ) -> bool
     requires { ⌜ (count * w ≤ length (now table)) × (4 ≤ w) × (off + count ≤ length (now work)) × (buckets * 4 ≤ length (now hash)) × (buckets ≤ 65536) ⌝ }
-    ensures { λ r. ⌜ ((R : List ℕ) → Gathered (linkOf (now (table .entry)) w (w - 4)) count (bucketAt (now (hash .entry))) any R 1 (markAt (now (work .entry)) off)
-        → Gathers (linkOf (now (table .entry)) w (w - 4)) count (bucketAt (now (hash .entry))) any (buckets + 1) off R (now (work .exit)) r)
+    ensures { λ r. ⌜ ((R : List ℕ) → Gathered (linkAt (now (table .entry)) w (w - 4)) count (bucketAt (now (hash .entry))) any R 1 (markAt (now (work .entry)) off)
+        → Gathers (linkAt (now (table .entry)) w (w - 4)) count (bucketAt (now (hash .entry))) any (buckets + 1) off R (now (work .exit)) r)
         × Within off count (now (work .entry)) (now (work .exit)) ⌝ }
 {
     let mut i: u32 = 1;
     while i <= buckets {
-        let first = words::get_u32(hash, index(i - 1) * 4);
+        let first = words::get_u32(hash, meta_table::index(i - 1) * 4);
         if !mark_list(table, w, w - 4, count, first, work, off, i) {
             return false;
         }
@@ -85,9 +79,9 @@ fn mark_dir(
 ) -> bool
     requires { ⌜ (p * 40 + 40 ≤ length (now dirs)) × (head + 4 ≤ 40) × (0 < p) × (p < length (now work))
         × (count * w ≤ length (now table)) × (24 ≤ w) × (off + count ≤ length (now work)) ⌝ }
-    ensures { λ r. ⌜ Dir (linkOf (now (table .entry)) w 20) count (linkOf (now (dirs .entry)) 40 head) p off (now (work .entry)) (now (work .exit)) r ⌝ }
+    ensures { λ r. ⌜ Dir (linkAt (now (table .entry)) w 20) count (linkAt (now (dirs .entry)) 40 head) p off (now (work .entry)) (now (work .exit)) r ⌝ }
 {
-    let i = index(p);
+    let i = meta_table::index(p);
     if work[i] == GONE {
         return true;
     }
@@ -110,8 +104,8 @@ pub fn mark_children(
     requires { ⌜ (bound * 40 ≤ length (now dirs)) × (head + 4 ≤ 40) × (1 ≤ bound) × (bound ≤ 65536) × (bound ≤ length (now work))
         × (count * w ≤ length (now table)) × (24 ≤ w) × (off + count ≤ length (now work)) ⌝ }
     ensures { λ r. ⌜ ((RD R : List ℕ) → Told bound RD (now (work .entry))
-        → Gathered (linkOf (now (table .entry)) w 20) count (linkOf (now (dirs .entry)) 40 head) (Alive bound RD) R 1 (markAt (now (work .entry)) off)
-        → Gathers (linkOf (now (table .entry)) w 20) count (linkOf (now (dirs .entry)) 40 head) (Alive bound RD) bound off R (now (work .exit)) r)
+        → Gathered (linkAt (now (table .entry)) w 20) count (linkAt (now (dirs .entry)) 40 head) (Alive bound RD) R 1 (markAt (now (work .entry)) off)
+        → Gathers (linkAt (now (table .entry)) w 20) count (linkAt (now (dirs .entry)) 40 head) (Alive bound RD) bound off R (now (work .exit)) r)
         × Within off count (now (work .entry)) (now (work .exit)) ⌝ }
 {
     let mut p: u32 = 1;
@@ -138,7 +132,7 @@ pub fn keep_gone(work: &mut [u32], off: usize, count: u32)
 {
     let mut y: u32 = 0;
     while y < count {
-        let i = off + index(y);
+        let i = off + meta_table::index(y);
         let m = work[i];
         work[i] = kept(m);
         y += 1;
@@ -174,11 +168,11 @@ pub fn check_parents(
     off: usize,
 ) -> bool
     requires { ⌜ (count * w ≤ length (now table)) × (4 ≤ w) × (off + count ≤ length (now work)) ⌝ }
-    ensures { λ r. ⌜ Tells ((y : ℕ) → 0 < y → y < count → Named root y (markAt (now (work .entry)) off y) (linkOf (now (table .entry)) w 0 y)) r ⌝ }
+    ensures { λ r. ⌜ Tells ((y : ℕ) → 0 < y → y < count → Named root y (markAt (now (work .entry)) off y) (linkAt (now (table .entry)) w 0 y)) r ⌝ }
 {
     let mut y: u32 = 1;
     while y < count {
-        let i = index(y);
+        let i = meta_table::index(y);
         if !named(
             root,
             y,
@@ -195,7 +189,7 @@ pub fn check_parents(
 // Whether one comes to a mark 0 by going up from y by the marks. More steps than entries are a ring.
 fn climbs(work: &[u32], count: u32, y: u32) -> bool
     requires { ⌜ count ≤ length (now work) ⌝ }
-    ensures { λ r. ⌜ Tells (Ends count (now (work .entry)) y) r ⌝ }
+    ensures { λ r. ⌜ Tells (Tops count (now (work .entry)) y) r ⌝ }
 {
     let mut x = y;
     let mut n: u32 = 0;
@@ -206,7 +200,7 @@ fn climbs(work: &[u32], count: u32, y: u32) -> bool
         if n == count {
             return false;
         }
-        x = work[index(x)];
+        x = work[meta_table::index(x)];
         n += 1;
     }
     true
@@ -214,15 +208,15 @@ fn climbs(work: &[u32], count: u32, y: u32) -> bool
 
 // Sets the marks to 0 on the way up from y.
 fn flatten(work: &mut [u32], count: u32, y: u32)
-    requires { ⌜ (count ≤ length (now work)) × (0 < y) × (y < count) × Ends count (now work) y ⌝ }
+    requires { ⌜ (count ≤ length (now work)) × (0 < y) × (y < count) × Tops count (now work) y ⌝ }
     ensures { λ _. ⌜ Flat count y (now (work .entry)) (now (work .exit)) ⌝ }
 {
     let mut x = y;
-    let mut p = work[index(y)];
+    let mut p = work[meta_table::index(y)];
     while p != 0 {
-        work[index(x)] = 0;
+        work[meta_table::index(x)] = 0;
         x = p;
-        p = work[index(x)];
+        p = work[meta_table::index(x)];
     }
 }
 
@@ -231,7 +225,7 @@ fn rises(work: &mut [u32], count: u32, y: u32) -> bool
     requires { ⌜ (count ≤ length (now work)) × (0 < y) × (y < count) ⌝ }
     ensures { λ r. ⌜ Risen count y (now (work .entry)) (now (work .exit)) r ⌝ }
 {
-    let m = work[index(y)];
+    let m = work[meta_table::index(y)];
     if m == GONE {
         return true;
     }

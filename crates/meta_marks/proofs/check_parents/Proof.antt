@@ -5,7 +5,8 @@ use native.Mathlib.Omega.{arith}
 use borrow.Author.Needs.{needs}
 use borrow.Author.Tests.{not-true, not-false}
 use lib.ListN.{length, getD, set}
-use Rattle.meta_marks.specs.Marks.{linkOf, markAt, Tells}
+use Rattle.meta_table.specs.Chain.{linkAt}
+use Rattle.meta_marks.specs.Marks.{markAt, Tells}
 use Rattle.meta_marks.specs.Gather.{Named}
 use Rattle.meta_marks.proofs.Walks.{entry-in}
 use Rattle.meta_marks.proofs.Gathering.{Checking, check-begin, check-on, check-stop, check-done}
@@ -14,12 +15,12 @@ use Rattle.meta_marks.proofs.check_parents.Statement.{statement}
 use Rattle.meta_marks.proofs.check_parents.Tie as tie
 use Rattle.meta_marks.proofs.check_parents.Reads as reads
 use Rattle.meta_marks.proofs.check_parents.Lts as lts
-use Rattle.meta_marks.proofs.index.Reads as index-reads
+use Rattle.meta_table.proofs.index.Reads as index-reads
 use Rattle.meta_marks.proofs.named.Reads as named-reads
 use Rattle.words.proofs.get_u32.Reads as get-u32-reads
 
 abbrev Inv-loop : tie.InvT-loop
-Inv-loop table w root count work off y₀ y = Checking (λ z. Named root z (markAt work off z) (linkOf table w 0 z)) y
+Inv-loop table w root count work off y₀ y = Checking (λ z. Named root z (markAt work off z) (linkAt table w 0 z)) y
 
 abbrev μ-loop : tie.MeasureT-loop
 μ-loop table w root count work off y₀ y = count - y
@@ -75,8 +76,8 @@ named-requires c κs = search needs
 -- src/lib.rt:176:13
 returns : tie.Need-returns Inv-loop μ-loop
 returns c =
-    check-stop {P = λ z. Named (c .before .before .before .before .before .before .before .before .before .args .root) z (markAt (c .before .before .before .before .before .before .before .before .before .args .work .now) (c .before .before .before .before .before .before .before .before .before .args .off) z) (linkOf (c .before .before .before .before .before .before .before .before .before .args .table .now) (c .before .before .before .before .before .before .before .before .before .args .w) 0 z)} (c .before .before .before .before .before .before .loop .inv) (search needs)
-    (told _ _ _ _ _ _ (markAt (c .before .before .before .before .before .before .before .before .before .args .work .now) (c .before .before .before .before .before .before .before .before .before .args .off)) (linkOf (c .before .before .before .before .before .before .before .before .before .args .table .now) (c .before .before .before .before .before .before .before .before .before .args .w) 0) (c .before .before .before .before .index .ensures) refl (c .before .before .get-u32 .ensures) (c .before .named .ensures)) (not-true (c .before .named .result) (c .if1 .taken))
+    check-stop {P = λ z. Named (c .before .before .before .before .before .before .before .before .before .args .root) z (markAt (c .before .before .before .before .before .before .before .before .before .args .work .now) (c .before .before .before .before .before .before .before .before .before .args .off) z) (linkAt (c .before .before .before .before .before .before .before .before .before .args .table .now) (c .before .before .before .before .before .before .before .before .before .args .w) 0 z)} (c .before .before .before .before .before .before .loop .inv) (search needs)
+    (told _ _ _ _ _ _ (markAt (c .before .before .before .before .before .before .before .before .before .args .work .now) (c .before .before .before .before .before .before .before .before .before .args .off)) (linkAt (c .before .before .before .before .before .before .before .before .before .args .table .now) (c .before .before .before .before .before .before .before .before .before .args .w) 0) (c .before .before .before .before .index .ensures) refl (c .before .before .get-u32 .ensures) (c .before .named .ensures)) (not-true (c .before .named .result) (c .if1 .taken))
 
 -- src/lib.rt:178:9
 add-y : tie.Need-add-y Inv-loop μ-loop
@@ -89,12 +90,12 @@ loop-less c = search needs
 -- src/lib.rt:173:5
 loop-again : tie.Need-loop-again Inv-loop μ-loop
 loop-again c =
-    check-on {P = λ z. Named (c .before .before .before .before .before .before .before .before .before .args .root) z (markAt (c .before .before .before .before .before .before .before .before .before .args .work .now) (c .before .before .before .before .before .before .before .before .before .args .off) z) (linkOf (c .before .before .before .before .before .before .before .before .before .args .table .now) (c .before .before .before .before .before .before .before .before .before .args .w) 0 z)} (c .before .before .before .before .before .before .loop .inv)
-    (told _ _ _ _ _ _ (markAt (c .before .before .before .before .before .before .before .before .before .args .work .now) (c .before .before .before .before .before .before .before .before .before .args .off)) (linkOf (c .before .before .before .before .before .before .before .before .before .args .table .now) (c .before .before .before .before .before .before .before .before .before .args .w) 0) (c .before .before .before .before .index .ensures) refl (c .before .before .get-u32 .ensures) (c .before .named .ensures)) (not-false (c .before .named .result) (c .if1 .left))
+    check-on {P = λ z. Named (c .before .before .before .before .before .before .before .before .before .args .root) z (markAt (c .before .before .before .before .before .before .before .before .before .args .work .now) (c .before .before .before .before .before .before .before .before .before .args .off) z) (linkAt (c .before .before .before .before .before .before .before .before .before .args .table .now) (c .before .before .before .before .before .before .before .before .before .args .w) 0 z)} (c .before .before .before .before .before .before .loop .inv)
+    (told _ _ _ _ _ _ (markAt (c .before .before .before .before .before .before .before .before .before .args .work .now) (c .before .before .before .before .before .before .before .before .before .args .off)) (linkAt (c .before .before .before .before .before .before .before .before .before .args .table .now) (c .before .before .before .before .before .before .before .before .before .args .w) 0) (c .before .before .before .before .index .ensures) refl (c .before .before .get-u32 .ensures) (c .before .named .ensures)) (not-false (c .before .named .result) (c .if1 .left))
 
 -- src/lib.rt:168:1
 returns-2 : tie.Need-returns-2 Inv-loop μ-loop
-returns-2 c = check-done {P = λ z. Named (c .before .before .before .before .args .root) z (markAt (c .before .before .before .before .args .work .now) (c .before .before .before .before .args .off) z) (linkOf (c .before .before .before .before .args .table .now) (c .before .before .before .before .args .w) 0 z)} (c .before .loop .inv) (search needs)
+returns-2 c = check-done {P = λ z. Named (c .before .before .before .before .args .root) z (markAt (c .before .before .before .before .args .work .now) (c .before .before .before .before .args .off) z) (linkAt (c .before .before .before .before .args .table .now) (c .before .before .before .before .args .w) 0 z)} (c .before .loop .inv) (search needs)
 
 pub check-parents-spec : {M : Type 1} → statement M
 check-parents-spec =

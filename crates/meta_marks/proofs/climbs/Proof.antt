@@ -10,7 +10,7 @@ use Rattle.meta_marks.proofs.climbs.Statement.{statement}
 use Rattle.meta_marks.proofs.climbs.Tie as tie
 use Rattle.meta_marks.proofs.climbs.Reads as reads
 use Rattle.meta_marks.proofs.climbs.Lts as lts
-use Rattle.meta_marks.proofs.index.Reads as index-reads
+use Rattle.meta_table.proofs.index.Reads as index-reads
 
 abbrev Inv-loop : tie.InvT-loop
 Inv-loop work count y x₀ n₀ x n = Climbed count work y x n

@@ -10,7 +10,7 @@ use Rattle.meta_marks.proofs.flatten.Statement.{statement}
 use Rattle.meta_marks.proofs.flatten.Tie as tie
 use Rattle.meta_marks.proofs.flatten.Reads as reads
 use Rattle.meta_marks.proofs.flatten.Lts as lts
-use Rattle.meta_marks.proofs.index.Reads as index-reads
+use Rattle.meta_table.proofs.index.Reads as index-reads
 
 abbrev Inv-loop : tie.InvT-loop
 Inv-loop work₀ count y x₀ p₀ work x p = Flattening count y work₀ work x p

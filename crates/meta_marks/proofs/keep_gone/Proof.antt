@@ -10,7 +10,7 @@ use Rattle.meta_marks.proofs.keep_gone.Statement.{statement}
 use Rattle.meta_marks.proofs.keep_gone.Tie as tie
 use Rattle.meta_marks.proofs.keep_gone.Reads as reads
 use Rattle.meta_marks.proofs.keep_gone.Lts as lts
-use Rattle.meta_marks.proofs.index.Reads as index-reads
+use Rattle.meta_table.proofs.index.Reads as index-reads
 use Rattle.meta_marks.proofs.kept.Reads as kept-reads
 
 abbrev Inv-loop : tie.InvT-loop

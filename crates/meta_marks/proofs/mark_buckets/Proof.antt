@@ -6,7 +6,8 @@ use native.Mathlib.Omega.{arith}
 use borrow.Author.Needs.{needs}
 use borrow.Author.Tests.{not-true, not-false}
 use lib.ListN.{length}
-use Rattle.meta_marks.specs.Marks.{linkOf, markAt, Within}
+use Rattle.meta_table.specs.Chain.{linkAt}
+use Rattle.meta_marks.specs.Marks.{markAt, Within}
 use Rattle.meta_marks.specs.Gather.{Gathered, bucketAt, any}
 use Rattle.meta_marks.proofs.Walks.{within-refl, within-trans}
 use Rattle.meta_marks.proofs.Gathering.{gathers-more, gathers-stop, gathers-done}
@@ -14,14 +15,14 @@ use Rattle.meta_marks.proofs.mark_buckets.Statement.{statement}
 use Rattle.meta_marks.proofs.mark_buckets.Tie as tie
 use Rattle.meta_marks.proofs.mark_buckets.Reads as reads
 use Rattle.meta_marks.proofs.mark_buckets.Lts as lts
-use Rattle.meta_marks.proofs.index.Reads as index-reads
+use Rattle.meta_table.proofs.index.Reads as index-reads
 use Rattle.meta_marks.proofs.mark_list.Reads as mark-list-reads
 use Rattle.words.proofs.get_u32.Reads as get-u32-reads
 
 abbrev Inv-loop : tie.InvT-loop
 Inv-loop hash table w count buckets work₀ off i₀ work i =
     (0 < i) × (i ≤ buckets + 1) × (length work ≡ length work₀)
-    × ((R : List ℕ) → Gathered (linkOf table w (w - 4)) count (bucketAt hash) any R 1 (markAt work₀ off) → Gathered (linkOf table w (w - 4)) count (bucketAt hash) any R i (markAt work off))
+    × ((R : List ℕ) → Gathered (linkAt table w (w - 4)) count (bucketAt hash) any R 1 (markAt work₀ off) → Gathered (linkAt table w (w - 4)) count (bucketAt hash) any R i (markAt work off))
     × Within off count work₀ work
 
 abbrev μ-loop : tie.MeasureT-loop

@@ -5,7 +5,7 @@ use native.Mathlib.Omega.{arith}
 use borrow.Author.Needs.{needs}
 use borrow.Author.Tests.{not-true, not-false}
 use lib.ListN.{length, getD}
-use Rattle.meta_marks.specs.Marks.{linkOf}
+use Rattle.meta_table.specs.Chain.{linkAt}
 use Rattle.meta_marks.proofs.Gathering.{Children, children-begin, children-on, children-stop, children-done}
 use Rattle.meta_marks.proofs.mark_children.Statement.{statement}
 use Rattle.meta_marks.proofs.mark_children.Tie as tie
@@ -14,7 +14,7 @@ use Rattle.meta_marks.proofs.mark_children.Lts as lts
 use Rattle.meta_marks.proofs.mark_dir.Reads as mark-dir-reads
 
 abbrev Inv-loop : tie.InvT-loop
-Inv-loop dirs bound head table w count work₀ off p₀ work p = Children (linkOf table w 20) count (linkOf dirs 40 head) bound off work₀ work p
+Inv-loop dirs bound head table w count work₀ off p₀ work p = Children (linkAt table w 20) count (linkAt dirs 40 head) bound off work₀ work p
 
 abbrev μ-loop : tie.MeasureT-loop
 μ-loop dirs bound head table w count work₀ off p₀ work p = bound - p

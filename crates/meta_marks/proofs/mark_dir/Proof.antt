@@ -9,7 +9,7 @@ use Rattle.meta_marks.proofs.mark_dir.Statement.{statement}
 use Rattle.meta_marks.proofs.mark_dir.Tie as tie
 use Rattle.meta_marks.proofs.mark_dir.Reads as reads
 use Rattle.meta_marks.proofs.mark_dir.Lts as lts
-use Rattle.meta_marks.proofs.index.Reads as index-reads
+use Rattle.meta_table.proofs.index.Reads as index-reads
 use Rattle.meta_marks.proofs.mark_list.Reads as mark-list-reads
 use Rattle.words.proofs.get_u32.Reads as get-u32-reads
 

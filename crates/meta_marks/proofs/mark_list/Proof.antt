@@ -4,17 +4,17 @@ use Prim.Native.Nat.{ℕ, _+_, _*_, _≤_}
 use native.Mathlib.Omega.{arith}
 use borrow.Author.Needs.{needs}
 use lib.ListN.{length}
-use Rattle.meta_marks.specs.Marks.{linkOf}
+use Rattle.meta_table.specs.Chain.{linkAt}
 use Rattle.meta_marks.proofs.Walks.{zeros, zeros-set, Going, going-begin, going-on, going-past, going-met, going-end, entry-in}
 use Rattle.meta_marks.proofs.mark_list.Statement.{statement}
 use Rattle.meta_marks.proofs.mark_list.Tie as tie
 use Rattle.meta_marks.proofs.mark_list.Reads as reads
 use Rattle.meta_marks.proofs.mark_list.Lts as lts
-use Rattle.meta_marks.proofs.index.Reads as index-reads
+use Rattle.meta_table.proofs.index.Reads as index-reads
 use Rattle.words.proofs.get_u32.Reads as get-u32-reads
 
 abbrev Inv-loop : tie.InvT-loop
-Inv-loop table w link count first work₀ off m x₀ work x = Going (linkOf table w link) count first m off work₀ work x
+Inv-loop table w link count first work₀ off m x₀ work x = Going (linkAt table w link) count first m off work₀ work x
 
 abbrev μ-loop : tie.MeasureT-loop
 μ-loop table w link count first work₀ off m x₀ work x = zeros work

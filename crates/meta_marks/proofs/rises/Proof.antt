@@ -12,7 +12,7 @@ use Rattle.meta_marks.proofs.rises.Reads as reads
 use Rattle.meta_marks.proofs.rises.Lts as lts
 use Rattle.meta_marks.proofs.climbs.Reads as climbs-reads
 use Rattle.meta_marks.proofs.flatten.Reads as flatten-reads
-use Rattle.meta_marks.proofs.index.Reads as index-reads
+use Rattle.meta_table.proofs.index.Reads as index-reads
 
 -- src/lib.rt:222:18
 index-requires : tie.Need-index-requires
