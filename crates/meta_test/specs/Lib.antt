@@ -1,2 +1,4 @@
+pub mod Stage
+pub mod Entries
 pub mod Gate
 pub mod Promise

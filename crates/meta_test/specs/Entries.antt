@@ -1,0 +1,19 @@
+-- What the test asks of one entry by itself, once its table's buckets were gone along. Assumes nothing.
+use mathlib.Core.Path.{_≡_}
+use mathlib.Core.List.{List}
+use mathlib.Core.Logic.{_⊎_}
+use Prim.Native.Nat.{ℕ, _+_, _-_, _*_, _%_, _<_}
+use Rattle.links.specs.Links.{_∈_}
+use Rattle.meta_key.specs.Hash.{hashOf}
+use Rattle.meta_table.specs.Field.{field}
+use Rattle.meta_table.specs.View.{keyAt}
+use Rattle.meta_table.specs.Chain.{linkAt, listAt}
+use Rattle.meta_marks.specs.Marks.{gone}
+
+-- no entry behind y in its bucket has y's key
+abbrev pub Apart : List ℕ → ℕ → ℕ → Type 0
+Apart t w y = (z : ℕ) → z ∈ listAt t w (w - 4) (linkAt t w (w - 4) y) → keyAt (field w t) z ≡ keyAt (field w t) y → ⊥
+
+-- entry y, by its mark: removed; or met in the bucket of its own hash, counted from 1, with no equal key behind it
+abbrev pub Fits : List ℕ → ℕ → ℕ → ℕ → ℕ → Type 0
+Fits t w buckets y mark = (mark ≡ gone) ⊎ ((mark ≡ hashOf (keyAt (field w t) y) % buckets + 1) × Apart t w y)
