@@ -207,6 +207,30 @@ may-after l b t d t′ d′ work work′ pos many v q h k =
       enough = subst⁻¹ (λ (x : ℕ). pos + many ≤ total (fileAt x t′ b) * l) e (subst⁻¹ (λ (f : List nodes-of.Run). pos + many ≤ total f * l) (v .same) h);
     }
 
+-- apart, by the promise of read: a read of a file that no call of the run names is answered Done after it as before, with the same bytes
+pub apart-read : (l b pos : ℕ) (t d t′ d′ : Bytes) (work work′ : List ℕ) (buf buf′ : Bytes) (r r′ : Beside Carry) → AreBytes t → Away l b t d t′ d′
+    → ReadPromise t d l work b pos buf r
+    → r .given .answer ≡ Done
+    → length buf′ ≡ length buf
+    → blocks t ≤ length work′
+    → ReadPromise t′ d′ l work′ b pos buf′ r′
+    → (r′ .given .answer ≡ Done) × (r′ .given .bytes ≡ r .given .bytes)
+apart-read l b pos t d t′ d′ work work′ buf buf′ r r′ g a p done e k q =
+    let n : ℕ = blocks t in
+    let v = read-means t d l work b pos buf r (are-bytes t g) p done in
+    let m : MayCarry t d l work b pos (length buf) = v .0 in
+    let s : Still n l b t d t′ d′ = still n l b t d (m .passed .whole) (m .file) a in
+    let h : pos + length buf′ ≤ sizeOf n t l b = subst⁻¹ (λ (x : ℕ). pos + x ≤ sizeOf n t l b) e (m .enough) in
+    let z = read-gives t′ d′ l work′ b pos buf′ r′ (may-after l b t d t′ d′ work work′ pos (length buf′) s (m .passed) h k) q in (
+      ap (λ (x : Beside Carry). x .given .answer) z,
+      ap (λ (x : Beside Carry). x .given .bytes) z
+          ∙ ap (λ (x : ℕ). bytesAt (length buf′) d′ l (blocksOf (fileAt x t′ b)) pos) (blocks-of n t′ (s .whole .room))
+          ∙ ap (λ (f : List nodes-of.Run). bytesAt (length buf′) d′ l (blocksOf f) pos) (s .same)
+          ∙ read-same (length buf′) d d′ l (blocksOf (fileAt n t b)) pos (λ x y w. s .bytes x (omega (arith, w, h)))
+          ∙ ap (λ (x : ℕ). bytesAt x d l (blocksOf (fileAt n t b)) pos) e
+          ∙ sym (ap (λ (x : Beside Carry). x .given .bytes) (v .1)),
+    )
+
 module _ (l b : ℕ) (t d : Bytes) (work : List ℕ) (pos : ℕ) (buf : Bytes) (o : Beside Carry) (t′ d′ : Bytes) (g : AreBytes t)
     (p : WritePromise t d l work b pos buf o) (done : o .given .answer ≡ Done) (a : Away l b t (o .given .bytes) t′ d′) where
   may-write : MayCarry t d l work b pos (length buf)
