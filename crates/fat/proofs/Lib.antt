@@ -5,3 +5,4 @@ pub mod Few
 pub mod Cases
 pub mod Walks
 pub mod Hops
+pub mod Done

@@ -98,3 +98,10 @@ pub record Beyond (l : List Run) (k i m : ℕ) : Type 0 where
 abbrev pub SeekSays : List Run → ℕ → Sought → Type 0
 SeekSays l k (Within b m) = Inside l k b m
 SeekSays l k (Past i m) = Beyond l k i m
+
+-- the last node of a chain is at block b
+pub record LastAt (l : List Run) (b : ℕ) : Type 0 where
+  pub before : List Run
+  pub node : Run
+  pub is : l ≡ before ++ node ∷ []
+  pub at : node .start ≡ b

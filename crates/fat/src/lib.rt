@@ -6,8 +6,11 @@ ghost use Rattle.fat_node.specs.Node.{prevAt, nextAt};
 ghost use mathlib.Core.Bool.{true};
 ghost use Rattle.fat_table.specs.Sound.{IsNode, File};
 ghost use Rattle.fat_table.specs.Chain.{sizeAt, headAt, chainAt};
-ghost use Rattle.fat.specs.Inner.{Volume, Standing, StandingAt, ChainFrom, withPrev, joinAt, endAt, splitAt, cutAt, SeekSays};
+ghost use Rattle.fat.specs.Inner.{Volume, Standing, StandingAt, ChainFrom, withPrev, joinAt, endAt, splitAt, cutAt, SeekSays, LastAt};
+ghost use Rattle.order.specs.First.{First};
+ghost use Rattle.fat.specs.Calls.{createGives, createRows, createDone, changeGives, deleteRows, deleteDone};
 use fat_node::Node;
+use order::Answer;
 
 // Copies one part over another of the same length.
 fn copy(dst: &mut [u8], src: &[u8])
@@ -221,4 +224,73 @@ pub fn is_file(table: &[u8], n: usize, b: usize) -> bool
     }
     let head = head_of(table);
     head != b + 1
+}
+
+// The last node of the chain that index first starts.
+fn last_of(table: &[u8], n: usize, first: usize) -> usize
+    requires { ⌜ ChainFrom n (now table) first ⌝ }
+    requires { ⌜ (first ≡ 0 → ⊥) ⌝ }
+    ensures { λ r. ⌜ LastAt (chainAt (now (table .entry)) n first) r ⌝ }
+{
+    let sought = seek(table, n, first, n + 1);
+    match sought {
+        Sought::Within { node, part: _ } => node,
+        Sought::Past { last, part: _ } => last - 1,
+    }
+}
+
+// The answer of a call that answers its number alone.
+pub struct Answered {
+    pub answer: Answer,
+}
+
+// Deletes the file at a block, on a sound table: all its nodes go before the free front, in their order.
+pub fn delete_sound(table: &mut [u8], n: usize, first_block: usize) -> Answered
+    requires { ⌜ Volume n (now table) ⌝ }
+    ensures { λ r. ⌜ First (deleteRows n (now (table .entry)) «first_block») (deleteDone n (now (table .entry)) «first_block») (changeGives (r .answer) (now (table .exit))) ⌝ }
+{
+    if !is_file(table, n, first_block) {
+        return Answered {
+            answer: Answer::NotAFile,
+        };
+    }
+    let last = last_of(table, n, first_block + 1);
+    let head = head_of(table);
+    join(table, n, last, head);
+    fat_node::set_head(table, first_block + 1);
+    Answered {
+        answer: Answer::Done,
+    }
+}
+
+// The answer of create: the first block of the file that it made.
+pub struct Created {
+    pub answer: Answer,
+    pub first: usize,
+}
+
+// Creates a file of so many blocks, on a sound table: the first of the free chain.
+pub fn create_sound(table: &mut [u8], n: usize, block_count: usize) -> Created
+    requires { ⌜ Volume n (now table) ⌝ }
+    ensures { λ r. ⌜ First (createRows n (now (table .entry)) «block_count») (createDone n (now (table .entry)) «block_count») (createGives (r .answer) (r .first) (now (table .exit))) ⌝ }
+{
+    if block_count == 0 {
+        return Created {
+            answer: Answer::InvalidValue,
+            first: 0,
+        };
+    }
+    let head = head_of(table);
+    let sought = seek(table, n, head, block_count);
+    let Sought::Within { node, part } = sought else {
+        return Created {
+            answer: Answer::NoSpace,
+            first: 0,
+        };
+    };
+    cut(table, n, node, part);
+    Created {
+        answer: Answer::Done,
+        first: head - 1,
+    }
 }
