@@ -3,15 +3,16 @@ use mathlib.Core.Path.{_≡_, refl, sym, ap, _∙_, subst}
 use mathlib.Core.Bool.{Bool, true, false}
 use mathlib.Core.List.{List, [], _∷_}
 use mathlib.Core.Logic.{inl, inr}
-use Prim.Native.Nat.{ℕ, _+_, _-_, _/_, _≤_, _<_}
+use Prim.Native.Nat.{ℕ, _+_, _-_, _*_, _/_, _≤_, _<_}
 use native.Mathlib.Omega.{arith}
-use lib.ListN.{length, getD, set}
+use lib.ListN.{length, getD, set, take, drop}
 use Rattle.order.specs.First.{First}
 use Rattle.order.specs.declared.Answer.{Answer}
 use Rattle.order.specs.declared.Answer.the-variants.{Done, NotFound, NotOpen, TooManyOpens}
 use Rattle.meta_table.specs.Field.{field}
 use Rattle.fs_meta.specs.Ready.{LiveAt, Single, alone}
-use Rattle.fs_meta.specs.Calls.{openRows, openDone, closeRows, closeDone, openingGives}
+use Rattle.fs_meta.specs.Calls.{openRows, openDone, closeRows, closeDone, openingGives, part, shownRows, shownGives}
+use Rattle.fs_meta.proofs.Lists.{inside, all-fit}
 use Rattle.fs_meta.proofs.Live.{Tells}
 
 -- a test that failed
@@ -46,3 +47,14 @@ module _ {h t : List ℕ} {w : ℕ} (S : Single h t w) (opens : List ℕ) (room 
       → First (closeRows (alone w t) opens x) (closeDone opens x) (openingGives Done (set opens i (getD opens i 0 - 1)))
   close-done i T e q g =
       inr (λ n. n (T .0 e), inr (λ k. g (ap (λ z. getD opens z 0) q ∙ k), ap (λ z. openingGives Done (set opens z (getD opens z 0 - 1))) q))
+
+module _ {h t : List ℕ} {w : ℕ} (S : Single h t w) (x i : ℕ) {r : Bool} (T : Tells r (LiveAt w t x)) (yes : r ≡ true) (e : i ≡ x) where
+  -- a live entry lies in the table
+  pub live-fits : i * w + w ≤ length t
+  live-fits = inside t w i (field w t 0 1) (let l : x < field w t 0 1 = T .0 yes .1 in omega arith) (all-fit h t w S)
+
+  -- bytes of it, shown
+  pub shown : (at many : ℕ) (bytes none : List ℕ) → bytes ≡ take many (drop (i * w + at) t)
+      → First (shownRows (alone w t) x none) (shownGives Done (part w t x at many)) (shownGives Done bytes)
+  shown at many bytes none q =
+      inr (λ n. n (T .0 yes), ap (shownGives Done) (q ∙ ap (λ z. take many (drop (z * w + at) t)) e))

@@ -2,6 +2,7 @@
 use mathlib.Core.List.{List}
 use Prim.Native.Nat.{ℕ, _/_, _≤_, _<_}
 use lib.ListN.{length}
+use Rattle.order.specs.declared.Answer.{Answer}
 use Rattle.links.specs.Links.{_∈_}
 use Rattle.links.specs.Change.{walk}
 use Rattle.meta_table.specs.Field.{field}
@@ -37,3 +38,11 @@ alone w t = viewOf 0 0 0 (field w t) (λ b. 0) (λ p. 0)
 -- a table with its hash, for the rows that ask for keys
 abbrev pub hashed : ℕ → List ℕ → List ℕ → View
 hashed w h t = viewOf (buckets h) 0 0 (field w t) (hashAt h) (λ p. 0)
+
+-- an answer, with one table afterwards
+pub record SetOne : Type 0 where
+  pub answer : Answer
+  pub table : List ℕ
+
+abbrev pub setGives : Answer → List ℕ → SetOne
+setGives answer table = record { answer = answer; table = table }

@@ -1,8 +1,8 @@
 // What stands in sound entry tables: the inner calls that look, and those that touch open counts alone. Each requires soundness and tests nothing.
 ghost use mathlib.Core.Path.{_≡_};
 ghost use mathlib.Core.Bool.{true};
-ghost use Prim.Native.Nat.{_+_, _/_, _≤_};
-ghost use lib.ListN.{length, take, drop};
+ghost use Prim.Native.Nat.{_/_, _≤_};
+ghost use lib.ListN.{length};
 ghost use Rattle.order.specs.First.{First};
 ghost use Rattle.fs_meta.specs.Calls.{openRows, openDone, closeRows, closeDone, openingGives, lookupRows, lookupDone, lookupGives, listGives, shortRows, listedDone, ListDirs, ListFiles};
 ghost use Rattle.meta_table.specs.Chain.{listAt, Ends};
@@ -178,26 +178,4 @@ fn free_of(hash: &[u8], table: &[u8], w: usize) -> usize
     let first = words::get_u32(table, w - 4);
     let removed = meta_table::index(meta_table::count_list(table, w, w - 4, first));
     maximum - count + removed
-}
-
-// Twenty bytes of a table, from a place on.
-fn bytes20(table: &[u8], at: usize) -> [u8; 20]
-    requires { ⌜ at + 20 ≤ length (now table) ⌝ }
-    ensures { λ r. ⌜ r ≡ take 20 (drop at (now (table .entry))) ⌝ }
-{
-    let mut out = [0u8; 20];
-    let mut i: usize = 0;
-    while i < 20 {
-        out[i] = table[at + i];
-        i += 1;
-    }
-    out
-}
-
-// Four bytes of a table, from a place on.
-fn bytes4(table: &[u8], at: usize) -> [u8; 4]
-    requires { ⌜ at + 4 ≤ length (now table) ⌝ }
-    ensures { λ r. ⌜ r ≡ take 4 (drop at (now (table .entry))) ⌝ }
-{
-    [table[at], table[at + 1], table[at + 2], table[at + 3]]
 }
