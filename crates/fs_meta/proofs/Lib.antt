@@ -3,3 +3,5 @@ pub mod Live
 pub mod Opens
 pub mod Lookups
 pub mod Listings
+pub mod Seats
+pub mod Links

@@ -4,3 +4,4 @@ pub mod Calls
 pub mod Promise
 pub mod Format
 pub mod Ready
+pub mod Seat
