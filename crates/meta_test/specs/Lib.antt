@@ -1,4 +1,2 @@
-pub mod Stage
-pub mod Entries
 pub mod Gate
 pub mod Promise

@@ -6,16 +6,16 @@ use native.Mathlib.Nat.{mod-lt}
 use borrow.Author.Tests.{not-true, not-false}
 use lib.ListN.{length, getD, set, take, drop, length-take, length-drop}
 use Rattle.meta_marks.proofs.Walks.{entry-in}
-use Rattle.meta_test.proofs.Sorting.{sort-1, sort-2, sort-3, sort-behind}
+use Rattle.meta_alone.proofs.Sorting.{sort-1, sort-2, sort-3, sort-behind}
 use borrow.Author.Needs.{needs}
-use Rattle.meta_test.proofs.sort_table.Statement.{statement}
-use Rattle.meta_test.proofs.sort_table.Tie as tie
-use Rattle.meta_test.proofs.sort_table.Reads as reads
-use Rattle.meta_test.proofs.sort_table.Lts as lts
+use Rattle.meta_alone.proofs.sort_table.Statement.{statement}
+use Rattle.meta_alone.proofs.sort_table.Tie as tie
+use Rattle.meta_alone.proofs.sort_table.Reads as reads
+use Rattle.meta_alone.proofs.sort_table.Lts as lts
 use Rattle.meta_marks.proofs.mark_buckets.Reads as mark-buckets-reads
 use Rattle.meta_marks.proofs.mark_list.Reads as mark-list-reads
 use Rattle.meta_table.proofs.link_of.Reads as link-of-reads
-use Rattle.meta_test.proofs.check_entries.Reads as check-entries-reads
+use Rattle.meta_alone.proofs.check_entries.Reads as check-entries-reads
 
 -- src/lib.rt:69:47
 sub-link-of : tie.Need-sub-link-of

@@ -5,16 +5,16 @@ use native.Mathlib.Omega.{arith}
 use native.Mathlib.Nat.{mod-lt}
 use borrow.Author.Tests.{not-true, not-false}
 use lib.ListN.{length, getD, set, take, drop, length-take, length-drop}
-use Rattle.meta_test.proofs.Singles.{single-front, single-lists, single-good, rooms-fit, count-is}
+use Rattle.meta_alone.proofs.Singles.{single-front, single-lists, single-good, rooms-fit, count-is}
 use borrow.Author.Needs.{needs}
-use Rattle.meta_test.proofs.test_table.Statement.{statement}
-use Rattle.meta_test.proofs.test_table.Tie as tie
-use Rattle.meta_test.proofs.test_table.Reads as reads
-use Rattle.meta_test.proofs.test_table.Lts as lts
+use Rattle.meta_alone.proofs.test_table.Statement.{statement}
+use Rattle.meta_alone.proofs.test_table.Tie as tie
+use Rattle.meta_alone.proofs.test_table.Reads as reads
+use Rattle.meta_alone.proofs.test_table.Lts as lts
 use Rattle.meta_marks.proofs.keep_gone.Reads as keep-gone-reads
 use Rattle.meta_table.proofs.link_of.Reads as link-of-reads
-use Rattle.meta_test.proofs.front_fits.Reads as front-fits-reads
-use Rattle.meta_test.proofs.sort_table.Reads as sort-table-reads
+use Rattle.meta_alone.proofs.front_fits.Reads as front-fits-reads
+use Rattle.meta_alone.proofs.sort_table.Reads as sort-table-reads
 
 -- src/lib.rt:105:9
 link-of-requires : tie.Need-link-of-requires

@@ -17,8 +17,8 @@ use Rattle.meta_marks.specs.Marks.{markAt, Within, Tells}
 use Rattle.meta_marks.specs.Gather.{Gathered, bucketAt, any, Kept}
 use Rattle.meta_marks.proofs.Walks.{within-refl, within-trans, within-more}
 use Rattle.meta_tree.specs.Sound.{Table}
-use Rattle.meta_test.specs.Stage.{Clean, alone, Front, Sorted, Single}
-use Rattle.meta_test.proofs.OneTable.{clean-of}
+use Rattle.meta_alone.specs.Stage.{Clean, alone, Front, Sorted, Single}
+use Rattle.meta_alone.proofs.OneTable.{clean-of}
 
 -- the numbers at a table's front
 abbrev pub Numbers : ℕ → ℕ → ℕ → ℕ → Type 0

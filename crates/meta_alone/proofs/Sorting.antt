@@ -19,9 +19,9 @@ use Rattle.meta_marks.specs.Marks.{gone, markAt, Free, Marked, Listed, Within, 
 use Rattle.meta_marks.specs.Gather.{Alive, Gathered, Gathers, bucketAt, any, Kept}
 use Rattle.meta_marks.proofs.Walks.{within-refl, within-trans, within-more, entry-in}
 use Rattle.meta_tree.specs.Sound.{Table}
-use Rattle.meta_test.specs.Entries.{Apart, Fits}
-use Rattle.meta_test.specs.Stage.{Clean, Behind, alone, Front, Sorted, Single}
-use Rattle.meta_test.proofs.OneTable.{removed-is, removed-marks, removed-free, own, by-number, behind, buckets-right, keys-apart, marks-right, apart-right, clean-of}
+use Rattle.meta_alone.specs.Entries.{Apart, Fits}
+use Rattle.meta_alone.specs.Stage.{Clean, Behind, alone, Front, Sorted, Single}
+use Rattle.meta_alone.proofs.OneTable.{removed-is, removed-marks, removed-free, own, by-number, behind, buckets-right, keys-apart, marks-right, apart-right, clean-of}
 
 bucket-at : (h : List ℕ) (b : ℕ) → bucketAt h (b + 1) ≡ hashAt h b
 unfolding field

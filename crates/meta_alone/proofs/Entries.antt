@@ -21,7 +21,7 @@ use Rattle.meta_table.specs.Chain.{linkAt, listAt, Ends, seekIn}
 use Rattle.meta_table.specs.declared.Hit.{Hit}
 use Rattle.meta_table.proofs.Chain.{key-part}
 use Rattle.meta_marks.specs.Marks.{gone, Tells}
-use Rattle.meta_test.specs.Entries.{Apart, Fits}
+use Rattle.meta_alone.specs.Entries.{Apart, Fits}
 
 -- a search that finds nothing met no entry with the key
 pub seek-none : (key : ℕ → List ℕ) (k xs : List ℕ) (n : ℕ) → ((y : ℕ) → y ∈ xs → 0 < y) → seekIn key k xs n .inode ≡ 0 → (z : ℕ) → z ∈ xs → key z ≡ k → ⊥

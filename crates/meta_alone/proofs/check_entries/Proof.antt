@@ -9,14 +9,14 @@ use lib.ListN.{length, getD, set, take, drop, length-take, length-drop}
 use Rattle.meta_marks.specs.Marks.{markAt, Tells}
 use Rattle.meta_marks.proofs.Walks.{entry-in}
 use Rattle.meta_marks.proofs.Gathering.{Checking, check-begin, check-on, check-stop, check-done}
-use Rattle.meta_test.specs.Entries.{Fits}
+use Rattle.meta_alone.specs.Entries.{Fits}
 use mathlib.Core.Bool.{Bool}
-use Rattle.meta_test.proofs.check_entries.Statement.{statement}
-use Rattle.meta_test.proofs.check_entries.Tie as tie
-use Rattle.meta_test.proofs.check_entries.Reads as reads
-use Rattle.meta_test.proofs.check_entries.Lts as lts
+use Rattle.meta_alone.proofs.check_entries.Statement.{statement}
+use Rattle.meta_alone.proofs.check_entries.Tie as tie
+use Rattle.meta_alone.proofs.check_entries.Reads as reads
+use Rattle.meta_alone.proofs.check_entries.Lts as lts
 use Rattle.meta_table.proofs.index.Reads as index-reads
-use Rattle.meta_test.proofs.entry_fits.Reads as entry-fits-reads
+use Rattle.meta_alone.proofs.entry_fits.Reads as entry-fits-reads
 
 abbrev Inv-loop : tie.InvT-loop
 Inv-loop table w count buckets work off y₀ y = Checking (λ z. Fits table w buckets z (markAt work off z)) y

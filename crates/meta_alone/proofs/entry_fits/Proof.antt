@@ -8,12 +8,12 @@ use lib.ListN.{length, getD, set, take, drop, length-take, length-drop}
 use Rattle.meta_key.specs.Hash.{hashOf}
 use Rattle.meta_key.specs.Key.{keyWords}
 use Rattle.meta_table.specs.Chain.{linkAt, Ends}
-use Rattle.meta_test.proofs.Entries.{fits-gone, fits-not, fits-apart, read-key, at-index}
+use Rattle.meta_alone.proofs.Entries.{fits-gone, fits-not, fits-apart, read-key, at-index}
 use borrow.Author.Needs.{needs}
-use Rattle.meta_test.proofs.entry_fits.Statement.{statement}
-use Rattle.meta_test.proofs.entry_fits.Tie as tie
-use Rattle.meta_test.proofs.entry_fits.Reads as reads
-use Rattle.meta_test.proofs.entry_fits.Lts as lts
+use Rattle.meta_alone.proofs.entry_fits.Statement.{statement}
+use Rattle.meta_alone.proofs.entry_fits.Tie as tie
+use Rattle.meta_alone.proofs.entry_fits.Reads as reads
+use Rattle.meta_alone.proofs.entry_fits.Lts as lts
 use Rattle.meta_key.proofs.get_key.Reads as get-key-reads
 use Rattle.meta_key.proofs.hash.Reads as hash-reads
 use Rattle.meta_table.proofs.get.Reads as get-reads

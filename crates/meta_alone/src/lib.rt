@@ -1,0 +1,111 @@
+// The test of one entry table by itself: the numbers at its front, the removed list, the buckets and the keys.
+ghost use mathlib.Core.Path.{_≡_};
+ghost use mathlib.Core.List.{List};
+ghost use Prim.Native.Nat.{ℕ, _+_, _-_, _*_, _/_, _≤_, _<_};
+ghost use lib.ListN.{length};
+ghost use Rattle.meta_table.specs.Chain.{linkAt, Ends};
+ghost use Rattle.meta_marks.specs.Marks.{gone, markAt, Tells};
+ghost use Rattle.meta_table.specs.Field.{field};
+ghost use Rattle.meta_alone.specs.Entries.{Fits};
+ghost use Rattle.meta_alone.specs.Stage.{Clean, Behind, Sorted, Single};
+
+// Whether an entry is removed, or was met in the bucket of its own hash and has no equal key behind it there.
+fn entry_fits(table: &[u8], w: usize, buckets: usize, y: u32, mark: u32) -> bool
+    requires { ⌜ (y * w + w ≤ length (now table)) × (24 ≤ w) × (0 < buckets) × (buckets ≤ 65536)
+        × ((mark ≡ gone → ⊥) → 0 < mark → Ends (now table) w (w - 4) (linkAt (now table) w (w - 4) y)) ⌝ }
+    ensures { λ r. ⌜ Tells (Fits (now (table .entry)) w buckets y mark) r ⌝ }
+{
+    if mark == meta_marks::GONE {
+        return true;
+    }
+    let start = meta_table::index(y) * w;
+    let end = start + w;
+    let key = meta_key::get_key(&table[start..end]);
+    let place = meta_key::hash(key, buckets);
+    if meta_table::index(mark) != place + 1 {
+        return false;
+    }
+    let first = meta_table::link_of(table, w, w - 4, y);
+    let hit = meta_table::get(table, w, first, key);
+    hit.inode == 0
+}
+
+// Whether every entry fits.
+fn check_entries(
+    table: &[u8],
+    w: usize,
+    count: u32,
+    buckets: usize,
+    work: &[u32],
+    off: usize,
+) -> bool
+    requires { ⌜ (count * w ≤ length (now table)) × (24 ≤ w) × (0 < buckets) × (buckets ≤ 65536) × (off + count ≤ length (now work))
+        × Behind (now table) w count (markAt (now work) off) ⌝ }
+    ensures { λ r. ⌜ Tells ((y : ℕ) → 0 < y → y < count → Fits (now (table .entry)) w buckets y (markAt (now (work .entry)) off y)) r ⌝ }
+{
+    let mut y: u32 = 1;
+    while y < count {
+        let m = work[off + meta_table::index(y)];
+        if !entry_fits(table, w, buckets, y, m) {
+            return false;
+        }
+        y += 1;
+    }
+    true
+}
+
+// The removed list, the buckets and the keys of one table, whose marks begin at `off` and are 0.
+fn sort_table(hash: &[u8], table: &[u8], w: usize, count: u32, work: &mut [u32], off: usize) -> bool
+    requires { ⌜ (count ≡ field w (now table) 0 1) × (count * w ≤ length (now table)) × (1 ≤ count) × (count ≤ 65536) × (24 ≤ w)
+        × (0 < length (now hash) / 4) × (length (now hash) / 4 ≤ 65536) × (off + count ≤ length (now work)) × ((y : ℕ) → markAt (now work) off y ≡ 0) ⌝ }
+    ensures { λ r. ⌜ Sorted (now (hash .entry)) (now (table .entry)) w off (now (work .entry)) (now (work .exit)) r ⌝ }
+{
+    let buckets = hash.len() / 4;
+    let first = meta_table::link_of(table, w, w - 4, 0);
+    if !meta_marks::mark_list(table, w, w - 4, count, first, work, off, meta_marks::GONE) {
+        return false;
+    }
+    if !meta_marks::mark_buckets(hash, table, w, count, buckets as u32, work, off) {
+        return false;
+    }
+    check_entries(table, w, count, buckets, work, off)
+}
+
+// Whether the numbers at a table's front fit its room.
+fn front_fits(count: u32, maximum: u32, room: usize, least: u32) -> bool
+    ensures { λ r. ⌜ Tells ((maximum ≤ room) × (1 ≤ count) × (count ≤ maximum) × (least ≤ count)) r ⌝ }
+{
+    if meta_table::index(maximum) > room {
+        return false;
+    }
+    if count < 1 {
+        return false;
+    }
+    if count > maximum {
+        return false;
+    }
+    count >= least
+}
+
+// Where the count and the maximum stand in entry 0.
+const COUNT: usize = 0;
+
+const MAXIMUM: usize = 4;
+
+// The test of one table by itself, whose marks begin at `off` and are 0. It leaves the marks of the removed entries.
+pub fn test_table(hash: &[u8], table: &[u8], w: usize, least: u32, work: &mut [u32], off: usize) -> bool
+    requires { ⌜ (24 ≤ w) × (w ≤ length (now table)) × (length (now table) / w ≤ 65536) × (0 < length (now hash) / 4) × (length (now hash) / 4 ≤ 65536)
+        × (off + length (now table) / w ≤ length (now work)) × ((y : ℕ) → markAt (now work) off y ≡ 0) ⌝ }
+    ensures { λ r. ⌜ Single (now (hash .entry)) (now (table .entry)) w least off (now (work .entry)) (now (work .exit)) r ⌝ }
+{
+    let count = meta_table::link_of(table, w, COUNT, 0);
+    let maximum = meta_table::link_of(table, w, MAXIMUM, 0);
+    if !front_fits(count, maximum, table.len() / w, least) {
+        return false;
+    }
+    if !sort_table(hash, table, w, count, work, off) {
+        return false;
+    }
+    meta_marks::keep_gone(work, off, count);
+    true
+}
