@@ -93,7 +93,14 @@ const COUNT: usize = 0;
 const MAXIMUM: usize = 4;
 
 // The test of one table by itself, whose marks begin at `off` and are 0. It leaves the marks of the removed entries.
-pub fn test_table(hash: &[u8], table: &[u8], w: usize, least: u32, work: &mut [u32], off: usize) -> bool
+pub fn test_table(
+    hash: &[u8],
+    table: &[u8],
+    w: usize,
+    least: u32,
+    work: &mut [u32],
+    off: usize,
+) -> bool
     requires { ⌜ (24 ≤ w) × (w ≤ length (now table)) × (length (now table) / w ≤ 65536) × (0 < length (now hash) / 4) × (length (now hash) / 4 ≤ 65536)
         × (off + length (now table) / w ≤ length (now work)) × ((y : ℕ) → markAt (now work) off y ≡ 0) ⌝ }
     ensures { λ r. ⌜ Single (now (hash .entry)) (now (table .entry)) w least off (now (work .entry)) (now (work .exit)) r ⌝ }

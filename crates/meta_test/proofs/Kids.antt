@@ -27,14 +27,14 @@ module _ (nx head f : ℕ → ℕ) (count n root : ℕ) (RD R : List ℕ) (W : �
     kids-parents y al nr =
         ⊎-elim (λ (g : W y ≡ gone). absurd (al .2 (G .removed y .1 g)))
         (λ (q : (W y ≡ f y) × ((0 < W y) ⊎ (y ≡ root))).
-          ⊎-elim
-          (λ (p : 0 < W y).
-            ⊎-elim (λ (z : W y ≡ 0). absurd (omega arith))
-            (⊎-elim (λ (g : W y ≡ gone). absurd (al .2 (G .removed y .1 g)))
-              (λ (k : (0 < W y) × (W y < n) × Alive n RD (W y)). subst (λ z. Alive n RD z) (q .0) (k .2)))
-            (G .only y))
-          (λ (e : y ≡ root). absurd (nr e))
-          (q .1))
+        ⊎-elim
+        (λ (p : 0 < W y).
+        ⊎-elim (λ (z : W y ≡ 0). absurd (omega arith))
+        (⊎-elim (λ (g : W y ≡ gone). absurd (al .2 (G .removed y .1 g)))
+        (λ (k : (0 < W y) × (W y < n) × Alive n RD (W y)). subst (λ z. Alive n RD z) (q .0) (k .2)))
+        (G .only y))
+        (λ (e : y ≡ root). absurd (nr e))
+        (q .1))
         (N y (al .0) (al .1))
 
   -- the reverse: right lists and live parents leave no other marks
@@ -44,25 +44,25 @@ module _ (nx head f : ℕ → ℕ) (count n root : ℕ) (RD R : List ℕ) (W : �
   kids-named lists parents none y a b =
       ⊎-elim (λ (m : y ∈ R). inl (G .removed y .0 m))
       (λ (m : y ∈ R → ⊥).
-        ⊎-elim
-        (λ (e : y ≡ root). inr (top e m, inr e))
-        (λ (ne : y ≢ root).
-          let k : Alive n RD (f y) = parents y (a, b, m) ne in
-          let L = G .list (f y) (k .0) (k .1) k in
-          let K = lists (f y) k in
-          let e : K .0 ≡ L .0 = one-list nx (head (f y)) (head (f y)) (K .0) (L .0) refl (K .1) (L .1) in
-          let q : W y ≡ f y = L .2 y .0 (subst (λ xs. y ∈ xs) e (K .2 y .1 ((a, b, m), refl))) in
-          inr (q, inl (let z : 0 < f y = k .0 in omega arith)))
-        (same-or y root))
+      ⊎-elim
+      (λ (e : y ≡ root). inr (top e m, inr e))
+      (λ (ne : y ≢ root).
+      let k : Alive n RD (f y) = parents y (a, b, m) ne in
+      let L = G .list (f y) (k .0) (k .1) k in
+      let K = lists (f y) k in
+      let e : K .0 ≡ L .0 = one-list nx (head (f y)) (head (f y)) (K .0) (L .0) refl (K .1) (L .1) in
+      let q : W y ≡ f y = L .2 y .0 (subst (λ xs. y ∈ xs) e (K .2 y .1 ((a, b, m), refl))) in
+      inr (q, inl (let z : 0 < f y = k .0 in omega arith)))
+      (same-or y root))
       (in-or y R)
     where
       top : y ≡ root → (y ∈ R → ⊥) → W y ≡ f y
       top e m =
           ⊎-elim (λ (z : W y ≡ 0). z ∙ sym (none y a e))
           (⊎-elim (λ (g : W y ≡ gone). absurd (m (G .removed y .1 g)))
-            (λ (k : (0 < W y) × (W y < n) × Alive n RD (W y)).
-              let L = G .list (W y) (k .0) (k .1) (k .2) in
-              let K = lists (W y) (k .2) in
-              let s : L .0 ≡ K .0 = one-list nx (head (W y)) (head (W y)) (L .0) (K .0) refl (L .1) (K .1) in
-              sym (K .2 y .0 (subst (λ xs. y ∈ xs) s (L .2 y .1 refl)) .1)))
+          (λ (k : (0 < W y) × (W y < n) × Alive n RD (W y)).
+          let L = G .list (W y) (k .0) (k .1) (k .2) in
+          let K = lists (W y) (k .2) in
+          let s : L .0 ≡ K .0 = one-list nx (head (W y)) (head (W y)) (L .0) (K .0) refl (L .1) (K .1) in
+          sym (K .2 y .0 (subst (λ xs. y ∈ xs) s (L .2 y .1 refl)) .1)))
           (G .only y)
