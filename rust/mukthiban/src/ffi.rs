@@ -471,15 +471,13 @@ extern "C" {
 // memory, is a `requires` of the export, and the caller has to see to it:
 //
 //  - Blocks: `table` is a sound block table of n = table_len / 8 - 1 blocks, n from 1 to 1,000,000 (what the test
-//    accepts). `free` is the number of blocks in its free chain (what the test answers). `first_block` is the first
-//    block of a chain other than the free one. For read and write, `block_len` is from 1 to 65,536 and
-//    data_len = n x block_len.
+//    accepts). For read and write, `block_len` is from 1 to 65,536 and data_len = n x block_len.
 //  - Tree: the four tables are sound (what the tree test accepts), with their sizes in bounds. `opens` has at least
 //    as many places as its table has room. The kind of a name is 0 or 1.
 //
 // They answer what the plain call answers on such input, in its order, and change the same bytes, and they take no
-// work list: create 2 (count 0), 6; resize 2 (count 0), 6; delete nothing but Done; open list 8; read and write 7;
-// the tree calls all that stands behind 9.
+// work list: create 2 (count 0), 6; resize 5, 2 (count 0), 6; delete 5; open list 5, 8; read and write 5, 7; the tree
+// calls all that stands behind 9.
 #[cfg(tested_fat)]
 extern "C" {
     pub fn mukthiban_tested_fat_open_list(
@@ -493,7 +491,6 @@ extern "C" {
     pub fn mukthiban_tested_fat_resize(
         table: *mut u8,
         table_len: usize,
-        free: usize,
         first_block: usize,
         block_count: usize,
     ) -> Plain;

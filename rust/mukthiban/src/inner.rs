@@ -7,7 +7,7 @@
 use crate::ffi;
 use crate::volume::Parts;
 
-// The tested call with `free` where it takes it, or the plain one with data, block length and work list.
+// The tested call, or the plain one with data, block length and work list.
 macro_rules! on_blocks {
     ($tested:ident($($t:expr),*), $plain:ident($($p:expr),*)) => {{
         #[cfg(tested_fat)]
@@ -19,9 +19,9 @@ macro_rules! on_blocks {
 }
 
 #[allow(unused_variables)]
-pub unsafe fn create(p: &mut Parts, work: &mut [u32], free: usize, block_count: usize) -> ffi::Created {
+pub unsafe fn create(p: &mut Parts, work: &mut [u32], block_count: usize) -> ffi::Created {
     on_blocks!(
-        mukthiban_tested_fat_create(p.fat.as_mut_ptr(), p.fat.len(), free, block_count),
+        mukthiban_tested_fat_create(p.fat.as_mut_ptr(), p.fat.len(), block_count),
         mukthiban_fat_create(
             p.fat.as_mut_ptr(),
             p.fat.len(),
@@ -36,9 +36,9 @@ pub unsafe fn create(p: &mut Parts, work: &mut [u32], free: usize, block_count: 
 }
 
 #[allow(unused_variables)]
-pub unsafe fn resize(p: &mut Parts, work: &mut [u32], free: usize, first: usize, block_count: usize) -> ffi::Plain {
+pub unsafe fn resize(p: &mut Parts, work: &mut [u32], first: usize, block_count: usize) -> ffi::Plain {
     on_blocks!(
-        mukthiban_tested_fat_resize(p.fat.as_mut_ptr(), p.fat.len(), free, first, block_count),
+        mukthiban_tested_fat_resize(p.fat.as_mut_ptr(), p.fat.len(), first, block_count),
         mukthiban_fat_resize(
             p.fat.as_mut_ptr(),
             p.fat.len(),

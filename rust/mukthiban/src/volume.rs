@@ -84,10 +84,9 @@ impl std::error::Error for NotSound {}
 /// - The bytes of a `Volume` are private, and nothing but these calls changes them. [`Volume::parts`] lends them to be
 ///   read; [`Volume::into_parts`] gives them away and ends the volume.
 ///
-/// The block calls also require that a block handed to them is a file's first block, and the number of free blocks.
-/// The volume keeps both: it counts when it is opened, create adds a file, delete takes one away, resize changes a
-/// count, and a first block stays the first as long as its file lives. Where the library has no inner exports, the
-/// plain calls are used, with the same answers.
+/// The counts that a volume keeps beside its bytes (free blocks, the blocks of each file) decide nothing: they are
+/// counted when it is opened, held against what the test answered, and carried on with each call. Where the library
+/// has no inner exports, the plain calls are used, with the same answers.
 ///
 /// ```
 /// use mukthiban::{Kind, Refusal, Shape, Volume, ROOT};
@@ -219,7 +218,7 @@ impl Volume {
     /// Makes a file of `block_count` blocks and answers its first block. No data byte changes.
     pub fn create(&mut self, block_count: usize) -> Result<usize, Refusal> {
         // SAFETY: here and below, the tables are sound and the counts right, as the type's documentation says.
-        let r = unsafe { inner::create(&mut self.parts, &mut self.work, self.free, block_count) };
+        let r = unsafe { inner::create(&mut self.parts, &mut self.work, block_count) };
         judge(r.answer)?;
         self.free -= block_count;
         self.counts[r.first_block] = block_count as u32;
@@ -228,27 +227,25 @@ impl Volume {
 
     /// Grows or shrinks a file. Its first block stays.
     pub fn resize(&mut self, first_block: usize, block_count: usize) -> Result<(), Refusal> {
-        let before = self.block_count(first_block)?;
-        let r = unsafe { inner::resize(&mut self.parts, &mut self.work, self.free, first_block, block_count) };
+        let r = unsafe { inner::resize(&mut self.parts, &mut self.work, first_block, block_count) };
         judge(r.answer)?;
-        self.free = self.free + before - block_count;
+        self.free = self.free + self.counts[first_block] as usize - block_count;
         self.counts[first_block] = block_count as u32;
         Ok(())
     }
 
     /// Gives all blocks of a file back.
     pub fn delete(&mut self, first_block: usize) -> Result<(), Refusal> {
-        let before = self.block_count(first_block)?;
         let r = unsafe { inner::delete(&mut self.parts, &mut self.work, first_block) };
         judge(r.answer)?;
-        self.free += before;
+        self.free += self.counts[first_block] as usize;
         self.counts[first_block] = 0;
         Ok(())
     }
 
     /// The blocks of a file, in chain order.
     pub fn open_list(&mut self, first_block: usize) -> Result<Vec<u32>, Refusal> {
-        let mut list = vec![0; self.block_count(first_block)?];
+        let mut list = vec![0; self.block_count(first_block).unwrap_or(0)];
         let r = unsafe { inner::open_list(&self.parts, &mut self.work, first_block, &mut list) };
         judge(r.answer)?;
         list.truncate(r.count);
@@ -257,13 +254,11 @@ impl Volume {
 
     /// Reads `buf.len()` bytes of a file from `pos` on.
     pub fn read(&mut self, first_block: usize, pos: usize, buf: &mut [u8]) -> Result<(), Refusal> {
-        self.block_count(first_block)?;
         judge(unsafe { inner::read(&self.parts, &mut self.work, first_block, pos, buf) }.answer)
     }
 
     /// Writes `buf` to a file from `pos` on.
     pub fn write(&mut self, first_block: usize, pos: usize, buf: &[u8]) -> Result<(), Refusal> {
-        self.block_count(first_block)?;
         judge(unsafe { inner::write(&mut self.parts, &mut self.work, first_block, pos, buf) }.answer)
     }
 }
