@@ -487,7 +487,7 @@ extern "C" {
         list: *mut u32,
         list_len: usize,
     ) -> Listed;
-    pub fn mukthiban_tested_fat_create(table: *mut u8, table_len: usize, free: usize, block_count: usize) -> Created;
+    pub fn mukthiban_tested_fat_create(table: *mut u8, table_len: usize, block_count: usize) -> Created;
     pub fn mukthiban_tested_fat_resize(
         table: *mut u8,
         table_len: usize,
