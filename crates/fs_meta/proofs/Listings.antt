@@ -19,7 +19,7 @@ use Rattle.meta_table.specs.Steps.{freeOf}
 use Rattle.meta_table.specs.Chain.{listAt, Ends}
 use Rattle.fs_meta.specs.Tables.{Tables, dirs, files}
 use Rattle.fs_meta.specs.Ready.{Ready, LiveAt, Single, alone}
-use Rattle.fs_meta.specs.Calls.{Listing, listGives, shortRows, listedDone, ListDirs, ListFiles}
+use Rattle.fs_meta.specs.Calls.{Listing, listGives, shortRows, listedDone, ListDirs, ListFiles, part}
 use Rattle.fs_meta.proofs.Lists.{inside, all-fit, removed-ends, removed-list, child-ends, child-list, dir-single, file-single}
 use Rattle.fs_meta.proofs.Live.{Tells, count-word, first-fits}
 use Rattle.fs_meta.proofs.Opens.{not-live}
@@ -125,3 +125,17 @@ pub part-whole : (t out : List ℕ) (at i n : ℕ) → length out ≡ n → i �
 part-whole t out at i n e h k p =
     let q : i ≡ n = omega arith in
     sym (take-all n out (omega arith)) ∙ ap (λ z. take z out) (sym q) ∙ p ∙ ap (λ z. take z (drop at t)) q
+
+-- a table's entries in all
+pub total-is : {h t : List ℕ} {w : ℕ} → Single h t w → (m : ℕ) → m ≡ word t 4 → (1 ≤ m) × (m - 1 ≡ field w t 0 2 - 1)
+total-is {h} {t} {w} S m e = (omega (arith, S .table .count-one, S .table .count-max, max-word S), omega (arith, max-word S))
+
+-- the sixteen bytes of a name
+module _ (t : List ℕ) (w x i : ℕ) (e : i ≡ x) where
+  pub name-fits : x * w + w ≤ length t → i * w + w ≤ length t
+  name-fits h = omega (arith, ap (λ (z : ℕ). z * w) e)
+
+  pub name-is : take (i * w + 4 + 16 - (i * w + 4)) (drop (i * w + 4) t) ≡ part w t x 4 16
+  name-is =
+      let a : i * w + 4 + 16 - (i * w + 4) ≡ 16 = omega arith in
+      ap (λ z. take z (drop (i * w + 4) t)) a ∙ ap (λ z. take 16 (drop (z * w + 4) t)) e

@@ -144,3 +144,13 @@ pub fn set_carried_file(hash: &[u8], table: &mut [u8], x: u32, carried: [u8; 20]
     put_carried_file(table, x, &carried);
     Answer::Done
 }
+
+// The sixteen name bytes of entry x, as a part of its table.
+pub fn name_part(table: &[u8], w: usize, x: u32) -> &[u8]
+    requires { ⌜ (x * w + w ≤ length (now table)) × (20 ≤ w) ⌝ }
+    ensures { λ r. ⌜ now r ≡ part w (now (table .entry)) x 4 16 ⌝ }
+{
+    let start = meta_table::index(x) * w + 4;
+    let end = start + 16;
+    &table[start..end]
+}

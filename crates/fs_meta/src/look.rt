@@ -1,10 +1,10 @@
 // What stands in sound entry tables: the inner calls that look, and those that touch open counts alone. Each requires soundness and tests nothing.
 ghost use mathlib.Core.Path.{_≡_};
 ghost use mathlib.Core.Bool.{true};
-ghost use Prim.Native.Nat.{_/_, _≤_};
+ghost use Prim.Native.Nat.{_-_, _/_, _≤_};
 ghost use lib.ListN.{length};
 ghost use Rattle.order.specs.First.{First};
-ghost use Rattle.fs_meta.specs.Calls.{openRows, openDone, closeRows, closeDone, openingGives, lookupRows, lookupDone, lookupGives, listGives, shortRows, listedDone, ListDirs, ListFiles};
+ghost use Rattle.fs_meta.specs.Calls.{openRows, openDone, closeRows, closeDone, openingGives, lookupRows, lookupDone, lookupGives, listGives, shortRows, listedDone, ListDirs, ListFiles, statGives, statDone};
 ghost use Rattle.meta_table.specs.Chain.{listAt, Ends};
 ghost use Rattle.meta_table.specs.Steps.{freeOf};
 ghost use Rattle.fs_meta.specs.Tables.{tables};
@@ -178,4 +178,34 @@ fn free_of(hash: &[u8], table: &[u8], w: usize) -> usize
     let first = words::get_u32(table, w - 4);
     let removed = meta_table::index(meta_table::count_list(table, w, w - 4, first));
     maximum - count + removed
+}
+
+// The entries that a table has in all, but for entry 0.
+fn total_of(hash: &[u8], table: &[u8], w: usize) -> usize
+    requires { ⌜ Single (now hash) (now table) w ⌝ }
+    ensures { λ r. ⌜ r ≡ alone w (now (table .entry)) .maximum - 1 ⌝ }
+{
+    meta_table::index(words::get_u32(table, 4)) - 1
+}
+
+// Entries in all and entries free, of the directories and of the files.
+pub struct MetaStat {
+    pub answer: Answer,
+    pub dir_total: usize,
+    pub dir_free: usize,
+    pub file_total: usize,
+    pub file_free: usize,
+}
+
+pub fn stat(dir_hash: &[u8], dir_table: &[u8], file_hash: &[u8], file_table: &[u8]) -> MetaStat
+    requires { ⌜ Ready (tables (now «dir_hash») (now «dir_table») (now «file_hash») (now «file_table»)) ⌝ }
+    ensures { λ r. ⌜ statGives (r .answer) (r .«dir_total») (r .«dir_free») (r .«file_total») (r .«file_free») ≡ statDone (tables (now («dir_hash» .entry)) (now («dir_table» .entry)) (now («file_hash» .entry)) (now («file_table» .entry))) ⌝ }
+{
+    MetaStat {
+        answer: Answer::Done,
+        dir_total: total_of(dir_hash, dir_table, SaveExtDirEntry::WIDTH),
+        dir_free: free_of(dir_hash, dir_table, SaveExtDirEntry::WIDTH),
+        file_total: total_of(file_hash, file_table, SaveExtFileEntry::WIDTH),
+        file_free: free_of(file_hash, file_table, SaveExtFileEntry::WIDTH),
+    }
 }
