@@ -27,9 +27,10 @@ testRefused answer work = (tested answer 0 0, work)
 abbrev pub testDone : Bytes → List ℕ → Tested × List ℕ
 testDone t work = (tested Done (freeBlocks (blocks t) t) (otherChains (blocks t) t), cleared (blocks t) work)
 
--- the gate of a call with data of length d and block length l is open: no row applies, the work list is cleared, and the counts are the table's
+-- the gate of a call with data of length d and block length l is open: no row applies, the table is sound, the work list is cleared, and the counts are the table's
 pub record Opened (t : Bytes) (d l : ℕ) (work work′ : List ℕ) (free files : ℕ) : Type 0 where
   pub none : None (blockGate refusal t d l work)
+  pub sound : Sound t (blocks t)
   pub clear : work′ ≡ cleared (blocks t) work
   pub count : free ≡ freeBlocks (blocks t) t
   pub others : files ≡ otherChains (blocks t) t

@@ -74,6 +74,7 @@ returns-7 c =
       none =
           gate-open (c .before .before .before .before .before .before .before .before .before .before .before .before .before .before .before .before .before .before .args .table .now) _ _ (c .before .before .before .before .before .before .before .before .before .before .before .before .before .before .before .before .before .before .args .work .now) (c .before .before .before .before .before .before .before .before .before .before .before .before .before .before .before .misfit .ensures .1 (c .before .before .before .before .before .before .before .before .before .before .before .before .before .before .if1 .left)) (c .before .before .before .before .before .before .before .before .before .before .before .before .before .uneven .ensures .1 (c .before .before .before .before .before .before .before .before .before .before .before .before .if2 .left))
           (c .before .before .before .before .before .before .before .before .before .before .before .outside .ensures .1 (c .before .before .before .before .before .before .before .before .before .before .if3 .left)) (c .before .before .before .before .before .before .before .before .before .outside2 .ensures .1 (c .before .before .before .before .before .before .before .before .if4 .left)) (λ s. omega (arith, c .before .before .before .before .before .before .before .if5 .left)) (v .0);
+      sound = v .0;
       clear = c .before .before .before .before .before .verdict .ensures .1;
       count = v .1;
       others = v .2;
