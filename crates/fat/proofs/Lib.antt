@@ -6,3 +6,4 @@ pub mod Cases
 pub mod Walks
 pub mod Hops
 pub mod Done
+pub mod Public

@@ -8,8 +8,10 @@ ghost use Rattle.fat_table.specs.Sound.{IsNode, File};
 ghost use Rattle.fat_table.specs.Chain.{sizeAt, headAt, chainAt};
 ghost use Rattle.fat.specs.Inner.{Volume, Standing, StandingAt, ChainFrom, withPrev, joinAt, endAt, splitAt, cutAt, SeekSays, LastAt};
 ghost use Rattle.order.specs.First.{First};
-ghost use Rattle.fat.specs.Calls.{createGives, createRows, createDone, changeGives, deleteRows, deleteDone};
+ghost use Rattle.fat.specs.Promise.{beside};
+ghost use Rattle.fat.specs.Calls.{CreatePromise, DeletePromise, createGives, createRows, createDone, changeGives, deleteRows, deleteDone};
 use fat_node::Node;
+use fat_test::Gated;
 use order::Answer;
 
 // Copies one part over another of the same length.
@@ -292,5 +294,47 @@ pub fn create_sound(table: &mut [u8], n: usize, block_count: usize) -> Created
     Created {
         answer: Answer::Done,
         first: head - 1,
+    }
+}
+
+// Deletes the file whose first block is given: all its nodes go before the free front, in their order. Answers its number alone; NotAFile where the block
+// is not the first of a chain other than the free one.
+pub fn delete(
+    table: &mut [u8],
+    data: &[u8],
+    block_len: usize,
+    work: &mut [u32],
+    first_block: usize,
+) -> Answered
+    ensures { λ r. ⌜ DeletePromise (now (table .entry)) (length (now («data» .entry))) «block_len» (now (work .entry)) «first_block» (beside (changeGives (r .answer) (now (table .exit))) (now (work .exit))) ⌝ }
+{
+    let gated = fat_test::gate(table, data.len(), block_len, work);
+    match gated {
+        Gated::Refused { answer } => Answered { answer },
+        Gated::Open { free: _, files: _ } => {
+            let n = table.len() / 8 - 1;
+            delete_sound(table, n, first_block)
+        }
+    }
+}
+
+// Creates a file of so many blocks, the first of the free chain. Answers its number and the file's first block; InvalidValue for 0 blocks, NoSpace where
+// fewer are free.
+pub fn create(
+    table: &mut [u8],
+    data: &[u8],
+    block_len: usize,
+    work: &mut [u32],
+    block_count: usize,
+) -> Created
+    ensures { λ r. ⌜ CreatePromise (now (table .entry)) (length (now («data» .entry))) «block_len» (now (work .entry)) «block_count» (beside (createGives (r .answer) (r .first) (now (table .exit))) (now (work .exit))) ⌝ }
+{
+    let gated = fat_test::gate(table, data.len(), block_len, work);
+    match gated {
+        Gated::Refused { answer } => Created { answer, first: 0 },
+        Gated::Open { free: _, files: _ } => {
+            let n = table.len() / 8 - 1;
+            create_sound(table, n, block_count)
+        }
     }
 }

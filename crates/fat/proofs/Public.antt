@@ -1,0 +1,87 @@
+-- A public call is the gate, then the call that requires soundness. Assumes nothing.
+use mathlib.Core.Path.{_≡_, refl, sym, ap, subst, subst⁻¹, _∙_}
+use mathlib.Core.List.{List, [], _∷_, _++_}
+use mathlib.Core.Logic.{_⊎_, inl, inr, ⊎-elim}
+use mathlib.Core.Bool.{Bool, true, false}
+use borrow.Author.Tests.{eqb-true, eqb-false}
+use Prim.Native.Nat.{ℕ, zero, suc, _+_, _-_, _*_, _/_, _%_, _≤_, _<_}
+use native.Mathlib.Omega.{arith}
+use lib.Dec.{eqb}
+use lib.ListN.{length}
+use Rattle.order.specs.First.{Row, row, First}
+use Rattle.order.specs.Gate.{cleared, Refusal, refusal}
+use Rattle.order.specs.Given.{Given, None}
+use Rattle.order.specs.declared.Answer.{Answer}
+use Rattle.order.specs.declared.Answer.the-variants.{BrokenFat}
+use Rattle.order.proofs.One.{one, front, behind}
+use Rattle.order.proofs.Gate.{gate-given, gate-none}
+use Rattle.fat_node.specs.Entry.{Bytes}
+use Rattle.fat_node.specs.Sizes.{blocks, Misfit, Outside}
+use Rattle.fat_node.proofs.Nodes.{le-or-lt}
+use Rattle.fat_table.specs.Sound.{Sound}
+use Rattle.fat_test.specs.Gate.{blockGate}
+use Rattle.fat_test.specs.Promise.{Opened, GateOf}
+use Rattle.fat_test.specs.declared.Gated.{Gated}
+use Rattle.fat_test.specs.declared.Gated.the-variants.{Open, Refused}
+use Rattle.fat.specs.Promise.{Beside, beside, within, Promise}
+use Rattle.fat.specs.Inner.{Volume}
+
+-- a call's own rows, beside the work list
+under : {A : Type 0} (work : List ℕ) (rs : List (Row A)) (d o : A) → First rs d o → First (within work rs) (beside d work) (beside o work)
+under work [] d o p = ap (λ x. beside x work) p
+under work (r ∷ rs) d o (inl p) = inl (p .0, ap (λ x. beside x work) (p .1))
+under work (r ∷ rs) d o (inr p) = inr (p .0, under work rs d o (p .1))
+
+module _ {A : Type 0} (refuse : Answer → A) (t : Bytes) (d l : ℕ) (work : List ℕ) (own : List (Row A)) (done : A) where
+  -- the gate refuses
+  pub shut : (a : Answer) (work′ : List ℕ) → Given (blockGate refusal t d l work) (refusal a work′) → Promise refuse t d l work own done (beside (refuse a) work′)
+  shut a work′ g =
+      front (blockGate (λ a w. beside (refuse a) w) t d l work) (within (cleared (blocks t) work) own) (beside done (cleared (blocks t) work)) (beside (refuse a) work′)
+      (gate-given (λ a w. beside (refuse a) w) (Misfit t ⊎ (d ≡ blocks t * l → ⊥)) (Outside t ⊎ (l < 1) ⊎ (65536 < l)) (length work < blocks t) (Sound t (blocks t) → ⊥) BrokenFat (blocks t)
+      work a work′ g)
+
+  -- the gate is open, and the call that requires soundness gives o
+  pub passed : (work′ : List ℕ) (free files : ℕ) (o : A) → Opened t d l work work′ free files → First own done o → Promise refuse t d l work own done (beside o work′)
+  passed work′ free files o g p =
+      subst⁻¹ (λ (w : List ℕ). Promise refuse t d l work own done (beside o w)) (g .clear)
+      (behind (blockGate (λ a w. beside (refuse a) w) t d l work) (within (cleared (blocks t) work) own) (beside done (cleared (blocks t) work)) (beside o (cleared (blocks t) work))
+      (g .none) (under (cleared (blocks t) work) own done o p))
+
+-- what an open gate says of the sizes
+module _ (t : Bytes) (d l : ℕ) (work work′ : List ℕ) (free files : ℕ) (g : Opened t d l work work′ free files) where
+  fits : (length t < 8 → ⊥) × ((length t % 8 ≡ 0 → ⊥) → ⊥)
+  fits = ((λ h. g .none .0 (inl (inl h))), (λ h. g .none .0 (inl (inr h))))
+
+  pub open-eight : 8 ≤ length t
+  open-eight = ⊎-elim (λ h. h) (λ h. absurd (fits .0 h)) (le-or-lt 8 (length t))
+
+  open-even : length t % 8 ≡ 0
+  open-even = ⊎-elim (λ h. absurd (fits .1 (λ e. omega (arith, h, e)))) (λ h. omega (arith, h)) (le-or-lt 1 (length t % 8))
+
+  open-few : blocks t ≤ 1000000
+  open-few = ⊎-elim (λ h. h) (λ h. absurd (g .none .1 .0 (inl (inr h)))) (le-or-lt (blocks t) 1000000)
+
+  pub open-volume : Volume (blocks t) t
+  open-volume = record { few = open-few; room = omega (arith, open-eight, open-even); sound = g .sound }
+
+  -- data and block length, for read and write
+  pub open-data : d ≡ blocks t * l
+  open-data = go (eqb d (blocks t * l)) refl
+    where
+      go : (b : Bool) → eqb d (blocks t * l) ≡ b → d ≡ blocks t * l
+      go true e = eqb-true d (blocks t * l) e
+      go false e = absurd (g .none .0 (inr (eqb-false d (blocks t * l) e)))
+
+  pub open-block : (1 ≤ l) × (l ≤ 65536)
+  open-block = (
+    ⊎-elim (λ h. h) (λ h. absurd (g .none .1 .0 (inr (inl (omega (arith, h)))))) (le-or-lt 1 l),
+    ⊎-elim (λ h. h) (λ h. absurd (g .none .1 .0 (inr (inr h)))) (le-or-lt l 65536),
+  )
+
+-- the gate's answer, taken apart
+pub says-open : (t : Bytes) (d l : ℕ) (work work′ : List ℕ) (r : Gated) (free files : ℕ) → GateOf t d l work work′ r → r ≡ Open free files → Opened t d l work work′ free files
+says-open t d l work work′ r free files w e = subst (GateOf t d l work work′) e w
+
+pub says-refused : (t : Bytes) (d l : ℕ) (work work′ : List ℕ) (r : Gated) (a : Answer) → GateOf t d l work work′ r → r ≡ Refused a
+    → Given (blockGate refusal t d l work) (refusal a work′)
+says-refused t d l work work′ r a w e = subst (GateOf t d l work work′) e w
