@@ -15,10 +15,11 @@ use Rattle.fat_node.specs.Node.{NodeAt, prevAt, nextAt}
 use Rattle.fat_table.specs.Sound.{Starts, Covered, Sound, Along, Counted, File}
 use Rattle.fat_table.specs.Sound.Starts.{begin, after}
 use Rattle.fat_table.specs.Sound.Along.{end, node}
-use Rattle.fat_table.specs.Sound.Counted.{none, one, skip}
+use Rattle.fat_table.specs.Sound.Counted.{none}
 use Rattle.fat_table.specs.Chain.{total, sizeAt, chainAt}
 use Rattle.fat_table.specs.Counts.{freeBlocks, scan, starts, startsOf, otherChains}
 use Rattle.fat_table.proofs.Sounds.{node-size}
+use Rattle.fat_table.proofs.Counting.{counted-one}
 use Rattle.fat_ends.proofs.Ends.{count-more}
 
 -- ---- the free blocks
@@ -31,38 +32,6 @@ chain-total {t} {n} (node {b = b} {s = s} {m = m} d p) (suc k) l =
 
 pub free-is : {t : Bytes} {n m : ℕ} → Along t n (vAt t 0) m → m ≤ n → m ≡ freeBlocks n t
 free-is {t} {n} p l = sym (chain-total p n l)
-
--- ---- two counts of one thing
-record Before (P : ℕ → Type 0) (n c : ℕ) : Type 0 where
-  k : ℕ
-  d : ℕ
-  at : n ≡ k + 1
-  past : Counted P k d
-  case : (P k × (c ≡ d + 1)) ⊎ ((P k → ⊥) × (c ≡ d))
-
-counted-cases : {P : ℕ → Type 0} {n c : ℕ} → Counted P n c → ((n ≡ 0) × (c ≡ 0)) ⊎ Before P n c
-counted-cases none = inl (refl, refl)
-counted-cases (one {n = k} {c = d} p h) = inr (record { k = k; d = d; at = refl; past = p; case = inl (h, refl) })
-counted-cases (skip {n = k} {c = d} p h) = inr (record { k = k; d = d; at = refl; past = p; case = inr (h, refl) })
-
-pub one-count : {P : ℕ → Type 0} {n c : ℕ} → Counted P n c → (c′ : ℕ) → Counted P n c′ → c ≡ c′
-one-count none c′ q = ⊎-elim (λ z. sym (z .1)) (λ o. absurd (omega (arith, o .at))) (counted-cases q)
-one-count {P} (one {n = k} {c = d} p h) c′ q =
-    ⊎-elim
-    (λ z. absurd (omega (arith, z .0)))
-    (λ o.
-    let e : o .k ≡ k = omega (arith, o .at) in
-    let f : d ≡ o .d = one-count p (o .d) (subst (λ (x : ℕ). Counted P x (o .d)) e (o .past)) in
-    ⊎-elim (λ y. omega (arith, y .1)) (λ y. absurd (y .0 (subst P (sym e) h))) (o .case))
-    (counted-cases q)
-one-count {P} (skip {n = k} {c = d} p h) c′ q =
-    ⊎-elim
-    (λ z. absurd (omega (arith, z .0)))
-    (λ o.
-    let e : o .k ≡ k = omega (arith, o .at) in
-    let f : d ≡ o .d = one-count p (o .d) (subst (λ (x : ℕ). Counted P x (o .d)) e (o .past)) in
-    ⊎-elim (λ y. absurd (h (subst P e (y .0)))) (λ y. omega (arith, y .1)) (o .case))
-    (counted-cases q)
 
 -- ---- the other chains
 start-cases : (t : Bytes) (b : ℕ)
@@ -94,7 +63,7 @@ module _ (t : Bytes) (n : ℕ) (c : Covered t n) where
   others-counted = subst (Counted (File t n) n) (omega arith) (scanned n 0 0 (omega arith) (omega arith) begin none)
 
   pub others-are : {m : ℕ} → Counted (File t n) n m → m ≡ otherChains n t
-  others-are p = one-count p (otherChains n t) others-counted
+  others-are p = counted-one p others-counted refl
 
 -- the verdict on a sound table
 pub counted : {t : Bytes} {n r files : ℕ} → Sound t n × Along t n (vAt t 0) r × (r ≤ n) × Counted (File t n) n files → Sound t n × (r ≡ freeBlocks n t) × (files ≡ otherChains n t)

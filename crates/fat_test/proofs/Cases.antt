@@ -73,8 +73,9 @@ module _ (t : Bytes) (work : List ℕ) where
         pub test-broken : {r : Tested} → (Sound t (blocks t) → ⊥) → r ≡ tested BrokenFat 0 0 → Says r w
         test-broken u e = inr (m, inr (o, inr (s, inl (u, λ i. (e i, c i)))))
 
-        pub test-sound : {free files : ℕ} → Sound t (blocks t) × (free ≡ freeBlocks (blocks t) t) × (files ≡ otherChains (blocks t) t) → Says (tested Done free files) w
-        test-sound v = inr (m, inr (o, inr (s, inr ((λ u. u (v .0)), λ i. (record { answer = Done; free = v .1 i; files = v .2 i }, c i)))))
+        pub test-sound : {free files : ℕ} {r : Tested} → Sound t (blocks t) × (free ≡ freeBlocks (blocks t) t) × (files ≡ otherChains (blocks t) t) → r ≡ tested Done free files → Says r w
+        test-sound v e =
+            inr (m, inr (o, inr (s, inr ((λ u. u (v .0)), ap (λ (x : Tested). (x, w)) e ∙ (λ i. (record { answer = Done; free = v .1 i; files = v .2 i }, c i))))))
 
 -- ---- the gate
 module _ (t : Bytes) (d l : ℕ) (work : List ℕ) where

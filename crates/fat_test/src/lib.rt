@@ -8,6 +8,7 @@ ghost use Prim.Native.Nat.{_*_, _≤_, _<_};
 ghost use lib.ListN.{length};
 ghost use Rattle.order.specs.First.{First};
 ghost use Rattle.order.specs.Gate.{cleared};
+ghost use Rattle.order.specs.declared.Answer.the-variants.{Done};
 ghost use Rattle.fat_node.specs.Sizes.{blocks, Misfit, Outside};
 ghost use Rattle.fat_ends.specs.Promise.{Judged};
 ghost use Rattle.fat_test.specs.Gate.{testGate};
@@ -28,6 +29,17 @@ fn refused(answer: Answer) -> Tested
         answer,
         free: 0,
         files: 0,
+    }
+}
+
+// The answer of a sound table.
+fn done(free: usize, files: usize) -> Tested
+    ensures { λ r. ⌜ r ≡ tested Done free files ⌝ }
+{
+    Tested {
+        answer: Answer::Done,
+        free,
+        files,
     }
 }
 
@@ -112,11 +124,7 @@ pub fn test(table: &[u8], work: &mut [u32]) -> Tested
     let Verdict::Good { free, files } = r else {
         return refused(Answer::BrokenFat);
     };
-    Tested {
-        answer: Answer::Done,
-        free: free as usize,
-        files: files as usize,
-    }
+    done(free as usize, files as usize)
 }
 
 // The gate of a call with data of length data_len. Open: the sizes fit and the table is sound, and the counts are the test's.

@@ -57,20 +57,24 @@ returns-4 c =
     (subst (Judged (c .before .before .before .before .before .before .before .before .before .before .before .before .before .before .args .table .now) (blocks (c .before .before .before .before .before .before .before .before .before .before .before .before .before .before .args .table .now))) (c .before .enum-told .given .1) (c .before .before .before .before .before .verdict .ensures .0))
     (c .refused4 .ensures)
 
-cast-t10 : tie.Need-cast-t10
-cast-t10 c = search needs
+cast-done : tie.Need-cast-done
+cast-done c = search needs
 
-cast-t9 : tie.Need-cast-t9
-cast-t9 c = search needs
+cast-done-2 : tie.Need-cast-done-2
+cast-done-2 c = search needs
+
+done-requires : tie.Need-done-requires
+done-requires c κs = search needs
 
 same-length-2 : tie.Need-same-length-2
 same-length-2 c = search needs
 
 returns-5 : tie.Need-returns-5
 returns-5 c =
-    test-sound (c .before .before .before .before .before .before .before .before .before .before .before .before .before .before .args .table .now) (c .before .before .before .before .before .before .before .before .before .before .before .before .before .before .args .work .now) (c .before .before .before .before .before .before .before .before .before .before .before .misfit .ensures .1 (c .before .before .before .before .before .before .before .before .before .before .if1 .left)) (c .before .before .before .before .before .before .before .before .before .outside .ensures .1 (c .before .before .before .before .before .before .before .before .if2 .left))
-    (λ s. omega (arith, c .before .before .before .before .before .before .before .if3 .left)) (c .before .before .before .before .before .verdict .ensures .1)
-    (subst (Judged (c .before .before .before .before .before .before .before .before .before .before .before .before .before .before .args .table .now) (blocks (c .before .before .before .before .before .before .before .before .before .before .before .before .before .before .args .table .now))) (c .before .r .given .1) (c .before .before .before .before .before .verdict .ensures .0))
+    test-sound (c .before .before .before .before .before .before .before .before .before .before .before .before .before .before .before .args .table .now) (c .before .before .before .before .before .before .before .before .before .before .before .before .before .before .before .args .work .now) (c .before .before .before .before .before .before .before .before .before .before .before .before .misfit .ensures .1 (c .before .before .before .before .before .before .before .before .before .before .before .if1 .left)) (c .before .before .before .before .before .before .before .before .before .before .outside .ensures .1 (c .before .before .before .before .before .before .before .before .before .if2 .left))
+    (λ s. omega (arith, c .before .before .before .before .before .before .before .before .if3 .left)) (c .before .before .before .before .before .before .verdict .ensures .1)
+    (subst (Judged (c .before .before .before .before .before .before .before .before .before .before .before .before .before .before .before .args .table .now) (blocks (c .before .before .before .before .before .before .before .before .before .before .before .before .before .before .before .args .table .now))) (c .before .before .r .given .1) (c .before .before .before .before .before .before .verdict .ensures .0))
+    (c .done .ensures)
 
 pub test-spec : {M : Type 1} → statement M
 test-spec =
@@ -91,7 +95,8 @@ test-spec =
     refused-requires-4
     same-length
     returns-4
-    cast-t10
-    cast-t9
+    cast-done
+    cast-done-2
+    done-requires
     same-length-2
     returns-5)
