@@ -5,3 +5,4 @@ pub mod Promise
 pub mod Format
 pub mod Ready
 pub mod Seat
+pub mod Public

@@ -2,3 +2,9 @@
 pub mod carry;
 pub mod look;
 pub mod step;
+
+// What a name is asked of.
+pub enum Kind {
+    Directory,
+    File,
+}
