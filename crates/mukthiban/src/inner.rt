@@ -5,7 +5,45 @@ ghost use Rattle.order.specs.declared.Answer.{Answer};
 ghost use Rattle.fs_meta.specs.Ready.{Ready};
 ghost use Rattle.fs_meta.specs.Tables.{tables};
 ghost use Rattle.fs_meta.specs.Calls.{ListDirs, ListFiles, listGives};
+ghost use Rattle.order.specs.First.{First};
+ghost use Rattle.fat.specs.Inner.{Volume};
+ghost use Rattle.fat.specs.Calls.{createRows, createDone, createGives, deleteRows, deleteDone, changeGives};
+use crate::Created;
 use crate::Listed;
+use crate::Plain;
+
+#[no_mangle]
+pub extern "C" fn mukthiban_tested_fat_create(
+    table: &mut [u8],
+    n: usize,
+    block_count: usize,
+) -> Created
+    requires { ⌜ Volume n (now table) ⌝ }
+    ensures { λ p. ⌜ ((a : Answer) × (p .answer ≡ numberOf a) × First (createRows n (now (table .entry)) «block_count») (createDone n (now (table .entry)) «block_count») (createGives a (p .«first_block») (now (table .exit)))) ⌝ }
+{
+    let r = fat::create_sound(table, n, block_count);
+    let answer = r.answer;
+    Created {
+        answer: order::number(answer),
+        first_block: r.first,
+    }
+}
+
+#[no_mangle]
+pub extern "C" fn mukthiban_tested_fat_delete(
+    table: &mut [u8],
+    n: usize,
+    first_block: usize,
+) -> Plain
+    requires { ⌜ Volume n (now table) ⌝ }
+    ensures { λ p. ⌜ ((a : Answer) × (p .answer ≡ numberOf a) × First (deleteRows n (now (table .entry)) «first_block») (deleteDone n (now (table .entry)) «first_block») (changeGives a (now (table .exit)))) ⌝ }
+{
+    let r = fat::delete_sound(table, n, first_block);
+    let answer = r.answer;
+    Plain {
+        answer: order::number(answer),
+    }
+}
 
 #[no_mangle]
 pub extern "C" fn mukthiban_tested_tree_list_dirs(

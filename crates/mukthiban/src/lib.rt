@@ -23,6 +23,13 @@ pub struct Tested {
     pub files: usize,
 }
 
+// The first block of the file that create made.
+#[repr(C)]
+pub struct Created {
+    pub answer: u32,
+    pub first_block: usize,
+}
+
 // How many places of the lent list hold the answer.
 #[repr(C)]
 pub struct Listed {

@@ -470,8 +470,8 @@ extern "C" {
 // The tested calls: the inner calls that require soundness, for `Volume` alone. What each requires, beside valid
 // memory, is a `requires` of the export, and the caller has to see to it:
 //
-//  - Blocks: `table` is a sound block table of n = table_len / 8 - 1 blocks, n from 1 to 1,000,000 (what the test
-//    accepts). For read and write, `block_len` is from 1 to 65,536 and data_len = n x block_len.
+//  - Blocks: `table` is a sound block table of n blocks (what the test accepts): table_len = 8 x (n + 1), n from 1 to
+//    1,000,000. For read and write, `block_len` is from 1 to 65,536 and data_len = n x block_len.
 //  - Tree: the four tables are sound (what the tree test accepts), with their sizes in bounds. `opens` has at least
 //    as many places as its table has room. The kind of a name is 0 or 1.
 //
@@ -483,21 +483,24 @@ extern "C" {
     pub fn mukthiban_tested_fat_open_list(
         table: *const u8,
         table_len: usize,
+        n: usize,
         first_block: usize,
         list: *mut u32,
         list_len: usize,
     ) -> Listed;
-    pub fn mukthiban_tested_fat_create(table: *mut u8, table_len: usize, block_count: usize) -> Created;
+    pub fn mukthiban_tested_fat_create(table: *mut u8, table_len: usize, n: usize, block_count: usize) -> Created;
     pub fn mukthiban_tested_fat_resize(
         table: *mut u8,
         table_len: usize,
+        n: usize,
         first_block: usize,
         block_count: usize,
     ) -> Plain;
-    pub fn mukthiban_tested_fat_delete(table: *mut u8, table_len: usize, first_block: usize) -> Plain;
+    pub fn mukthiban_tested_fat_delete(table: *mut u8, table_len: usize, n: usize, first_block: usize) -> Plain;
     pub fn mukthiban_tested_fat_read(
         table: *const u8,
         table_len: usize,
+        n: usize,
         data: *const u8,
         data_len: usize,
         block_len: usize,
@@ -509,6 +512,7 @@ extern "C" {
     pub fn mukthiban_tested_fat_write(
         table: *const u8,
         table_len: usize,
+        n: usize,
         data: *mut u8,
         data_len: usize,
         block_len: usize,

@@ -21,7 +21,7 @@ macro_rules! on_blocks {
 #[allow(unused_variables)]
 pub unsafe fn create(p: &mut Parts, work: &mut [u32], block_count: usize) -> ffi::Created {
     on_blocks!(
-        mukthiban_tested_fat_create(p.fat.as_mut_ptr(), p.fat.len(), block_count),
+        mukthiban_tested_fat_create(p.fat.as_mut_ptr(), p.fat.len(), p.blocks(), block_count),
         mukthiban_fat_create(
             p.fat.as_mut_ptr(),
             p.fat.len(),
@@ -38,7 +38,7 @@ pub unsafe fn create(p: &mut Parts, work: &mut [u32], block_count: usize) -> ffi
 #[allow(unused_variables)]
 pub unsafe fn resize(p: &mut Parts, work: &mut [u32], first: usize, block_count: usize) -> ffi::Plain {
     on_blocks!(
-        mukthiban_tested_fat_resize(p.fat.as_mut_ptr(), p.fat.len(), first, block_count),
+        mukthiban_tested_fat_resize(p.fat.as_mut_ptr(), p.fat.len(), p.blocks(), first, block_count),
         mukthiban_fat_resize(
             p.fat.as_mut_ptr(),
             p.fat.len(),
@@ -56,7 +56,7 @@ pub unsafe fn resize(p: &mut Parts, work: &mut [u32], first: usize, block_count:
 #[allow(unused_variables)]
 pub unsafe fn delete(p: &mut Parts, work: &mut [u32], first: usize) -> ffi::Plain {
     on_blocks!(
-        mukthiban_tested_fat_delete(p.fat.as_mut_ptr(), p.fat.len(), first),
+        mukthiban_tested_fat_delete(p.fat.as_mut_ptr(), p.fat.len(), p.blocks(), first),
         mukthiban_fat_delete(
             p.fat.as_mut_ptr(),
             p.fat.len(),
@@ -73,7 +73,7 @@ pub unsafe fn delete(p: &mut Parts, work: &mut [u32], first: usize) -> ffi::Plai
 #[allow(unused_variables)]
 pub unsafe fn open_list(p: &Parts, work: &mut [u32], first: usize, list: &mut [u32]) -> ffi::Listed {
     on_blocks!(
-        mukthiban_tested_fat_open_list(p.fat.as_ptr(), p.fat.len(), first, list.as_mut_ptr(), list.len()),
+        mukthiban_tested_fat_open_list(p.fat.as_ptr(), p.fat.len(), p.blocks(), first, list.as_mut_ptr(), list.len()),
         mukthiban_fat_open_list(
             p.fat.as_ptr(),
             p.fat.len(),
@@ -95,6 +95,7 @@ pub unsafe fn read(p: &Parts, work: &mut [u32], first: usize, pos: usize, buf: &
         mukthiban_tested_fat_read(
             p.fat.as_ptr(),
             p.fat.len(),
+            p.blocks(),
             p.data.as_ptr(),
             p.data.len(),
             p.block_len,
@@ -125,6 +126,7 @@ pub unsafe fn write(p: &mut Parts, work: &mut [u32], first: usize, pos: usize, b
         mukthiban_tested_fat_write(
             p.fat.as_ptr(),
             p.fat.len(),
+            p.blocks(),
             p.data.as_mut_ptr(),
             p.data.len(),
             p.block_len,
