@@ -5,3 +5,4 @@ pub mod Lookups
 pub mod Listings
 pub mod Seats
 pub mod Links
+pub mod Public
