@@ -6,3 +6,4 @@ pub mod Listings
 pub mod Seats
 pub mod Links
 pub mod Public
+pub mod Judges

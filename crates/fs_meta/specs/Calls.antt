@@ -29,6 +29,11 @@ use Rattle.meta_table.specs.Chain.{seekIn}
 use Rattle.fs_meta.specs.Tables.{Tables, dirs, files, Has, HasOther, above}
 use Rattle.fs_meta.specs.Steps.{carriedDir, carriedFile, madeDir, madeFile, deletedDir, deletedFile, renamedDir, renamedFile}
 
+-- rows that say the answer alone, as rows that say what the call gives with it: for a refusal changes nothing
+abbrev pub giving : {A : Type 0} → (Answer → A) → List (Row Answer) → List (Row A)
+giving g [] = []
+giving g (r ∷ rs) = row (r .when) (g (r .gives)) ∷ giving g rs
+
 -- the open count of inode x
 abbrev pub opened : List ℕ → ℕ → ℕ
 opened opens x = getD opens x 0
@@ -66,12 +71,15 @@ abbrev pub makeGives : Answer → ℕ → Tables → List ℕ → Make
 makeGives answer inode tables opens = record { answer = answer; inode = inode; tables = tables; opens = opens }
 
 -- no entry never used and none removed: freeOf counts both
-abbrev pub makeRows : Tables → View → List ℕ → ℕ → List ℕ → List (Row Make)
-makeRows s v opens p k =
-    row (LiveIn (dirs s) p → ⊥) (makeGives NotFound 0 s opens)
-    ∷ row (Has v k) (makeGives AlreadyExist 0 s opens)
-    ∷ row (freeOf v ≡ 0) (makeGives NoSpace 0 s opens)
+abbrev pub makeTests : Tables → View → ℕ → List ℕ → List (Row Answer)
+makeTests s v p k =
+    row (LiveIn (dirs s) p → ⊥) NotFound
+    ∷ row (Has v k) AlreadyExist
+    ∷ row (freeOf v ≡ 0) NoSpace
     ∷ []
+
+abbrev pub makeRows : Tables → View → List ℕ → ℕ → List ℕ → List (Row Make)
+makeRows s v opens p k = giving (λ a. makeGives a 0 s opens) (makeTests s v p k)
 
 abbrev pub makeDirDone : Tables → List ℕ → ℕ → List ℕ → List ℕ → Make
 makeDirDone s opens p name padding = makeGives Done (taken (dirs s)) (madeDir s p name padding) (set opens (taken (dirs s)) 1)
@@ -90,52 +98,60 @@ pub record Change : Type 0 where
 abbrev pub changeGives : Answer → Tables → List ℕ → Change
 changeGives answer tables opens = record { answer = answer; tables = tables; opens = opens }
 
+-- inode x of the table v is live and open
+abbrev pub heldTests : View → List ℕ → ℕ → List (Row Answer)
+heldTests v opens x = row (LiveIn v x → ⊥) NotFound ∷ row (opened opens x ≡ 0) NotOpen ∷ []
+
 -- a directory: the root stays, and none goes to itself or below itself. The last row counts the entries after the subject's is given up
+abbrev pub renameDirTests : Tables → List ℕ → ℕ → ℕ → List ℕ → List (Row Answer)
+renameDirTests s opens x p name =
+    heldTests (dirs s) opens x
+    ++ (row (x ≡ 1) DeletingRoot
+    ∷ row (LiveIn (dirs s) p → ⊥) NotFound
+    ∷ row (x ∈ above (dirs s) p) IntoItself
+    ∷ row (HasOther (dirs s) x (nameKey p name)) AlreadyExist
+    ∷ row (freeOf (dirs s) + 1 ≡ 0) NoSpace
+    ∷ [])
+
 abbrev pub renameDirRows : Tables → List ℕ → ℕ → ℕ → List ℕ → List (Row Change)
-renameDirRows s opens x p name =
-    row (LiveIn (dirs s) x → ⊥) (changeGives NotFound s opens)
-    ∷ row (opened opens x ≡ 0) (changeGives NotOpen s opens)
-    ∷ row (x ≡ 1) (changeGives DeletingRoot s opens)
-    ∷ row (LiveIn (dirs s) p → ⊥) (changeGives NotFound s opens)
-    ∷ row (x ∈ above (dirs s) p) (changeGives IntoItself s opens)
-    ∷ row (HasOther (dirs s) x (nameKey p name)) (changeGives AlreadyExist s opens)
-    ∷ row (freeOf (dirs s) + 1 ≡ 0) (changeGives NoSpace s opens)
-    ∷ []
+renameDirRows s opens x p name = giving (λ a. changeGives a s opens) (renameDirTests s opens x p name)
 
 abbrev pub renameDirDone : Tables → List ℕ → ℕ → ℕ → List ℕ → Change
 renameDirDone s opens x p name = changeGives Done (renamedDir s x p name) opens
 
+abbrev pub renameFileTests : Tables → List ℕ → ℕ → ℕ → List ℕ → List (Row Answer)
+renameFileTests s opens x p name =
+    heldTests (files s) opens x
+    ++ (row (LiveIn (dirs s) p → ⊥) NotFound
+    ∷ row (HasOther (files s) x (nameKey p name)) AlreadyExist
+    ∷ row (freeOf (files s) + 1 ≡ 0) NoSpace
+    ∷ [])
+
 abbrev pub renameFileRows : Tables → List ℕ → ℕ → ℕ → List ℕ → List (Row Change)
-renameFileRows s opens x p name =
-    row (LiveIn (files s) x → ⊥) (changeGives NotFound s opens)
-    ∷ row (opened opens x ≡ 0) (changeGives NotOpen s opens)
-    ∷ row (LiveIn (dirs s) p → ⊥) (changeGives NotFound s opens)
-    ∷ row (HasOther (files s) x (nameKey p name)) (changeGives AlreadyExist s opens)
-    ∷ row (freeOf (files s) + 1 ≡ 0) (changeGives NoSpace s opens)
-    ∷ []
+renameFileRows s opens x p name = giving (λ a. changeGives a s opens) (renameFileTests s opens x p name)
 
 abbrev pub renameFileDone : Tables → List ℕ → ℕ → ℕ → List ℕ → Change
 renameFileDone s opens x p name = changeGives Done (renamedFile s x p name) opens
 
 -- delete needs exactly one open, and leaves 0
+abbrev pub deleteTests : View → List ℕ → ℕ → List (Row Answer)
+deleteTests v opens x = heldTests v opens x ++ (row (1 < opened opens x) Busy ∷ [])
+
+abbrev pub deleteDirTests : Tables → List ℕ → ℕ → List (Row Answer)
+deleteDirTests s opens x =
+    deleteTests (dirs s) opens x
+    ++ (row (x ≡ 1) DeletingRoot
+    ∷ row ((0 < dirs s .head x) ⊎ (0 < files s .head x)) NotEmpty
+    ∷ [])
+
 abbrev pub deleteDirRows : Tables → List ℕ → ℕ → List (Row Change)
-deleteDirRows s opens x =
-    row (LiveIn (dirs s) x → ⊥) (changeGives NotFound s opens)
-    ∷ row (opened opens x ≡ 0) (changeGives NotOpen s opens)
-    ∷ row (1 < opened opens x) (changeGives Busy s opens)
-    ∷ row (x ≡ 1) (changeGives DeletingRoot s opens)
-    ∷ row ((0 < dirs s .head x) ⊎ (0 < files s .head x)) (changeGives NotEmpty s opens)
-    ∷ []
+deleteDirRows s opens x = giving (λ a. changeGives a s opens) (deleteDirTests s opens x)
 
 abbrev pub deleteDirDone : Tables → List ℕ → ℕ → Change
 deleteDirDone s opens x = changeGives Done (deletedDir s x) (set opens x 0)
 
 abbrev pub deleteFileRows : Tables → List ℕ → ℕ → List (Row Change)
-deleteFileRows s opens x =
-    row (LiveIn (files s) x → ⊥) (changeGives NotFound s opens)
-    ∷ row (opened opens x ≡ 0) (changeGives NotOpen s opens)
-    ∷ row (1 < opened opens x) (changeGives Busy s opens)
-    ∷ []
+deleteFileRows s opens x = giving (λ a. changeGives a s opens) (deleteTests (files s) opens x)
 
 abbrev pub deleteFileDone : Tables → List ℕ → ℕ → Change
 deleteFileDone s opens x = changeGives Done (deletedFile s x) (set opens x 0)

@@ -6,3 +6,4 @@ pub mod Format
 pub mod Ready
 pub mod Seat
 pub mod Public
+pub mod Judge
