@@ -2,4 +2,6 @@ pub mod Formats
 pub mod Passes
 pub mod History
 pub mod Blocks
+pub mod Fresh
+pub mod Tree
 pub mod All

@@ -14,7 +14,8 @@ use Rattle.fat_node.specs.Sizes.{blocks, Misfit, Outside}
 use Rattle.fat_table.specs.Sound.{Sound}
 use Rattle.fat_table.proofs.Files.{Whole}
 use Rattle.fat_test.specs.Gate.{blockGate, testGate}
-use Rattle.fat.specs.Promise.{Beside, beside, within, Promise}
+use Rattle.order.specs.Beside.{Beside, beside, within, Promised}
+use Rattle.fat.specs.Promise.{Promise}
 
 -- where no front row applies, the rows after them decide
 past : {A : Type 0} (rs qs : List (Row A)) (d o : A) → None rs → First (rs ++ qs) d o → First qs d o
@@ -28,6 +29,11 @@ own-of : {A : Type 0} (work : List ℕ) (own : List (Row A)) (done : A) (o : Bes
 own-of {A} work [] done o p = ap (λ (x : Beside A). x .given) p
 own-of {A} work (r ∷ rs) done o (inl p) = inl (p .0, ap (λ (x : Beside A). x .given) (p .1))
 own-of work (r ∷ rs) done o (inr p) = inr (p .0, own-of work rs done o (p .1))
+
+-- a call whose front rows don't apply is decided by its own
+pub own-rows : {A : Type 0} (front : List (Row (Beside A))) (work : List ℕ) (own : List (Row A)) (done : A) (o : Beside A) → None front
+    → Promised front work own done o → First own done (o .given)
+own-rows front work own done o n p = own-of work own done o (past front (within work own) (beside done work) o n p)
 
 module _ (n : ℕ) (some : 1 ≤ n) (t : Bytes) (w : Whole n t) (work : List ℕ) (room : n ≤ length work) where
   blocks-of : blocks t ≡ n
@@ -59,5 +65,4 @@ module _ (n : ℕ) (some : 1 ≤ n) (t : Bytes) (w : Whole n t) (work : List ℕ
         → First (own n) (done n) (o .given)
     passes own done o p =
         subst (λ (i : ℕ). First (own i) (done i) (o .given)) blocks-of
-        (own-of (cleared (blocks t) work) (own (blocks t)) (done (blocks t)) o
-        (past (blockGate (λ a w. beside (refuse a) w) t d l work) (within (cleared (blocks t) work) (own (blocks t))) (beside (done (blocks t)) (cleared (blocks t) work)) o call-passes p))
+        (own-rows (blockGate (λ a w. beside (refuse a) w) t d l work) (cleared (blocks t) work) (own (blocks t)) (done (blocks t)) o call-passes p)

@@ -9,7 +9,7 @@ use Rattle.fat_node.specs.declared.Formatted.{Formatted}
 use Rattle.fat_table.specs.Steps.{created, deleted, resized}
 use Rattle.fat_test.specs.Promise.{TestPromise}
 use Rattle.fat_test.specs.declared.Tested.{Tested}
-use Rattle.fat.specs.Promise.{Beside}
+use Rattle.order.specs.Beside.{Beside}
 use Rattle.fat.specs.Calls.{
   Create,
   CreatePromise,

@@ -1,4 +1,4 @@
--- The list of document 01's checks that are marked P. Assumes nothing.
+-- The list of document 01's checks that are marked P; that all of them hold is `all` in proofs/All.antt. Assumes nothing.
 use mathlib.Core.List.{List, [], _∷_}
 use Rattle.checks.specs.Check.{Check}
 use Rattle.checks.specs.Blocks.{
@@ -15,6 +15,7 @@ use Rattle.checks.specs.Blocks.{
   read1,
   format1,
 }
+use Rattle.checks.specs.Tree.{rootHash, rootIn5, rootIn3, keyHash, keyIn5, formatTree, makeDir, lookupDir, lookupRoot}
 
 abbrev pub checks : List Check
 checks =
@@ -30,4 +31,13 @@ checks =
     ∷ read0
     ∷ read1
     ∷ format1
+    ∷ rootHash
+    ∷ rootIn5
+    ∷ rootIn3
+    ∷ keyHash
+    ∷ keyIn5
+    ∷ formatTree
+    ∷ makeDir
+    ∷ lookupDir
+    ∷ lookupRoot
     ∷ []

@@ -1,3 +1,4 @@
 pub mod Check
 pub mod Blocks
+pub mod Tree
 pub mod Checks

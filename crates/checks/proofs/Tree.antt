@@ -1,0 +1,291 @@
+-- The checks of the entry tables. Assumes nothing.
+use mathlib.Core.Path.{_≡_, refl, sym, ap, _∙_}
+use mathlib.Core.List.{List, [], _∷_, _++_}
+use mathlib.Core.Logic.{_⊎_, inl, inr, ⊎-elim}
+use Prim.Native.Nat.{ℕ, zero, suc, _+_, _*_, _/_, _%_, _<_, _≤_}
+use native.Mathlib.Omega.{arith}
+use lib.ListN.{length, replicate}
+use Rattle.words.specs.Word.{word, putWord}
+use Rattle.order.specs.Answer.{numberOf}
+use Rattle.order.specs.Beside.{Beside, beside}
+use Rattle.order.specs.Given.{None}
+use Rattle.order.specs.declared.Answer.{Answer}
+use Rattle.order.specs.declared.Answer.the-variants.{Done}
+use Rattle.order.proofs.One.{settled}
+use Rattle.links.specs.Links.{_∈_}
+use Rattle.meta_key.specs.Hash.{hashOf, mix, rotated}
+use Rattle.meta_table.specs.Field.{field}
+use Rattle.meta_table.specs.View.{View, place, parent, LiveIn}
+use Rattle.meta_table.specs.Steps.{freeOf}
+use Rattle.meta_tree.specs.Sizes.{Misfit, Outside, Beyond, rooms}
+use Rattle.meta_tree.specs.Sound.{Sound}
+use Rattle.meta_test.specs.Gate.{treeGate, openGate}
+use Rattle.fs_meta.specs.Tables.{Tables, tables, dirs, files, Has}
+use Rattle.fs_meta.specs.Calls.{Carry, carryGives, Make, makeGives, makeRows, makeDirDone, Lookup, lookupGives, lookupRows, lookupDone}
+use Rattle.fs_meta.specs.Format.{formatRows, formatted, FormatMisfit, FormatOutside}
+use Rattle.fs_meta.specs.Promise.{worked, TreePromise}
+use Rattle.checks.specs.Check.{Check, Shows}
+use Rattle.checks.specs.Tree.{
+  s0,
+  s1,
+  s2,
+  rootKey,
+  name,
+  key,
+  work5,
+  opens4,
+  wordsAt,
+  rootHash,
+  rootIn5,
+  rootIn3,
+  keyHash,
+  keyIn5,
+  formatTree,
+  makeDir,
+  lookupDir,
+  lookupRoot,
+}
+use Rattle.checks.proofs.Passes.{own-rows}
+use Rattle.checks.proofs.Fresh.{NoFiles, Fresh, fresh-sound, Second, second-sound, not-removed, same-or}
+
+pub shows-rootHash : Shows rootHash
+unfolding hashOf mix rotated
+shows-rootHash r p = ap (λ (x : ℕ). x ∷ []) p
+
+pub shows-rootIn5 : Shows rootIn5
+unfolding hashOf mix rotated
+shows-rootIn5 r p = ap (λ (x : ℕ). x ∷ []) p
+
+pub shows-rootIn3 : Shows rootIn3
+unfolding hashOf mix rotated
+shows-rootIn3 r p = ap (λ (x : ℕ). x ∷ []) p
+
+pub shows-keyHash : Shows keyHash
+unfolding hashOf mix rotated word
+shows-keyHash r p = ap (λ (x : ℕ). x ∷ []) p
+
+pub shows-keyIn5 : Shows keyIn5
+unfolding hashOf mix rotated word
+shows-keyIn5 r p = ap (λ (x : ℕ). x ∷ []) p
+
+-- tables of these lengths pass the sizes
+module _ (dh d fh f : List ℕ) (e1 : length dh ≡ 20) (e2 : length d ≡ 160) (e3 : length fh ≡ 4) (e4 : length f ≡ 48) where
+  fits : Misfit dh d fh f → ⊥
+  fits m =
+      ⊎-elim
+      (λ a. ⊎-elim (λ h. omega (arith, e1, h)) (λ h. h (omega (arith, e1))) a)
+      (λ m2.
+      ⊎-elim
+      (λ h. omega (arith, e2, h))
+      (λ m3.
+      ⊎-elim
+      (λ a. ⊎-elim (λ h. omega (arith, e3, h)) (λ h. h (omega (arith, e3))) a)
+      (λ h. omega (arith, e4, h))
+      m3)
+      m2)
+      m
+
+  inside : Outside dh d fh f → ⊥
+  inside m =
+      ⊎-elim
+      (λ a. ⊎-elim (λ h. omega (arith, e1, h)) (λ h. omega (arith, e1, h)) a)
+      (λ m2.
+      ⊎-elim
+      (λ a. ⊎-elim (λ h. omega (arith, e2, h)) (λ h. omega (arith, e2, h)) a)
+      (λ m3.
+      ⊎-elim
+      (λ a. ⊎-elim (λ h. omega (arith, e3, h)) (λ h. omega (arith, e3, h)) a)
+      (λ a. ⊎-elim (λ h. omega (arith, e4, h)) (λ h. omega (arith, e4, h)) a)
+      m3)
+      m2)
+      m
+
+format-fits : FormatMisfit s0 4 1 → ⊥
+format-fits m =
+    ⊎-elim
+    (fits (s0 .dirHash) (s0 .dirTable) (s0 .fileHash) (s0 .fileTable) refl refl refl refl)
+    (λ m2. ⊎-elim (λ h. omega (arith, h)) (λ h. omega (arith, h)) m2)
+    m
+
+format-inside : FormatOutside s0 4 1 → ⊥
+format-inside m =
+    ⊎-elim
+    (inside (s0 .dirHash) (s0 .dirTable) (s0 .fileHash) (s0 .fileTable) refl refl refl refl)
+    (λ m2.
+    ⊎-elim
+    (λ h. omega (arith, h))
+    (λ m3. ⊎-elim (λ h. omega (arith, h)) (λ m4. ⊎-elim (λ h. omega (arith, h)) (λ h. omega (arith, h)) m4) m3)
+    m2)
+    m
+
+pub shows-formatTree : Shows formatTree
+unfolding word putWord hashOf mix rotated
+shows-formatTree o p =
+    ap (λ (x : Carry). numberOf (x .answer) ∷ (wordsAt 5 0 (x .tables .dirHash) ++ wordsAt 20 0 (x .tables .dirTable)))
+    (settled (formatRows s0 4 1) (carryGives Done (formatted s0 4 1)) o (format-fits, (format-inside, tt)) p)
+
+-- the formatted tables ------------------------------------------------------------------------------------------------------------------------------
+
+-- every bucket of five but number 3 is empty
+else1 : (b : ℕ) → b < 5 → (b ≡ 3 → ⊥) → dirs s1 .hash b ≡ 0
+unfolding word putWord field hashOf mix rotated
+else1 zero h ne = refl
+else1 (suc zero) h ne = refl
+else1 (suc (suc zero)) h ne = refl
+else1 (suc (suc (suc zero))) h ne = absurd (ne refl)
+else1 (suc (suc (suc (suc zero)))) h ne = refl
+else1 (suc (suc (suc (suc (suc b))))) h ne = let z : ⊥ = omega (arith, h) in absurd z
+
+no-file1 : (b : ℕ) → b < 1 → files s1 .hash b ≡ 0
+unfolding word putWord field
+no-file1 zero h = refl
+no-file1 (suc b) h = let z : ⊥ = omega (arith, h) in absurd z
+
+files1 : NoFiles (files s1)
+unfolding word putWord field
+files1 = record { max = (omega arith, omega arith); count = refl; removed = refl; hash = no-file1 }
+
+fresh1 : Fresh (dirs s1) (files s1)
+unfolding word putWord field hashOf mix rotated
+fresh1 =
+    record {
+      max = (omega arith, omega arith);
+      count = refl;
+      removed = refl;
+      coll = refl;
+      key = refl;
+      next = refl;
+      sub-dirs = refl;
+      sub-files = refl;
+      here = refl;
+      else = else1;
+      files = files1;
+    }
+
+-- tables of those lengths that are sound pass the rows of sizes, work list and soundness
+module _ (s : Tables) (e1 : length (s .dirHash) ≡ 20) (e2 : length (s .dirTable) ≡ 160) (e3 : length (s .fileHash) ≡ 4)
+    (e4 : length (s .fileTable) ≡ 48) (sound : Sound (dirs s) (files s)) where
+  tree-passes : {A : Type 0} (refuse : Answer → List ℕ → A) → None (treeGate refuse (s .dirHash) (s .dirTable) (s .fileHash) (s .fileTable) work5)
+  tree-passes refuse = (
+    fits (s .dirHash) (s .dirTable) (s .fileHash) (s .fileTable) e1 e2 e3 e4,
+    (
+      inside (s .dirHash) (s .dirTable) (s .fileHash) (s .fileTable) e1 e2 e3 e4,
+      (λ h. omega (arith, e2, e4, h), (λ h. h sound, tt)),
+    ),
+  )
+
+  open-passes : {A : Type 0} (refuse : Answer → List ℕ → A)
+      → None (openGate refuse (s .dirHash) (s .dirTable) (s .fileHash) (s .fileTable) 4 (length (s .dirTable) / 40) work5)
+  open-passes refuse = (
+    fits (s .dirHash) (s .dirTable) (s .fileHash) (s .fileTable) e1 e2 e3 e4,
+    (
+      inside (s .dirHash) (s .dirTable) (s .fileHash) (s .fileTable) e1 e2 e3 e4,
+      (λ m. ⊎-elim (λ h. omega (arith, e2, e4, h)) (λ h. omega (arith, e2, h)) m, (λ h. h sound, tt)),
+    ),
+  )
+
+lengths1 : (length (s1 .dirHash) ≡ 20) × (length (s1 .dirTable) ≡ 160) × (length (s1 .fileHash) ≡ 4) × (length (s1 .fileTable) ≡ 48)
+unfolding putWord hashOf mix rotated
+lengths1 = (refl, refl, refl, refl)
+
+live1 : LiveIn (dirs s1) 1
+live1 = fresh-sound (dirs s1) (files s1) fresh1 .root-live
+
+-- no directory has the new key yet
+no-key1 : Has (dirs s1) key → ⊥
+no-key1 m =
+    let one : m .0 ≡ 1 = omega (arith, m .1 .0, m .1 .1, fresh1 .count) in
+    let p : dirs s1 .key 1 ≡ key = ap (dirs s1 .key) (sym one) ∙ m .2 in
+    omega (arith, ap parent (fresh1 .key), ap parent p)
+
+room1 : freeOf (dirs s1) ≡ 2
+unfolding word putWord field
+room1 = refl
+
+make-done : (o : Beside Make) → makeDir .promise o → o .given ≡ makeDirDone s1 opens4 1 name (replicate 4 0)
+make-done o p =
+    settled (makeRows s1 (dirs s1) opens4 1 key) (makeDirDone s1 opens4 1 name (replicate 4 0)) (o .given)
+    (λ h. h live1, (no-key1, (λ h. omega (arith, room1, h), tt)))
+    (own-rows
+    (openGate (λ a w. beside (makeGives a 0 s1 opens4) w) (s1 .dirHash) (s1 .dirTable) (s1 .fileHash) (s1 .fileTable) 4 (length (s1 .dirTable) / 40) work5)
+    (worked s1 work5)
+    (makeRows s1 (dirs s1) opens4 1 key)
+    (makeDirDone s1 opens4 1 name (replicate 4 0))
+    o
+    (open-passes s1 (lengths1 .0) (lengths1 .1) (lengths1 .2) (lengths1 .3) (fresh-sound (dirs s1) (files s1) fresh1)
+    (λ a w. beside (makeGives a 0 s1 opens4) w))
+    p)
+
+pub shows-makeDir : Shows makeDir
+unfolding word putWord field hashOf mix rotated
+shows-makeDir o p =
+    ap
+    (λ (x : Make).
+    numberOf (x .answer) ∷ x .inode ∷ field 4 (x .tables .dirHash) 3 0 ∷ field 40 (x .tables .dirTable) 2 0 ∷ field 40 (x .tables .dirTable) 1 7 ∷ [])
+    (make-done o p)
+
+-- the tables with the directory -------------------------------------------------------------------------------------------------------------------
+
+else2 : (b : ℕ) → b < 5 → (b ≡ 3 → ⊥) → dirs s2 .hash b ≡ 0
+unfolding word putWord field hashOf mix rotated
+else2 zero h ne = refl
+else2 (suc zero) h ne = refl
+else2 (suc (suc zero)) h ne = refl
+else2 (suc (suc (suc zero))) h ne = absurd (ne refl)
+else2 (suc (suc (suc (suc zero)))) h ne = refl
+else2 (suc (suc (suc (suc (suc b))))) h ne = let z : ⊥ = omega (arith, h) in absurd z
+
+files2 : NoFiles (files s2)
+files2 = record { max = files1 .max; count = files1 .count; removed = files1 .removed; hash = files1 .hash }
+
+second2 : Second (dirs s2) (files s2)
+unfolding word putWord field hashOf mix rotated
+second2 =
+    record {
+      max = (omega arith, omega arith);
+      count = refl;
+      removed = refl;
+      coll = (refl, refl);
+      key = refl;
+      parent = refl;
+      next = (refl, refl);
+      sub-dirs = (refl, refl);
+      sub-files = (refl, refl);
+      same = refl;
+      here = refl;
+      else = else2;
+      files = files2;
+    }
+
+lengths2 : (length (s2 .dirHash) ≡ 20) × (length (s2 .dirTable) ≡ 160) × (length (s2 .fileHash) ≡ 4) × (length (s2 .fileTable) ≡ 48)
+unfolding word putWord field hashOf mix rotated
+lengths2 = (refl, refl, refl, refl)
+
+lookup-done : (k : List ℕ) → Has (dirs s2) k → (o : Beside Lookup)
+    → TreePromise (λ a. lookupGives a 0 0) s2 work5 (lookupRows (dirs s2) k) (lookupDone (dirs s2) k) o → o .given ≡ lookupDone (dirs s2) k
+lookup-done k has o p =
+    settled (lookupRows (dirs s2) k) (lookupDone (dirs s2) k) (o .given) (λ h. h has, tt)
+    (own-rows (treeGate (λ a w. beside (lookupGives a 0 0) w) (s2 .dirHash) (s2 .dirTable) (s2 .fileHash) (s2 .fileTable) work5) (worked s2 work5)
+    (lookupRows (dirs s2) k) (lookupDone (dirs s2) k) o
+    (tree-passes s2 (lengths2 .0) (lengths2 .1) (lengths2 .2) (lengths2 .3) (second-sound (dirs s2) (files s2) second2)
+    (λ a w. beside (lookupGives a 0 0) w))
+    p)
+
+live2 : (y : ℕ) → 0 < y → y < 3 → LiveIn (dirs s2) y
+live2 y lo hi = (lo, omega (arith, hi, second2 .count), not-removed (dirs s2) (second2 .removed) y)
+
+has-key : Has (dirs s2) key
+unfolding word putWord field hashOf mix rotated
+has-key = (2, live2 2 (omega arith) (omega arith), refl)
+
+has-root : Has (dirs s2) rootKey
+unfolding word putWord field hashOf mix rotated
+has-root = (1, live2 1 (omega arith) (omega arith), refl)
+
+pub shows-lookupDir : Shows lookupDir
+unfolding word putWord field hashOf mix rotated
+shows-lookupDir o p = ap (λ (x : Lookup). numberOf (x .answer) ∷ x .inode ∷ x .compared ∷ []) (lookup-done key has-key o p)
+
+pub shows-lookupRoot : Shows lookupRoot
+unfolding word putWord field hashOf mix rotated
+shows-lookupRoot o p = ap (λ (x : Lookup). numberOf (x .answer) ∷ x .inode ∷ x .compared ∷ []) (lookup-done rootKey has-root o p)
