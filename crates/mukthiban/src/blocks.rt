@@ -1,0 +1,72 @@
+// The calls on the block table.
+ghost use mathlib.Core.Path.{_≡_};
+ghost use lib.ListN.{length};
+ghost use Rattle.order.specs.Answer.{numberOf};
+ghost use Rattle.fat.specs.Promise.{beside};
+ghost use Rattle.order.specs.declared.Answer.{Answer};
+ghost use Rattle.fat_node.specs.Format.{FormatPromise};
+ghost use Rattle.fat_node.specs.declared.Formatted.{Formatted};
+ghost use Rattle.fat_test.specs.Promise.{TestPromise, tested};
+ghost use Rattle.fat.specs.Calls.{CreatePromise, createGives, DeletePromise, changeGives};
+use crate::Created;
+use crate::Plain;
+use crate::Tested;
+
+#[no_mangle]
+pub extern "C" fn mukthiban_fat_format(table: &mut [u8]) -> Plain
+    ensures { λ p. ⌜ ((r : Formatted) × (p .answer ≡ numberOf (r .answer)) × FormatPromise (now (table .entry)) r (now (table .exit))) ⌝ }
+{
+    let r = fat_node::format(table);
+    let answer = r.answer;
+    Plain {
+        answer: order::number(answer),
+    }
+}
+
+#[no_mangle]
+pub extern "C" fn mukthiban_fat_test(table: &[u8], work: &mut [u32]) -> Tested
+    ensures { λ p. ⌜ ((a : Answer) × (p .answer ≡ numberOf a) × TestPromise (now (table .entry)) (now (work .entry)) (tested a (p .free) (p .files), now (work .exit))) ⌝ }
+{
+    let r = fat_test::test(table, work);
+    let answer = r.answer;
+    Tested {
+        answer: order::number(answer),
+        free: r.free,
+        files: r.files,
+    }
+}
+
+#[no_mangle]
+pub extern "C" fn mukthiban_fat_create(
+    table: &mut [u8],
+    data: &[u8],
+    block_len: usize,
+    work: &mut [u32],
+    block_count: usize,
+) -> Created
+    ensures { λ p. ⌜ ((a : Answer) × (p .answer ≡ numberOf a) × CreatePromise (now (table .entry)) (length (now («data» .entry))) «block_len» (now (work .entry)) «block_count» (beside (createGives a (p .«first_block») (now (table .exit))) (now (work .exit)))) ⌝ }
+{
+    let r = fat::create(table, data, block_len, work, block_count);
+    let answer = r.answer;
+    Created {
+        answer: order::number(answer),
+        first_block: r.first,
+    }
+}
+
+#[no_mangle]
+pub extern "C" fn mukthiban_fat_delete(
+    table: &mut [u8],
+    data: &[u8],
+    block_len: usize,
+    work: &mut [u32],
+    first_block: usize,
+) -> Plain
+    ensures { λ p. ⌜ ((a : Answer) × (p .answer ≡ numberOf a) × DeletePromise (now (table .entry)) (length (now («data» .entry))) «block_len» (now (work .entry)) «first_block» (beside (changeGives a (now (table .exit))) (now (work .exit)))) ⌝ }
+{
+    let r = fat::delete(table, data, block_len, work, first_block);
+    let answer = r.answer;
+    Plain {
+        answer: order::number(answer),
+    }
+}
