@@ -2,7 +2,7 @@
 use mathlib.Core.Path.{_≡_}
 use mathlib.Core.List.{List, [], _∷_}
 use mathlib.Core.Bool.{Bool, true, false}
-use Prim.Native.Nat.{ℕ, _/_, _≤_}
+use Prim.Native.Nat.{ℕ, _/_, _≤_, _<_}
 use lib.ListN.{length}
 use Rattle.links.specs.Links.{Holds}
 use Rattle.meta_table.specs.Field.{field}
@@ -44,3 +44,14 @@ pub record DirsTested (dh d : List ℕ) (work work′ : List ℕ) (r : Bool) : T
 pub record FilesTested (dh d fh f : List ℕ) (r : Bool) : Type 0 where
   pub good : r ≡ true → Files (dirView dh d) (fileView d fh f)
   pub bad : r ≡ false → Files (dirView dh d) (fileView d fh f) → ⊥
+
+-- what the test asks of the four lengths
+pub record Sized (dh d fh f : List ℕ) : Type 0 where
+  pub dir-table : 40 ≤ length d
+  pub dir-room : length d / 40 ≤ 65536
+  pub dir-some : 0 < length dh / 4
+  pub dir-buckets : length dh / 4 ≤ 65536
+  pub file-table : 48 ≤ length f
+  pub file-room : length f / 48 ≤ 65536
+  pub file-some : 0 < length fh / 4
+  pub file-buckets : length fh / 4 ≤ 65536

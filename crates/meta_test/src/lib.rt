@@ -3,12 +3,18 @@ use order::Answer;
 ghost use mathlib.Core.Path.{_≡_};
 ghost use mathlib.Core.List.{List};
 ghost use Prim.Native.Nat.{ℕ, _+_, _-_, _*_, _/_, _≤_, _<_};
-ghost use lib.ListN.{length};
 ghost use Rattle.meta_table.specs.Field.{field};
 ghost use Rattle.meta_table.specs.View.{dirView, fileView, removedOf};
 ghost use Rattle.meta_marks.specs.Marks.{markAt, Tells};
 ghost use Rattle.meta_marks.specs.Gather.{Told};
-ghost use Rattle.meta_test.specs.Halves.{Root, DirsTested, FilesTested};
+ghost use lib.ListN.{length, getD, replicate};
+ghost use Rattle.order.specs.First.{First};
+ghost use Rattle.order.specs.Gate.{cleared};
+ghost use Rattle.meta_tree.specs.Sizes.{rooms, HashMisfit, Misfit, Beyond, Outside};
+ghost use Rattle.meta_tree.specs.Sound.{Sound};
+ghost use Rattle.meta_test.specs.Gate.{treeGate};
+ghost use Rattle.meta_test.specs.Promise.{tested, testDone, TreeGateOf, OpenGateOf};
+ghost use Rattle.meta_test.specs.Halves.{Root, DirsTested, FilesTested, Sized};
 
 // The test's answer: Done for sound tables.
 pub struct Tested {
@@ -85,4 +91,215 @@ fn test_files(dirs: &[u8], hash: &[u8], table: &[u8], work: &mut [u32], off: usi
         return false;
     }
     meta_marks::check_parents(table, 48, 0, count, work, off)
+}
+
+// Whether the two tables are sound. The work list has a place for each entry of the two, all 0.
+fn sound(
+    dir_hash: &[u8],
+    dir_table: &[u8],
+    file_hash: &[u8],
+    file_table: &[u8],
+    work: &mut [u32],
+) -> bool
+    requires { ⌜ Sized (now «dir_hash») (now «dir_table») (now «file_hash») (now «file_table») ⌝ }
+    requires { ⌜ length (now work) ≡ rooms (now «dir_table») (now «file_table») ⌝ }
+    requires { ⌜ ((j : ℕ) → getD (now work) j 0 ≡ 0) ⌝ }
+    ensures { λ r. ⌜ Tells (Sound (dirView (now («dir_hash» .entry)) (now («dir_table» .entry))) (fileView (now («dir_table» .entry)) (now («file_hash» .entry)) (now («file_table» .entry)))) r ⌝ }
+{
+    if !test_dirs(dir_hash, dir_table, work) {
+        return false;
+    }
+    let off = dir_table.len() / 40;
+    test_files(dir_table, file_hash, file_table, work, off)
+}
+
+// Sets all places to 0.
+fn clear(work: &mut [u32])
+    ensures { λ _. ⌜ ((n : ℕ) → length (now (work .entry)) ≡ n → now (work .exit) ≡ replicate n 0) ⌝ }
+{
+    let mut i: usize = 0;
+    while i < work.len() {
+        work[i] = 0;
+        i += 1;
+    }
+}
+
+// The same with a work list of any content, which is 0 after it.
+fn judge(
+    dir_hash: &[u8],
+    dir_table: &[u8],
+    file_hash: &[u8],
+    file_table: &[u8],
+    work: &mut [u32],
+) -> bool
+    requires { ⌜ Sized (now «dir_hash») (now «dir_table») (now «file_hash») (now «file_table») ⌝ }
+    requires { ⌜ length (now work) ≡ rooms (now «dir_table») (now «file_table») ⌝ }
+    ensures { λ r. ⌜ Tells (Sound (dirView (now («dir_hash» .entry)) (now («dir_table» .entry))) (fileView (now («dir_table» .entry)) (now («file_hash» .entry)) (now («file_table» .entry)))) r
+        × (now (work .exit) ≡ replicate (length (now (work .entry))) 0) ⌝ }
+{
+    clear(work);
+    let r = sound(dir_hash, dir_table, file_hash, file_table, work);
+    clear(work);
+    r
+}
+
+// The same in the first places of a work list, which are 0 after it.
+fn verdict(
+    dir_hash: &[u8],
+    dir_table: &[u8],
+    file_hash: &[u8],
+    file_table: &[u8],
+    work: &mut [u32],
+) -> bool
+    requires { ⌜ Sized (now «dir_hash») (now «dir_table») (now «file_hash») (now «file_table») ⌝ }
+    requires { ⌜ rooms (now «dir_table») (now «file_table») ≤ length (now work) ⌝ }
+    ensures { λ r. ⌜ Tells (Sound (dirView (now («dir_hash» .entry)) (now («dir_table» .entry))) (fileView (now («dir_table» .entry)) (now («file_hash» .entry)) (now («file_table» .entry)))) r
+        × (now (work .exit) ≡ cleared (rooms (now («dir_table» .entry)) (now («file_table» .entry))) (now (work .entry))) ⌝ }
+{
+    let places = dir_table.len() / 40 + file_table.len() / 48;
+    judge(
+        dir_hash,
+        dir_table,
+        file_hash,
+        file_table,
+        &mut work[..places],
+    )
+}
+
+// Whether a hash is of length 0 or of a length that is not a multiple of 4.
+pub fn hash_misfit(hash: &[u8]) -> bool
+    ensures { λ r. ⌜ Tells (HashMisfit (now (hash .entry))) r ⌝ }
+{
+    let len = hash.len();
+    if len == 0 {
+        return true;
+    }
+    if len % 4 != 0 {
+        return true;
+    }
+    false
+}
+
+// Whether one of the four does not fit.
+fn misfit(dir_hash: &[u8], dir_table: &[u8], file_hash: &[u8], file_table: &[u8]) -> bool
+    ensures { λ r. ⌜ Tells (Misfit (now («dir_hash» .entry)) (now («dir_table» .entry)) (now («file_hash» .entry)) (now («file_table» .entry))) r ⌝ }
+{
+    if hash_misfit(dir_hash) {
+        return true;
+    }
+    if dir_table.len() < 40 {
+        return true;
+    }
+    if hash_misfit(file_hash) {
+        return true;
+    }
+    if file_table.len() < 48 {
+        return true;
+    }
+    false
+}
+
+// Whether a number is not from 1 to 65,536.
+pub fn beyond(n: usize) -> bool
+    ensures { λ r. ⌜ Tells (Beyond n) r ⌝ }
+{
+    if n < 1 {
+        return true;
+    }
+    if 65536 < n {
+        return true;
+    }
+    false
+}
+
+// Whether one of the four has too few or too many buckets or entries.
+fn outside(dir_hash: &[u8], dir_table: &[u8], file_hash: &[u8], file_table: &[u8]) -> bool
+    ensures { λ r. ⌜ Tells (Outside (now («dir_hash» .entry)) (now («dir_table» .entry)) (now («file_hash» .entry)) (now («file_table» .entry))) r ⌝ }
+{
+    if beyond(dir_hash.len() / 4) {
+        return true;
+    }
+    if beyond(dir_table.len() / 40) {
+        return true;
+    }
+    if beyond(file_hash.len() / 4) {
+        return true;
+    }
+    if beyond(file_table.len() / 48) {
+        return true;
+    }
+    false
+}
+
+// The gate of a call that takes open counts also, a list of length `opens` for a table with room for `room` entries.
+pub fn open_gate(
+    dir_hash: &[u8],
+    dir_table: &[u8],
+    file_hash: &[u8],
+    file_table: &[u8],
+    opens: usize,
+    room: usize,
+    work: &mut [u32],
+) -> Gated
+    ensures { λ r. ⌜ OpenGateOf (now («dir_hash» .entry)) (now («dir_table» .entry)) (now («file_hash» .entry)) (now («file_table» .entry)) opens room (now (work .entry)) (now (work .exit)) r ⌝ }
+{
+    if misfit(dir_hash, dir_table, file_hash, file_table) {
+        return Gated::Refused {
+            answer: Answer::SizeMismatch,
+        };
+    }
+    if outside(dir_hash, dir_table, file_hash, file_table) {
+        return Gated::Refused {
+            answer: Answer::InvalidValue,
+        };
+    }
+    if work.len() < dir_table.len() / 40 + file_table.len() / 48 {
+        return Gated::Refused {
+            answer: Answer::WorkTooShort,
+        };
+    }
+    if opens < room {
+        return Gated::Refused {
+            answer: Answer::WorkTooShort,
+        };
+    }
+    if !verdict(dir_hash, dir_table, file_hash, file_table, work) {
+        return Gated::Refused {
+            answer: Answer::BrokenTree,
+        };
+    }
+    Gated::Open
+}
+
+// The gate of a call that takes no open counts.
+pub fn gate(
+    dir_hash: &[u8],
+    dir_table: &[u8],
+    file_hash: &[u8],
+    file_table: &[u8],
+    work: &mut [u32],
+) -> Gated
+    ensures { λ r. ⌜ TreeGateOf (now («dir_hash» .entry)) (now («dir_table» .entry)) (now («file_hash» .entry)) (now («file_table» .entry)) (now (work .entry)) (now (work .exit)) r ⌝ }
+{
+    open_gate(dir_hash, dir_table, file_hash, file_table, 0, 0, work)
+}
+
+// The test of the two entry tables. Done: they are sound.
+pub fn test(
+    dir_hash: &[u8],
+    dir_table: &[u8],
+    file_hash: &[u8],
+    file_table: &[u8],
+    work: &mut [u32],
+) -> Tested
+    ensures { λ r. ⌜ First (treeGate tested (now («dir_hash» .entry)) (now («dir_table» .entry)) (now («file_hash» .entry)) (now («file_table» .entry)) (now (work .entry)))
+        (testDone (now («dir_table» .entry)) (now («file_table» .entry)) (now (work .entry))) (r, now (work .exit)) ⌝ }
+{
+    let g = gate(dir_hash, dir_table, file_hash, file_table, work);
+    let Gated::Refused { answer } = g else {
+        return Tested {
+            answer: Answer::Done,
+        };
+    };
+    Tested { answer }
 }
