@@ -2,6 +2,7 @@
 // place of its name, and promises what the call promises: there is an answer with that number and those fields of which the call's promise holds.
 mod blocks;
 mod inner;
+mod opens;
 
 // The answer of a call that gives nothing else.
 #[repr(C)]
