@@ -75,15 +75,15 @@ module _ (n : ℕ) (t : Bytes) (l : List Run) (k b m : ℕ) (c : Chain n t l) (w
       some-first l (r ∷ before) e = omega (arith, ap first e)
 
 -- the last node, found by seeking more blocks than there are
-pub last-past : (n : ℕ) (t : Bytes) (i j m : ℕ) → ChainFrom n t i → (i ≡ 0 → ⊥) → Beyond (chainAt t n i) (n + 1) j m → LastAt (chainAt t n i) (j - 1)
-last-past n t i j m c h w = go (w .last)
+pub last-past : (n : ℕ) (t : Bytes) (i k j m : ℕ) → ChainFrom n t i → (i ≡ 0 → ⊥) → Beyond (chainAt t n i) k j m → LastAt (chainAt t n i) (j - 1)
+last-past n t i k j m c h w = go (w .last)
   where
     go : LastIs (chainAt t n i) j → LastAt (chainAt t n i) (j - 1)
     go (none e k) = absurd (h (sym (c .at) ∙ ap first e))
     go (node before y e k) = record { before = before; node = y; is = e; at = omega (arith, k) }
 
-pub last-some : (n : ℕ) (t : Bytes) (i j m : ℕ) → ChainFrom n t i → (i ≡ 0 → ⊥) → Beyond (chainAt t n i) (n + 1) j m → 1 ≤ j
-last-some n t i j m c h w = go (w .last)
+pub last-some : (n : ℕ) (t : Bytes) (i k j m : ℕ) → ChainFrom n t i → (i ≡ 0 → ⊥) → Beyond (chainAt t n i) k j m → 1 ≤ j
+last-some n t i k j m c h w = go (w .last)
   where
     go : LastIs (chainAt t n i) j → 1 ≤ j
     go (none e k) = absurd (h (sym (c .at) ∙ ap first e))
@@ -155,7 +155,7 @@ module _ (n : ℕ) (t : Bytes) (i : ℕ) (r : Sought) (c : ChainFrom n t i) (w :
   last-in b m e = last-within n t i b m c (says-within (chainAt t n i) (n + 1) r b m w e)
 
   pub last-out : (j m : ℕ) → (i ≡ 0 → ⊥) → r ≡ Past j m → LastAt (chainAt t n i) (j - 1)
-  last-out j m h e = last-past n t i j m c h (says-past (chainAt t n i) (n + 1) r j m w e)
+  last-out j m h e = last-past n t i (n + 1) j m c h (says-past (chainAt t n i) (n + 1) r j m w e)
 
   pub last-out-some : (j m : ℕ) → (i ≡ 0 → ⊥) → r ≡ Past j m → 1 ≤ j
-  last-out-some j m h e = last-some n t i j m c h (says-past (chainAt t n i) (n + 1) r j m w e)
+  last-out-some j m h e = last-some n t i (n + 1) j m c h (says-past (chainAt t n i) (n + 1) r j m w e)

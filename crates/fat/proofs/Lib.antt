@@ -7,3 +7,4 @@ pub mod Walks
 pub mod Hops
 pub mod Done
 pub mod Public
+pub mod Resizes

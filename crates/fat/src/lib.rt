@@ -6,10 +6,10 @@ ghost use Rattle.fat_node.specs.Node.{prevAt, nextAt};
 ghost use mathlib.Core.Bool.{true};
 ghost use Rattle.fat_table.specs.Sound.{IsNode, File};
 ghost use Rattle.fat_table.specs.Chain.{sizeAt, headAt, chainAt};
-ghost use Rattle.fat.specs.Inner.{Volume, Standing, StandingAt, ChainFrom, withPrev, joinAt, endAt, splitAt, cutAt, SeekSays, LastAt};
+ghost use Rattle.fat.specs.Inner.{Volume, Standing, StandingAt, ChainFrom, withPrev, joinAt, endAt, splitAt, cutAt, SeekSays, LastAt, PlanSays};
 ghost use Rattle.order.specs.First.{First};
 ghost use Rattle.fat.specs.Promise.{beside};
-ghost use Rattle.fat.specs.Calls.{CreatePromise, DeletePromise, createGives, createRows, createDone, changeGives, deleteRows, deleteDone};
+ghost use Rattle.fat.specs.Calls.{CreatePromise, DeletePromise, createGives, createRows, createDone, changeGives, deleteRows, deleteDone, resizeRows, resizeDone, ResizePromise};
 use fat_node::Node;
 use fat_test::Gated;
 use order::Answer;
@@ -297,6 +297,96 @@ pub fn create_sound(table: &mut [u8], n: usize, block_count: usize) -> Created
     }
 }
 
+// Where a resize cuts the file joined with the free chain, and the file's last node; or that it changes nothing; or that there is no space.
+pub enum Planned {
+    Cut {
+        last: usize,
+        node: usize,
+        part: usize,
+    },
+    Same,
+    Full,
+}
+
+// Whether part blocks of the node at block b are all of it, and it is the last of its chain.
+fn is_end(table: &[u8], n: usize, b: usize, part: usize) -> bool
+    requires { ⌜ Standing n (now table) b ⌝ }
+    ensures { λ r. ⌜ (r ≡ true → (part ≡ sizeAt (now (table .entry)) b) × (nextAt (now (table .entry)) b ≡ 0)) ⌝ }
+{
+    let node = node_at(table, n, b);
+    let size = node.size;
+    let next = node.next;
+    if part == size {
+        return next == 0;
+    }
+    false
+}
+
+// Plans a resize of the file at a block to so many blocks.
+fn plan(table: &[u8], n: usize, first_block: usize, block_count: usize) -> Planned
+    requires { ⌜ Volume n (now table) ⌝ }
+    requires { ⌜ File (now table) n «first_block» ⌝ }
+    requires { ⌜ 1 ≤ «block_count» ⌝ }
+    ensures { λ r. ⌜ PlanSays n (now (table .entry)) «first_block» «block_count» r ⌝ }
+{
+    let sought = seek(table, n, first_block + 1, block_count);
+    match sought {
+        Sought::Within { node, part } => {
+            if is_end(table, n, node, part) {
+                return Planned::Same;
+            }
+            let last = last_of(table, n, first_block + 1);
+            Planned::Cut { last, node, part }
+        }
+        Sought::Past { last, part } => {
+            let head = head_of(table);
+            let more = seek(table, n, head, part);
+            match more {
+                Sought::Within { node, part } => Planned::Cut {
+                    last: last - 1,
+                    node,
+                    part,
+                },
+                Sought::Past { last: _, part: _ } => Planned::Full,
+            }
+        }
+    }
+}
+
+// Resizes the file at a block to so many blocks, on a sound table: the file and the free chain after it, cut where the file is to end.
+pub fn resize_sound(table: &mut [u8], n: usize, first_block: usize, block_count: usize) -> Answered
+    requires { ⌜ Volume n (now table) ⌝ }
+    ensures { λ r. ⌜ First (resizeRows n (now (table .entry)) «first_block» «block_count») (resizeDone n (now (table .entry)) «first_block» «block_count») (changeGives (r .answer) (now (table .exit))) ⌝ }
+{
+    if !is_file(table, n, first_block) {
+        return Answered {
+            answer: Answer::NotAFile,
+        };
+    }
+    if block_count == 0 {
+        return Answered {
+            answer: Answer::InvalidValue,
+        };
+    }
+    let planned = plan(table, n, first_block, block_count);
+    match planned {
+        Planned::Full => Answered {
+            answer: Answer::NoSpace,
+        },
+        Planned::Same => Answered {
+            answer: Answer::Done,
+        },
+        Planned::Cut { last, node, part } => {
+            let head = head_of(table);
+            join(table, n, last, head);
+            cut(table, n, node, part);
+            Answered {
+                answer: Answer::Done,
+            }
+        }
+    }
+}
+
 // Deletes the file whose first block is given: all its nodes go before the free front, in their order. Answers its number alone; NotAFile where the block
 // is not the first of a chain other than the free one.
 pub fn delete(
@@ -335,6 +425,28 @@ pub fn create(
         Gated::Open { free: _, files: _ } => {
             let n = table.len() / 8 - 1;
             create_sound(table, n, block_count)
+        }
+    }
+}
+
+// Resizes the file whose first block is given to so many blocks: it grows by the first of the free chain, or its last go before the free front; to the
+// same count nothing changes. Answers its number alone; NotAFile as delete, InvalidValue for 0 blocks, NoSpace where too few are free.
+pub fn resize(
+    table: &mut [u8],
+    data: &[u8],
+    block_len: usize,
+    work: &mut [u32],
+    first_block: usize,
+    block_count: usize,
+) -> Answered
+    ensures { λ r. ⌜ ResizePromise (now (table .entry)) (length (now («data» .entry))) «block_len» (now (work .entry)) «first_block» «block_count» (beside (changeGives (r .answer) (now (table .exit))) (now (work .exit))) ⌝ }
+{
+    let gated = fat_test::gate(table, data.len(), block_len, work);
+    match gated {
+        Gated::Refused { answer } => Answered { answer },
+        Gated::Open { free: _, files: _ } => {
+            let n = table.len() / 8 - 1;
+            resize_sound(table, n, first_block, block_count)
         }
     }
 }
