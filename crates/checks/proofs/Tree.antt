@@ -13,6 +13,7 @@ use Rattle.order.specs.declared.Answer.{Answer}
 use Rattle.order.specs.declared.Answer.the-variants.{Done}
 use Rattle.order.proofs.One.{settled}
 use Rattle.links.specs.Links.{_∈_}
+use Rattle.meta_key.specs.Key.{nameKey}
 use Rattle.meta_key.specs.Hash.{hashOf, mix, rotated}
 use Rattle.meta_table.specs.Field.{field}
 use Rattle.meta_table.specs.View.{View, place, parent, LiveIn}
@@ -23,13 +24,13 @@ use Rattle.meta_test.specs.Gate.{treeGate, openGate}
 use Rattle.fs_meta.specs.Tables.{Tables, tables, dirs, files, Has}
 use Rattle.fs_meta.specs.Calls.{Carry, carryGives, Make, makeGives, makeRows, makeDirDone, Lookup, lookupGives, lookupRows, lookupDone}
 use Rattle.fs_meta.specs.Format.{formatRows, formatted, FormatMisfit, FormatOutside}
-use Rattle.fs_meta.specs.Promise.{worked, TreePromise}
+use Rattle.fs_meta.specs.Promise.{worked}
+use Rattle.fs_meta.specs.Public.{LookupPromise}
 use Rattle.checks.specs.Check.{Check, Shows}
 use Rattle.checks.specs.Tree.{
   s0,
   s1,
   s2,
-  rootKey,
   name,
   key,
   work5,
@@ -261,15 +262,16 @@ lengths2 : (length (s2 .dirHash) ≡ 20) × (length (s2 .dirTable) ≡ 160) × (
 unfolding word putWord field hashOf mix rotated
 lengths2 = (refl, refl, refl, refl)
 
-lookup-done : (k : List ℕ) → Has (dirs s2) k → (o : Beside Lookup)
-    → TreePromise (λ a. lookupGives a 0 0) s2 work5 (lookupRows (dirs s2) k) (lookupDone (dirs s2) k) o → o .given ≡ lookupDone (dirs s2) k
-lookup-done k has o p =
+lookup-done : (p : ℕ) (n : List ℕ) → Has (dirs s2) (nameKey p n) → (o : Beside Lookup) → LookupPromise s2 (dirs s2) work5 p n o
+    → o .given ≡ lookupDone (dirs s2) (nameKey p n)
+lookup-done p n has o q =
+    let k : List ℕ = nameKey p n in
     settled (lookupRows (dirs s2) k) (lookupDone (dirs s2) k) (o .given) (λ h. h has, tt)
     (own-rows (treeGate (λ a w. beside (lookupGives a 0 0) w) (s2 .dirHash) (s2 .dirTable) (s2 .fileHash) (s2 .fileTable) work5) (worked s2 work5)
     (lookupRows (dirs s2) k) (lookupDone (dirs s2) k) o
     (tree-passes s2 (lengths2 .0) (lengths2 .1) (lengths2 .2) (lengths2 .3) (second-sound (dirs s2) (files s2) second2)
     (λ a w. beside (lookupGives a 0 0) w))
-    p)
+    q)
 
 live2 : (y : ℕ) → 0 < y → y < 3 → LiveIn (dirs s2) y
 live2 y lo hi = (lo, omega (arith, hi, second2 .count), not-removed (dirs s2) (second2 .removed) y)
@@ -278,14 +280,14 @@ has-key : Has (dirs s2) key
 unfolding word putWord field hashOf mix rotated
 has-key = (2, live2 2 (omega arith) (omega arith), refl)
 
-has-root : Has (dirs s2) rootKey
+has-root : Has (dirs s2) (nameKey 0 (replicate 16 0))
 unfolding word putWord field hashOf mix rotated
 has-root = (1, live2 1 (omega arith) (omega arith), refl)
 
 pub shows-lookupDir : Shows lookupDir
 unfolding word putWord field hashOf mix rotated
-shows-lookupDir o p = ap (λ (x : Lookup). numberOf (x .answer) ∷ x .inode ∷ x .compared ∷ []) (lookup-done key has-key o p)
+shows-lookupDir o p = ap (λ (x : Lookup). numberOf (x .answer) ∷ x .inode ∷ x .compared ∷ []) (lookup-done 1 name has-key o p)
 
 pub shows-lookupRoot : Shows lookupRoot
 unfolding word putWord field hashOf mix rotated
-shows-lookupRoot o p = ap (λ (x : Lookup). numberOf (x .answer) ∷ x .inode ∷ x .compared ∷ []) (lookup-done rootKey has-root o p)
+shows-lookupRoot o p = ap (λ (x : Lookup). numberOf (x .answer) ∷ x .inode ∷ x .compared ∷ []) (lookup-done 0 (replicate 16 0) has-root o p)

@@ -11,9 +11,9 @@ use Rattle.meta_key.specs.Key.{nameKey}
 use Rattle.meta_table.specs.Field.{field}
 use Rattle.fs_meta.specs.Tables.{Tables, tables, dirs}
 use Rattle.fs_meta.specs.Steps.{madeDir}
-use Rattle.fs_meta.specs.Calls.{Carry, Make, makeGives, makeRows, makeDirDone, Lookup, lookupGives, lookupRows, lookupDone}
+use Rattle.fs_meta.specs.Calls.{Carry, Make, Lookup}
 use Rattle.fs_meta.specs.Format.{FormatPromise, formatted}
-use Rattle.fs_meta.specs.Promise.{TreePromise, DirPromise}
+use Rattle.fs_meta.specs.Public.{MakeDirPromise, LookupPromise}
 use Rattle.checks.specs.Check.{Check}
 
 -- the root's key; the name 61 and fifteen zeros, and its key under the root
@@ -86,8 +86,7 @@ abbrev pub makeDir : Check
 makeDir =
     record {
       Given = Beside Make;
-      promise = DirPromise (λ a. makeGives a 0 s1 opens4) s1 opens4 work5 (makeRows s1 (dirs s1) opens4 1 key)
-          (makeDirDone s1 opens4 1 name (replicate 4 0));
+      promise = MakeDirPromise s1 opens4 work5 1 name (replicate 4 0);
       seen = λ o.
           numberOf (o .given .answer)
           ∷ o .given .inode
@@ -98,18 +97,18 @@ makeDir =
       wanted = 0 ∷ 2 ∷ 2 ∷ 1 ∷ 2 ∷ [];
     }
 
--- lookup: the number, the inode, the number compared
-abbrev pub lookup : List ℕ → List ℕ → Check
-lookup k wanted =
+-- lookup of a parent and a name: the number, the inode, the number compared
+abbrev pub lookup : ℕ → List ℕ → List ℕ → Check
+lookup p n wanted =
     record {
       Given = Beside Lookup;
-      promise = TreePromise (λ a. lookupGives a 0 0) s2 work5 (lookupRows (dirs s2) k) (lookupDone (dirs s2) k);
+      promise = LookupPromise s2 (dirs s2) work5 p n;
       seen = λ o. numberOf (o .given .answer) ∷ o .given .inode ∷ o .given .compared ∷ [];
       wanted = wanted;
     }
 
 abbrev pub lookupDir : Check
-lookupDir = lookup key (0 ∷ 2 ∷ 1 ∷ [])
+lookupDir = lookup 1 name (0 ∷ 2 ∷ 1 ∷ [])
 
 abbrev pub lookupRoot : Check
-lookupRoot = lookup rootKey (0 ∷ 1 ∷ 2 ∷ [])
+lookupRoot = lookup 0 (replicate 16 0) (0 ∷ 1 ∷ 2 ∷ [])
