@@ -26,6 +26,19 @@ fn formats() {
     format(b"format of 16 bytes", &mut sixteen);
 }
 
+// Create after format, of as many blocks as there are and of one more.
+fn create(what: &[u8], count: usize) {
+    let mut table = [0u8; 40];
+    let data = [0u8; 8];
+    let mut work = [0u32; 4];
+    fat_node::format(&mut table);
+    let r = fat::create(&mut table, &data, 2, &mut work, count);
+    let answer = r.answer;
+    line(what, answer);
+}
+
 fn main() {
     formats();
+    create(b"create 4 of 4 blocks", 4);
+    create(b"create 5 of 4 blocks", 5);
 }
