@@ -6,13 +6,11 @@ ghost use mathlib.Core.Bool.{true, false};
 ghost use mathlib.Core.Logic.{_⊎_};
 ghost use Prim.Native.Nat.{_*_, _≤_, _<_};
 ghost use lib.ListN.{length};
-ghost use Rattle.order.specs.First.{First};
 ghost use Rattle.order.specs.Gate.{cleared};
 ghost use Rattle.order.specs.declared.Answer.the-variants.{Done};
 ghost use Rattle.fat_node.specs.Sizes.{blocks, Misfit, Outside};
 ghost use Rattle.fat_ends.specs.Promise.{Judged};
-ghost use Rattle.fat_test.specs.Gate.{testGate};
-ghost use Rattle.fat_test.specs.Promise.{tested, testRefused, testDone, GateOf};
+ghost use Rattle.fat_test.specs.Promise.{tested, TestPromise, GateOf};
 
 // The test's answer: of a sound table its free blocks and the number of its other chains, of any other table 0 and 0.
 pub struct Tested {
@@ -108,7 +106,7 @@ fn verdict(table: &[u8], work: &mut [u32]) -> Verdict
 
 // The test of the block table. Done: the table is sound, and these are its free blocks and the number of its other chains.
 pub fn test(table: &[u8], work: &mut [u32]) -> Tested
-    ensures { λ r. ⌜ First (testGate testRefused (now (table .entry)) (now (work .entry))) (testDone (now (table .entry)) (now (work .entry))) (r, now (work .exit)) ⌝ }
+    ensures { λ r. ⌜ TestPromise (now (table .entry)) (now (work .entry)) (r, now (work .exit)) ⌝ }
 {
     if misfit(table) {
         return refused(Answer::SizeMismatch);
