@@ -7,7 +7,7 @@ ghost use Rattle.order.specs.declared.Answer.{Answer};
 ghost use Rattle.fat_node.specs.Format.{FormatPromise};
 ghost use Rattle.fat_node.specs.declared.Formatted.{Formatted};
 ghost use Rattle.fat_test.specs.Promise.{TestPromise, tested};
-ghost use Rattle.fat.specs.Calls.{CreatePromise, createGives, DeletePromise, changeGives};
+ghost use Rattle.fat.specs.Calls.{CreatePromise, createGives, ResizePromise, DeletePromise, changeGives};
 use crate::Created;
 use crate::Plain;
 use crate::Tested;
@@ -51,6 +51,24 @@ pub extern "C" fn mukthiban_fat_create(
     Created {
         answer: order::number(answer),
         first_block: r.first,
+    }
+}
+
+#[no_mangle]
+pub extern "C" fn mukthiban_fat_resize(
+    table: &mut [u8],
+    data: &[u8],
+    block_len: usize,
+    work: &mut [u32],
+    first_block: usize,
+    block_count: usize,
+) -> Plain
+    ensures { λ p. ⌜ ((a : Answer) × (p .answer ≡ numberOf a) × ResizePromise (now (table .entry)) (length (now («data» .entry))) «block_len» (now (work .entry)) «first_block» «block_count» (beside (changeGives a (now (table .exit))) (now (work .exit)))) ⌝ }
+{
+    let r = fat::resize(table, data, block_len, work, first_block, block_count);
+    let answer = r.answer;
+    Plain {
+        answer: order::number(answer),
     }
 }
 

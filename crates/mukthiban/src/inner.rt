@@ -7,7 +7,7 @@ ghost use Rattle.fs_meta.specs.Tables.{tables};
 ghost use Rattle.fs_meta.specs.Calls.{ListDirs, ListFiles, listGives, statGives, statDone};
 ghost use Rattle.order.specs.First.{First};
 ghost use Rattle.fat.specs.Inner.{Volume};
-ghost use Rattle.fat.specs.Calls.{createRows, createDone, createGives, deleteRows, deleteDone, changeGives};
+ghost use Rattle.fat.specs.Calls.{createRows, createDone, createGives, resizeRows, resizeDone, deleteRows, deleteDone, changeGives};
 use crate::Created;
 use crate::Listed;
 use crate::Plain;
@@ -27,6 +27,23 @@ pub extern "C" fn mukthiban_tested_fat_create(
     Created {
         answer: order::number(answer),
         first_block: r.first,
+    }
+}
+
+#[no_mangle]
+pub extern "C" fn mukthiban_tested_fat_resize(
+    table: &mut [u8],
+    n: usize,
+    first_block: usize,
+    block_count: usize,
+) -> Plain
+    requires { ⌜ Volume n (now table) ⌝ }
+    ensures { λ p. ⌜ ((a : Answer) × (p .answer ≡ numberOf a) × First (resizeRows n (now (table .entry)) «first_block» «block_count») (resizeDone n (now (table .entry)) «first_block» «block_count») (changeGives a (now (table .exit)))) ⌝ }
+{
+    let r = fat::resize_sound(table, n, first_block, block_count);
+    let answer = r.answer;
+    Plain {
+        answer: order::number(answer),
     }
 }
 

@@ -1,8 +1,10 @@
 // The C interface: every call once, under the name that include/mukthiban.h declares. An export gives the call's own answer with its number in the
 // place of its name, and promises what the call promises: there is an answer with that number and those fields of which the call's promise holds.
 mod blocks;
+mod carried;
 mod inner;
 mod opens;
+mod tree;
 
 // The answer of a call that gives nothing else.
 #[repr(C)]
@@ -40,4 +42,12 @@ pub struct Stat {
     pub dir_free: usize,
     pub file_total: usize,
     pub file_free: usize,
+}
+
+// The inode of an entry, and how many entries of its bucket were compared.
+#[repr(C)]
+pub struct Found {
+    pub answer: u32,
+    pub inode: u32,
+    pub compared: u32,
 }
