@@ -67,6 +67,7 @@ fn names(bytes: &[u8]) -> HashSet<&[u8]> {
 fn main() {
     for call in CALLS {
         println!("cargo::rustc-check-cfg=cfg(has_{call})");
+        println!("cargo::rustc-check-cfg=cfg(has_tested_{call})");
     }
     let here = env::var("CARGO_MANIFEST_DIR").unwrap();
     let root = Path::new(&here).join("../..").canonicalize().unwrap();
@@ -83,6 +84,9 @@ fn main() {
     for call in CALLS {
         if names.contains(format!("mukthiban_{call}").as_bytes()) {
             println!("cargo::rustc-cfg=has_{call}");
+        }
+        if names.contains(format!("mukthiban_tested_{call}").as_bytes()) {
+            println!("cargo::rustc-cfg=has_tested_{call}");
         }
     }
     let folder = archive.parent().unwrap().display();

@@ -1,7 +1,7 @@
 //! One call on the statement of the rules and on the proved library, compared whole.
 
 use crate::stored;
-use port::{Answered, BlockCall, Blocks, Library, Port, Stated, Tree, TreeCall};
+use port::{Answered, BlockCall, Blocks, Inner, Library, Port, Stated, Tree, TreeCall};
 use std::sync::atomic::{AtomicU64, Ordering};
 use std::thread;
 use std::time::Duration;
@@ -44,6 +44,14 @@ pub fn block_call(call: &BlockCall, lent: &mut Blocks) -> Answered {
             "the library differs\ncall {call:?}\nlent {before:?}\nrules {stated:?} {lent:?}\nlibrary {answered:?} {copy:?}"
         );
     }
+    if !matches!(stated.number, 1 | 3 | 4) && sizes_fit(call, stated.number, &before) {
+        let mut copy = before.clone();
+        if let Some(answered) = Inner.block_call(call, &mut copy) {
+            copy.work.clone_from(&lent.work);
+            let same = answered == stated && copy == *lent;
+            assert!(same, "the inner call differs\ncall {call:?}\nlent {before:?}\nrules {stated:?} {lent:?}\ninner {answered:?} {copy:?}");
+        }
+    }
     unchanged_when_refused(stated.number, || before.table == lent.table && before.data == lent.data);
     stored::offer_block(call, &before, lent, &stated);
     stated
@@ -62,12 +70,27 @@ pub fn tree_call(call: &TreeCall, lent: &mut Tree) -> Answered {
             "the library differs\ncall {call:?}\nlent {before:?}\nrules {stated:?} {lent:?}\nlibrary {answered:?} {copy:?}"
         );
     }
+    if !matches!(stated.number, 1 | 2 | 3 | 9) {
+        let mut copy = before.clone();
+        if let Some(answered) = Inner.tree_call(call, &mut copy) {
+            copy.work.clone_from(&lent.work);
+            let same = answered == stated && copy == *lent;
+            assert!(same, "the inner call differs\ncall {call:?}\nlent {before:?}\nrules {stated:?} {lent:?}\ninner {answered:?} {copy:?}");
+        }
+    }
     unchanged_when_refused(stated.number, || {
         let opens = before.dir_opens == lent.dir_opens && before.file_opens == lent.file_opens;
         before.four() == lent.four() && before.list == lent.list && opens
     });
     stored::offer_tree(call, &before, lent, &stated);
     stated
+}
+
+/// Whether InvalidValue is about the count asked for and not about a size: then the work list was cleared.
+fn sizes_fit(call: &BlockCall, number: u32, before: &Blocks) -> bool {
+    let zero = matches!(call, BlockCall::Create { count: 0 } | BlockCall::Resize { count: 0, .. });
+    let block_len = (1..=65_536).contains(&before.block_len);
+    number != 2 || (zero && block_len && (16..=8_000_008).contains(&before.table.len()))
 }
 
 /// The statement's own slips would show here: a refusal changes nothing but the work list.

@@ -2,10 +2,12 @@
 
 mod calls;
 mod ffi;
+mod inner;
 mod library;
 mod stated;
 
 pub use calls::{Answered, BlockCall, Blocks, Kind, Tree, TreeCall};
+pub use inner::Inner;
 pub use library::Library;
 pub use stated::Stated;
 

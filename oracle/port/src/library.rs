@@ -14,29 +14,29 @@ impl Library {
     }
 }
 
-fn plain(p: Plain) -> Answered {
+pub(crate) fn plain(p: Plain) -> Answered {
     Answered::number(p.number)
 }
-fn tested(t: Tested) -> Answered {
+pub(crate) fn tested(t: Tested) -> Answered {
     Answered::with(t.number, &[t.free as u64, t.files as u64])
 }
-fn counted(c: Counted) -> Answered {
+pub(crate) fn counted(c: Counted) -> Answered {
     Answered::with(c.number, &[c.count as u64])
 }
-fn created(c: Created) -> Answered {
+pub(crate) fn created(c: Created) -> Answered {
     Answered::with(c.number, &[c.first_block as u64])
 }
-fn made(m: Made) -> Answered {
+pub(crate) fn made(m: Made) -> Answered {
     Answered::with(m.number, &[m.inode.into()])
 }
-fn found(f: Found) -> Answered {
+pub(crate) fn found(f: Found) -> Answered {
     Answered::with(f.number, &[f.inode.into(), f.compared.into()])
 }
-fn stat(s: Stat) -> Answered {
+pub(crate) fn stat(s: Stat) -> Answered {
     let fields = [s.dir_total, s.dir_free, s.file_total, s.file_free];
     Answered::with(s.number, &fields.map(|f| f as u64))
 }
-fn named(n: Named) -> Answered {
+pub(crate) fn named(n: Named) -> Answered {
     Answered::with(n.number, &[n.offset as u64])
 }
 /// A call over table, data, block length and work list, if it is there.

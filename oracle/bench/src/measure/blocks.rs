@@ -4,17 +4,17 @@ use super::{median, ratio, shown};
 use crate::careful;
 use crate::shapes::{self, Shape, SHAPES};
 use original::Volume;
-use port::{BlockCall, Blocks, Library, Port};
+use port::{BlockCall, Blocks, Inner, Library, Port};
 use std::hint::black_box;
 
-/// The library's call on the volume, put back before each run; none where the call is not there.
-fn port_time(lent: &Blocks, call: &BlockCall) -> Option<f64> {
-    Library.block_call(call, &mut lent.clone())?;
+/// A port's call on the volume, put back before each run; none where the call is not there.
+fn port_time(port: &dyn Port, lent: &Blocks, call: &BlockCall) -> Option<f64> {
+    port.block_call(call, &mut lent.clone())?;
     let mut state = lent.clone();
     // Only write changes the data, and always to the same bytes.
     let ready = |s: &mut Blocks| s.table.copy_from_slice(&lent.table);
     Some(median(&mut state, ready, |s| {
-        black_box(Library.block_call(call, s));
+        black_box(port.block_call(call, s));
     }))
 }
 
@@ -62,8 +62,9 @@ fn careful_time(lent: &Blocks) -> f64 {
 /// One line: the call, and the ratios that the aims are about.
 fn line(name: &str, lent: &Blocks, call: &BlockCall, test: Option<f64>) {
     let original = original_time(lent, call);
-    let port = port_time(lent, call);
-    let own = port.zip(test).map(|(port, test)| (port - test).max(0.0));
+    let port = port_time(&Library, lent, call);
+    let less = port.zip(test).map(|(port, test)| (port - test).max(0.0));
+    let own = port_time(&Inner, lent, call).or(less);
     println!(
         "| {name} | {} | {} | {} | {} | {} |",
         shown(original),
@@ -81,7 +82,7 @@ fn tests(sizes: &[usize]) {
         for shape in SHAPES {
             let volume = shapes::volume(shape, *n, 1);
             let careful = Some(careful_time(&volume.lent));
-            let port = port_time(&volume.lent, &BlockCall::Test);
+            let port = port_time(&Library, &volume.lent, &BlockCall::Test);
             let original = original_time(&volume.lent, &BlockCall::Test);
             println!(
                 "| {n} | {shape:?} | {} | {} | {} | {} |",
@@ -96,7 +97,7 @@ fn tests(sizes: &[usize]) {
 
 fn calls(n: usize, shape: Shape) {
     let volume = shapes::volume(shape, n, 1);
-    let test = port_time(&volume.lent, &BlockCall::Test);
+    let test = port_time(&Library, &volume.lent, &BlockCall::Test);
     let at = |call: &str| format!("{n} {shape:?} {call}");
     let (large, small) = (volume.large, volume.small);
     let each = [
@@ -114,7 +115,7 @@ fn calls(n: usize, shape: Shape) {
 
 fn copies(n: usize, shape: Shape, block_len: usize) {
     let mut volume = shapes::volume(shape, n, block_len);
-    let test = port_time(&volume.lent, &BlockCall::Test);
+    let test = port_time(&Library, &volume.lent, &BlockCall::Test);
     volume.lent.buf = vec![0x5A; volume.large_blocks * block_len];
     let first = volume.large;
     for (name, call) in [("read", BlockCall::Read { first, pos: 0 }), ("write", BlockCall::Write { first, pos: 0 })] {

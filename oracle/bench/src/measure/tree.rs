@@ -4,15 +4,15 @@ use super::{median, ratio, shown};
 use crate::careful;
 use crate::shapes::{self, Full};
 use original::Tables;
-use port::{Kind, Library, Port, Tree, TreeCall};
+use port::{Inner, Kind, Library, Port, Tree, TreeCall};
 use std::hint::black_box;
 
-fn port_time(lent: &Tree, call: &TreeCall) -> Option<f64> {
-    Library.tree_call(call, &mut lent.clone())?;
+fn port_time(port: &dyn Port, lent: &Tree, call: &TreeCall) -> Option<f64> {
+    port.tree_call(call, &mut lent.clone())?;
     let mut state = lent.clone();
     let ready = |s: &mut Tree| s.clone_from(lent);
     Some(median(&mut state, ready, |s| {
-        black_box(Library.tree_call(call, s));
+        black_box(port.tree_call(call, s));
     }))
 }
 
@@ -65,14 +65,26 @@ fn original_lookups(full: &Full, keys: &[(u32, [u8; 16])]) -> Option<f64> {
     Some(all / keys.len() as f64)
 }
 
+/// The port's own walks for the same keys, where the inner call is there.
+fn own_lookups(full: &mut Full, keys: &[(u32, [u8; 16])]) -> Option<f64> {
+    let calls: Vec<TreeCall> = (0..keys.len()).map(|at| lookup(keys, at)).collect();
+    Inner.tree_call(&calls[0], &mut full.lent)?;
+    let all = median(&mut full.lent, |_| {}, |lent| {
+        for call in &calls {
+            black_box(Inner.tree_call(call, lent));
+        }
+    });
+    Some(all / keys.len() as f64)
+}
+
 fn lookup(keys: &[(u32, [u8; 16])], at: usize) -> TreeCall {
     let (parent, name) = keys[at];
     TreeCall::Lookup { kind: Kind::File, parent, name }
 }
 
 fn shape(dirs: usize, files: usize, buckets: usize) {
-    let full = shapes::tree(dirs, files, buckets);
-    let test = port_time(&full.lent, &TreeCall::Test);
+    let mut full = shapes::tree(dirs, files, buckets);
+    let test = port_time(&Library, &full.lent, &TreeCall::Test);
     let at = format!("{dirs} + {files} entries, {buckets} buckets");
     let careful = Some(careful_time(&full.lent));
     println!("| {at}: test | - | {} | {} | - | {} |", shown(careful), shown(test), ratio(test, careful));
@@ -88,8 +100,9 @@ fn shape(dirs: usize, files: usize, buckets: usize) {
     ];
     for (call_name, call) in each {
         let original = original_time(&full.lent, &call);
-        let port = port_time(&full.lent, &call);
-        let own = port.zip(test).map(|(port, test)| (port - test).max(0.0));
+        let port = port_time(&Library, &full.lent, &call);
+        let less = port.zip(test).map(|(port, test)| (port - test).max(0.0));
+        let own = port_time(&Inner, &full.lent, &call).or(less);
         println!(
             "| {at}: {call_name} | {} | - | {} | {} | {} |",
             shown(original),
@@ -100,7 +113,9 @@ fn shape(dirs: usize, files: usize, buckets: usize) {
     }
     let step = (full.keys.len() / 1_000).max(1);
     let keys: Vec<_> = full.keys.iter().step_by(step).cloned().collect();
-    println!("| {at}: each of {} lookups | {} | - | - | - | - |", keys.len(), shown(original_lookups(&full, &keys)));
+    let original = original_lookups(&full, &keys);
+    let own = own_lookups(&mut full, &keys);
+    println!("| {at}: each of {} lookups | {} | - | - | {} | {} |", keys.len(), shown(original), shown(own), ratio(own, original));
 }
 
 pub fn run(quick: bool) {
