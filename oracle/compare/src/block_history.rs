@@ -32,7 +32,7 @@ impl Session {
                 follow(original, call, &answered, &self.lent, &mut read);
             }
             let same = original.holds(&self.lent.table, &self.lent.data);
-            assert!(same, "the original's bytes differ after {call:?}\nrules {:?}", self.lent);
+            assert!(same, "the original's bytes differ after {call:?}\nrules {}", check::short(&self.lent));
             if followed {
                 stored::confirm_block();
             }
@@ -51,7 +51,7 @@ impl Session {
     pub fn compare_lists(&mut self) {
         let held = layout(&self.lent.table).expect("every step keeps the table sound");
         let Some(original) = &mut self.original else { return };
-        assert_eq!(original.free(), blocks(&held.free), "free blocks of {:?}", self.lent);
+        assert_eq!(original.free(), blocks(&held.free), "free blocks of {}", check::short(&self.lent));
         for chain in &held.files {
             let first = chain[0].start;
             let listed: Vec<u32> =

@@ -41,7 +41,8 @@ pub fn block_call(call: &BlockCall, lent: &mut Blocks) -> Answered {
         let same = answered == stated && copy == *lent;
         assert!(
             same,
-            "the library differs\ncall {call:?}\nlent {before:?}\nrules {stated:?} {lent:?}\nlibrary {answered:?} {copy:?}"
+            "the library differs\ncall {call:?}\nlent {}\nrules {stated:?} {}\nlibrary {answered:?} {}",
+            short(&before), short(lent), short(&copy)
         );
     }
     if !matches!(stated.number, 1 | 3 | 4) && sizes_fit(call, stated.number, &before) {
@@ -49,7 +50,11 @@ pub fn block_call(call: &BlockCall, lent: &mut Blocks) -> Answered {
         if let Some(answered) = Inner.block_call(call, &mut copy) {
             copy.work.clone_from(&lent.work);
             let same = answered == stated && copy == *lent;
-            assert!(same, "the inner call differs\ncall {call:?}\nlent {before:?}\nrules {stated:?} {lent:?}\ninner {answered:?} {copy:?}");
+            assert!(
+                same,
+                "the inner call differs\ncall {call:?}\nlent {}\nrules {stated:?} {}\ninner {answered:?} {}",
+                short(&before), short(lent), short(&copy)
+            );
         }
     }
     unchanged_when_refused(stated.number, || before.table == lent.table && before.data == lent.data);
@@ -67,7 +72,8 @@ pub fn tree_call(call: &TreeCall, lent: &mut Tree) -> Answered {
         let same = answered == stated && copy == *lent;
         assert!(
             same,
-            "the library differs\ncall {call:?}\nlent {before:?}\nrules {stated:?} {lent:?}\nlibrary {answered:?} {copy:?}"
+            "the library differs\ncall {call:?}\nlent {}\nrules {stated:?} {}\nlibrary {answered:?} {}",
+            short(&before), short(lent), short(&copy)
         );
     }
     if !matches!(stated.number, 1 | 2 | 3 | 9) {
@@ -75,7 +81,11 @@ pub fn tree_call(call: &TreeCall, lent: &mut Tree) -> Answered {
         if let Some(answered) = Inner.tree_call(call, &mut copy) {
             copy.work.clone_from(&lent.work);
             let same = answered == stated && copy == *lent;
-            assert!(same, "the inner call differs\ncall {call:?}\nlent {before:?}\nrules {stated:?} {lent:?}\ninner {answered:?} {copy:?}");
+            assert!(
+                same,
+                "the inner call differs\ncall {call:?}\nlent {}\nrules {stated:?} {}\ninner {answered:?} {}",
+                short(&before), short(lent), short(&copy)
+            );
         }
     }
     unchanged_when_refused(stated.number, || {
@@ -91,6 +101,13 @@ fn sizes_fit(call: &BlockCall, number: u32, before: &Blocks) -> bool {
     let zero = matches!(call, BlockCall::Create { count: 0 } | BlockCall::Resize { count: 0, .. });
     let block_len = (1..=65_536).contains(&before.block_len);
     number != 2 || (zero && block_len && (16..=8_000_008).contains(&before.table.len()))
+}
+
+/// What was lent, cut where it is long: a case can be run again by its seed.
+pub fn short(lent: &dyn std::fmt::Debug) -> String {
+    let mut text = format!("{lent:?}");
+    text.truncate(1_500);
+    text
 }
 
 /// The statement's own slips would show here: a refusal changes nothing but the work list.

@@ -43,7 +43,7 @@ impl Session {
                 follow(original, call, &answered, &self.lent);
             }
             let same = original.holds(self.lent.four());
-            assert!(same, "the original's bytes differ after {call:?}\nrules {:?}\noriginal {:?}", self.lent, original.four());
+            assert!(same, "the original's bytes differ after {call:?}\nrules {}\noriginal {}", check::short(&self.lent), check::short(&original.four()));
             for (x, count) in self.lent.dir_opens.iter().enumerate() {
                 assert_eq!(original.dir_opens(x as u32), *count, "opens of directory {x} after {call:?}");
             }

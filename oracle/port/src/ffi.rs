@@ -64,12 +64,12 @@ declared! {
 // The inner calls, which require that sizes fit and tables are sound, and take no work list.
 declared! {
     present_tested;
-    has_tested_fat_open_list mukthiban_tested_fat_open_list(table: *const u8, table_len: usize, first_block: usize, list: *mut u32, list_len: usize) -> Counted;
-    has_tested_fat_create mukthiban_tested_fat_create(table: *mut u8, table_len: usize, block_count: usize) -> Created;
-    has_tested_fat_resize mukthiban_tested_fat_resize(table: *mut u8, table_len: usize, first_block: usize, block_count: usize) -> Plain;
-    has_tested_fat_delete mukthiban_tested_fat_delete(table: *mut u8, table_len: usize, first_block: usize) -> Plain;
-    has_tested_fat_read mukthiban_tested_fat_read(table: *const u8, table_len: usize, data: *const u8, data_len: usize, block_len: usize, first_block: usize, pos: usize, buf: *mut u8, buf_len: usize) -> Plain;
-    has_tested_fat_write mukthiban_tested_fat_write(table: *const u8, table_len: usize, data: *mut u8, data_len: usize, block_len: usize, first_block: usize, pos: usize, buf: *const u8, buf_len: usize) -> Plain;
+    has_tested_fat_open_list mukthiban_tested_fat_open_list(table: *const u8, table_len: usize, n: usize, first_block: usize, list: *mut u32, list_len: usize) -> Counted;
+    has_tested_fat_create mukthiban_tested_fat_create(table: *mut u8, table_len: usize, n: usize, block_count: usize) -> Created;
+    has_tested_fat_resize mukthiban_tested_fat_resize(table: *mut u8, table_len: usize, n: usize, first_block: usize, block_count: usize) -> Plain;
+    has_tested_fat_delete mukthiban_tested_fat_delete(table: *mut u8, table_len: usize, n: usize, first_block: usize) -> Plain;
+    has_tested_fat_read mukthiban_tested_fat_read(table: *const u8, table_len: usize, n: usize, data: *const u8, data_len: usize, block_len: usize, first_block: usize, pos: usize, buf: *mut u8, buf_len: usize) -> Plain;
+    has_tested_fat_write mukthiban_tested_fat_write(table: *const u8, table_len: usize, n: usize, data: *mut u8, data_len: usize, block_len: usize, first_block: usize, pos: usize, buf: *const u8, buf_len: usize) -> Plain;
     has_tested_tree_lookup_dir mukthiban_tested_tree_lookup_dir(dir_hash: *const u8, dir_hash_len: usize, dir_table: *const u8, dir_table_len: usize, file_hash: *const u8, file_hash_len: usize, file_table: *const u8, file_table_len: usize, parent: u32, name: *const [u8; 16]) -> Found;
     has_tested_tree_lookup_file mukthiban_tested_tree_lookup_file(dir_hash: *const u8, dir_hash_len: usize, dir_table: *const u8, dir_table_len: usize, file_hash: *const u8, file_hash_len: usize, file_table: *const u8, file_table_len: usize, parent: u32, name: *const [u8; 16]) -> Found;
     has_tested_tree_make_dir mukthiban_tested_tree_make_dir(dir_hash: *mut u8, dir_hash_len: usize, dir_table: *mut u8, dir_table_len: usize, file_hash: *mut u8, file_hash_len: usize, file_table: *mut u8, file_table_len: usize, opens: *mut u32, opens_len: usize, parent: u32, name: *const [u8; 16], padding: *const [u8; 4]) -> Made;

@@ -14,10 +14,15 @@ impl Inner {
     }
 }
 
+/// The number of blocks, which these calls are passed.
+fn block_count(lent: &Blocks) -> usize {
+    lent.table.len() / 8 - 1
+}
+
 /// A call over the table alone, if it is there.
 macro_rules! on_table {
     ($to:ident, $call:ident, $lent:ident $(, $more:expr)*) => {
-        present_tested::$call.then(|| $to($call($lent.table.as_mut_ptr(), $lent.table.len(), $($more),*)))
+        present_tested::$call.then(|| $to($call($lent.table.as_mut_ptr(), $lent.table.len(), block_count($lent), $($more),*)))
     };
 }
 
@@ -25,7 +30,7 @@ macro_rules! on_table {
 macro_rules! on_data {
     ($to:ident, $call:ident, $lent:ident $(, $more:expr)*) => {
         present_tested::$call.then(|| $to($call(
-            $lent.table.as_mut_ptr(), $lent.table.len(),
+            $lent.table.as_mut_ptr(), $lent.table.len(), block_count($lent),
             $lent.data.as_mut_ptr(), $lent.data.len(),
             $lent.block_len,
             $($more),*
