@@ -7,3 +7,4 @@ pub mod Seats
 pub mod Links
 pub mod Public
 pub mod Judges
+pub mod Changes

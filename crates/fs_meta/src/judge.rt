@@ -110,3 +110,118 @@ pub fn full(table: &[u8], w: usize) -> bool
     }
     meta_table::link_of(table, w, 4, 0) <= meta_table::link_of(table, w, 0, 0)
 }
+
+// Whether file x can be renamed: as judge_held, then NotFound of the new parent, AlreadyExist. There is always space, since the file's own entry is given up.
+pub fn judge_rename_file(
+    dir_hash: &[u8],
+    dirs: &[u8],
+    hash: &[u8],
+    files: &[u8],
+    opens: &[u32],
+    x: u32,
+    parent: u32,
+    name: &[u8; 16],
+) -> Judged
+    requires { ⌜ Ready (tables (now «dir_hash») (now dirs) (now hash) (now files)) × (length (now files) / 48 ≤ length (now opens)) ⌝ }
+    ensures { λ r. ⌜ JudgedBy (renameFileTests (tables (now («dir_hash» .entry)) (now (dirs .entry)) (now (hash .entry)) (now (files .entry))) (now (opens .entry)) x parent (now (name .entry))) r ⌝ }
+{
+    let held = judge_held(hash, files, SaveExtFileEntry::WIDTH, opens, x);
+    let Judged::Go = held else {
+        return held;
+    };
+    if !live(dir_hash, dirs, SaveExtDirEntry::WIDTH, parent) {
+        return Judged::Refused {
+            answer: Answer::NotFound,
+        };
+    }
+    if has_other(
+        hash,
+        files,
+        SaveExtFileEntry::WIDTH,
+        x,
+        SaveExtKey::new(parent, name),
+    ) {
+        return Judged::Refused {
+            answer: Answer::AlreadyExist,
+        };
+    }
+    Judged::Go
+}
+
+// Whether directory x can be renamed: as judge_held, then DeletingRoot, NotFound of the new parent, IntoItself, AlreadyExist.
+pub fn judge_rename_dir(
+    hash: &[u8],
+    dirs: &[u8],
+    file_hash: &[u8],
+    files: &[u8],
+    opens: &[u32],
+    x: u32,
+    parent: u32,
+    name: &[u8; 16],
+) -> Judged
+    requires { ⌜ Ready (tables (now hash) (now dirs) (now «file_hash») (now files)) × (length (now dirs) / 40 ≤ length (now opens)) ⌝ }
+    ensures { λ r. ⌜ JudgedBy (renameDirTests (tables (now (hash .entry)) (now (dirs .entry)) (now («file_hash» .entry)) (now (files .entry))) (now (opens .entry)) x parent (now (name .entry))) r ⌝ }
+{
+    let held = judge_held(hash, dirs, SaveExtDirEntry::WIDTH, opens, x);
+    let Judged::Go = held else {
+        return held;
+    };
+    if x == 1 {
+        return Judged::Refused {
+            answer: Answer::DeletingRoot,
+        };
+    }
+    if !live(hash, dirs, SaveExtDirEntry::WIDTH, parent) {
+        return Judged::Refused {
+            answer: Answer::NotFound,
+        };
+    }
+    if meta_table::in_list(dirs, SaveExtDirEntry::WIDTH, 0, parent, x) {
+        return Judged::Refused {
+            answer: Answer::IntoItself,
+        };
+    }
+    if has_other(
+        hash,
+        dirs,
+        SaveExtDirEntry::WIDTH,
+        x,
+        SaveExtKey::new(parent, name),
+    ) {
+        return Judged::Refused {
+            answer: Answer::AlreadyExist,
+        };
+    }
+    Judged::Go
+}
+
+// Whether an entry with a key can be made in a table: NotFound of the parent, AlreadyExist, NoSpace.
+pub fn judge_make(
+    dir_hash: &[u8],
+    dirs: &[u8],
+    hash: &[u8],
+    table: &[u8],
+    w: usize,
+    parent: u32,
+    name: &[u8; 16],
+) -> Judged
+    requires { ⌜ Single (now «dir_hash») (now dirs) 40 × Single (now hash) (now table) w ⌝ }
+    ensures { λ r. ⌜ JudgedBy (makeTests (tables (now («dir_hash» .entry)) (now (dirs .entry)) [] []) (hashed w (now (hash .entry)) (now (table .entry))) parent (nameKey parent (now (name .entry)))) r ⌝ }
+{
+    if !live(dir_hash, dirs, SaveExtDirEntry::WIDTH, parent) {
+        return Judged::Refused {
+            answer: Answer::NotFound,
+        };
+    }
+    if has_other(hash, table, w, 0, SaveExtKey::new(parent, name)) {
+        return Judged::Refused {
+            answer: Answer::AlreadyExist,
+        };
+    }
+    if full(table, w) {
+        return Judged::Refused {
+            answer: Answer::NoSpace,
+        };
+    }
+    Judged::Go
+}

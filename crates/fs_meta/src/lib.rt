@@ -1,5 +1,6 @@
 // The calls on the entry tables.
 pub mod carry;
+pub mod change;
 pub mod judge;
 pub mod look;
 pub mod step;

@@ -142,7 +142,7 @@ pub fn put_hash(hash: &mut [u8], b: usize, x: u32)
 
 // Takes the entry that a make uses: the first removed one, else the count, which grows by 1.
 pub fn take(table: &mut [u8], w: usize) -> u32
-    requires { ⌜ (24 ≤ w) × (w ≤ length (now table)) × (field w (now table) 0 0 * w + w ≤ length (now table)) × (field w (now table) 0 1 < 65536) ⌝ }
+    requires { ⌜ (24 ≤ w) × (w ≤ length (now table)) × (field w (now table) 0 0 * w + w ≤ length (now table)) × ((field w (now table) 0 0 ≡ 0) → field w (now table) 0 1 < 65536) ⌝ }
     ensures { λ r. ⌜ (r ≡ pick (eqb (field w (now (table .entry)) 0 0) 0) (field w (now (table .entry)) 0 1) (field w (now (table .entry)) 0 0))
         × (now (table .exit) ≡ wrote w (now (table .entry)) (takeWrites (eqb (field w (now (table .entry)) 0 0) 0) (field w (now (table .entry))))) ⌝ }
 {

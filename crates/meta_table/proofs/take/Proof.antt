@@ -28,7 +28,7 @@ link-of-requires-2 c κs = search needs
 
 -- src/lib.rt:152:34
 add-put-link : tie.Need-add-put-link
-add-put-link c = omega (arith, c .before .before .before .before .before .before .before .pre .3, c .before .link-of2 .ensures, field-0 (c .before .before .before .before .before .before .before .args .w) (c .before .before .before .before .before .before .before .args .table .now) 0 1)
+add-put-link c = omega (arith, c .before .before .before .before .before .before .before .pre .3 (field-0 (c .before .before .before .before .before .before .before .args .w) (c .before .before .before .before .before .before .before .args .table .now) 0 0 ∙ sym (c .before .before .before .before .link-of .ensures) ∙ c .before .before .before .if1 .taken), c .before .link-of2 .ensures, field-0 (c .before .before .before .before .before .before .before .args .w) (c .before .before .before .before .before .before .before .args .table .now) 0 1)
 
 -- src/lib.rt:152:9
 put-link-requires : tie.Need-put-link-requires
