@@ -1,8 +1,8 @@
 -- What the readers of a node and of the head answer. Assumes nothing.
-use Prim.Native.Nat.{ℕ, _+_, _-_, _<_, _≤_}
+use Prim.Native.Nat.{ℕ}
 use mathlib.Core.Path.{_≡_}
 use Rattle.fat_node.specs.Entry.{Bytes, vAt}
-use Rattle.fat_node.specs.Node.{NodeAt, HeldBy, prevAt, nextAt, HeadForm}
+use Rattle.fat_node.specs.Node.{NodeAt, prevAt, nextAt, HeadForm}
 use Rattle.fat_node.specs.declared.Node.{Node}
 use Rattle.fat_node.specs.declared.NodeRead.{NodeRead}
 use Rattle.fat_node.specs.declared.NodeRead.the-variants.{Found, Broken}
@@ -18,8 +18,3 @@ Reads t n b Broken = (s : ℕ) → NodeAt t n b s → ⊥
 abbrev pub HeadReads : Bytes → HeadRead → Type 0
 HeadReads t (First i) = HeadForm t × (i ≡ vAt t 0)
 HeadReads t BrokenHead = HeadForm t → ⊥
-
--- what stands from the second entry on, of a node of several blocks at b: its end e, or 0 where they don't hold one
-pub record Ends (t : Bytes) (n b e : ℕ) : Type 0 where
-  pub held : 0 < e → (b + 2 ≤ e) × (e ≤ n) × HeldBy t (b + 2) b (e - b) × HeldBy t e b (e - b)
-  pub none : e ≡ 0 → (s : ℕ) → 1 < s → b + s ≤ n → HeldBy t (b + 2) b s → HeldBy t (b + s) b s → ⊥

@@ -1,7 +1,7 @@
 // Entries, nodes and the head of the block table, and its format.
 //
-// Every word of the table is read by words::get_u32 and written by words::put_u32, which compile to one 32-bit load and one 32-bit store: after `rt staticlib fat_node`
-// look at `objdump -d` of the archive's fat_node functions.
+// Every word of the table is read by words::get_u32 and written by words::put_u32, which compile to 32-bit loads and stores: after `rt staticlib mukthiban`
+// look at mukthiban_fat_format in `objdump -d target/staticlib/libmukthiban.a`.
 ghost use mathlib.Core.Path.{_≡_};
 ghost use mathlib.Core.Bool.{true};
 ghost use Prim.Native.Nat.{ℕ, _+_, _*_, _≤_, _<_};
@@ -10,7 +10,8 @@ ghost use Rattle.fat_node.specs.Entry.{entry, put, top, uAt, vAt};
 ghost use Rattle.fat_node.specs.Node.{run, prevAt, nextAt, NodeAt, prevHalf, setNode, setHead};
 ghost use Rattle.fat_node.specs.Sizes.{blocks, Misfit, Outside};
 ghost use Rattle.fat_node.specs.Format.{FormatPromise};
-ghost use Rattle.fat_node.specs.Reads.{Reads, HeadReads, Ends};
+ghost use Rattle.fat_node.specs.Reads.{Reads, HeadReads};
+ghost use Rattle.fat_node.specs.Ends.{Ends};
 
 // A run of size blocks, with the indexes of the previous node and of the next: block numbers plus 1, or 0 for none.
 pub struct Node {
