@@ -1,11 +1,11 @@
 -- A part copied over another, byte by byte. Assumes nothing.
 use mathlib.Core.Path.{_≡_, refl, sym, ap, _∙_}
 use mathlib.Core.List.{List, [], _∷_, _++_, append-nil}
-use Prim.Native.Nat.{ℕ, zero, suc, _+_, _<_, _≤_}
+use Prim.Native.Nat.{ℕ, zero, suc, _+_, _-_, _<_, _≤_}
 use native.Mathlib.Omega.{arith}
 use native.Mathlib.Numerals.{add-one}
 use lib.ListN.{length, getD, set, take, drop}
-use lib.Seq.{drop-cons, take-suc, set-at, length-take-le, append-snoc, take-length, drop-length}
+use lib.Seq.{drop-cons, take-suc, set-at, length-take-le, append-snoc, take-length, drop-length, drop-drop}
 
 -- i bytes are copied
 pub record Copied (d₀ s d : List ℕ) (i : ℕ) : Type 0 where
@@ -34,3 +34,13 @@ copied-end d₀ s d i c h =
     ∙ ap (λ (j : ℕ). s ++ drop j d₀) (c .even)
     ∙ ap (λ (l : List ℕ). s ++ l) (drop-length d₀)
     ∙ append-nil s
+
+-- a part of one list copied into a part of another
+pub paste-is : (d s y : List ℕ) (to from m : ℕ) → y ≡ take (from + m - from) (drop from s)
+    → take to d ++ (y ++ drop (to + m - to) (drop to d)) ≡ take to d ++ (take m (drop from s) ++ drop (to + m) d)
+paste-is d s y to from m e =
+    let a : from + m - from ≡ m = omega arith in
+    let b : to + m - to ≡ m = omega arith in
+    ap (λ (z : List ℕ). take to d ++ (z ++ drop (to + m - to) (drop to d))) (e ∙ ap (λ (j : ℕ). take j (drop from s)) a)
+    ∙ ap (λ (j : ℕ). take to d ++ (take m (drop from s) ++ drop j (drop to d))) b
+    ∙ ap (λ (z : List ℕ). take to d ++ (take m (drop from s) ++ z)) (drop-drop m to d)

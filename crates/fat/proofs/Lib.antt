@@ -8,3 +8,4 @@ pub mod Hops
 pub mod Done
 pub mod Public
 pub mod Resizes
+pub mod Lists

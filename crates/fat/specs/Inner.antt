@@ -119,3 +119,9 @@ abbrev pub PlanSays : ℕ → Bytes → ℕ → ℕ → Planned → Type 0
 PlanSays n t b c (Cut last x m) = CutAt n t b c last x m
 PlanSays n t b c Same = c ≡ total (fileAt n t b)
 PlanSays n t b c Full = total (fileAt n t b) + total (freeAt n t) < c
+
+-- r is the smaller of two numbers
+pub record Least (a b r : ℕ) : Type 0 where
+  pub left : r ≤ a
+  pub right : r ≤ b
+  pub one : r < a → r ≡ b

@@ -1,15 +1,18 @@
 // The calls of the block table.
 ghost use mathlib.Core.Path.{_≡_};
 ghost use Prim.Native.Nat.{_+_, _*_, _≤_, _<_};
-ghost use lib.ListN.{length};
+ghost use mathlib.Core.List.{_++_};
+ghost use lib.ListN.{length, take, drop};
+ghost use lib.Seq.{sets};
 ghost use Rattle.fat_node.specs.Node.{prevAt, nextAt};
 ghost use mathlib.Core.Bool.{true};
 ghost use Rattle.fat_table.specs.Sound.{IsNode, File};
-ghost use Rattle.fat_table.specs.Chain.{sizeAt, headAt, chainAt};
-ghost use Rattle.fat.specs.Inner.{Volume, Standing, StandingAt, ChainFrom, withPrev, joinAt, endAt, splitAt, cutAt, SeekSays, LastAt, PlanSays};
+ghost use Rattle.fat_table.specs.Chain.{total, sizeAt, headAt, chainAt};
+ghost use Rattle.fat.specs.Inner.{Volume, Standing, StandingAt, ChainFrom, withPrev, joinAt, endAt, splitAt, cutAt, SeekSays, LastAt, PlanSays, Inside, Least};
 ghost use Rattle.order.specs.First.{First};
 ghost use Rattle.fat.specs.Promise.{beside};
-ghost use Rattle.fat.specs.Calls.{CreatePromise, DeletePromise, createGives, createRows, createDone, changeGives, deleteRows, deleteDone, resizeRows, resizeDone, ResizePromise};
+ghost use Rattle.fat.specs.Calls.{CreatePromise, DeletePromise, createGives, createRows, createDone, changeGives, deleteRows, deleteDone, resizeRows, resizeDone, ResizePromise, listGives, listRows, listDone, ListPromise};
+ghost use Rattle.fat.specs.Blocks.{blocksFrom, blocksOf};
 use fat_node::Node;
 use fat_test::Gated;
 use order::Answer;
@@ -387,6 +390,113 @@ pub fn resize_sound(table: &mut [u8], n: usize, first_block: usize, block_count:
     }
 }
 
+// Writes the numbers of size blocks from block b on into a list, from place at on.
+fn number_run(list: &mut [u32], at: usize, b: usize, size: usize)
+    requires { ⌜ at + size ≤ length (now list) ⌝ }
+    requires { ⌜ b + size ≤ 1000000 ⌝ }
+    ensures { λ _. ⌜ now (list .exit) ≡ sets (now (list .entry)) at (blocksFrom size b) ⌝ }
+{
+    let mut k: usize = 0;
+    while k < size {
+        list[at + k] = (b + k) as u32;
+        k += 1;
+    }
+}
+
+// Writes the blocks of the chain that index first starts into a list that has room for them, hopping by node.
+fn number_chain(table: &[u8], n: usize, first: usize, list: &mut [u32])
+    requires { ⌜ ChainFrom n (now table) first ⌝ }
+    requires { ⌜ total (chainAt (now table) n first) ≤ length (now list) ⌝ }
+    ensures { λ _. ⌜ now (list .exit) ≡ sets (now (list .entry)) 0 (blocksOf (chainAt (now (table .entry)) n first)) ⌝ }
+{
+    let mut i = first;
+    let mut at: usize = 0;
+    while i != 0 {
+        let b = i - 1;
+        let size = size_at(table, n, b);
+        number_run(list, at, b, size);
+        at += size;
+        i = fat_node::next_of(table, b);
+    }
+}
+
+// The answer of open_list: the number of the file's blocks.
+pub struct Listed {
+    pub answer: Answer,
+    pub count: usize,
+}
+
+// The smaller of two numbers.
+fn least(a: usize, b: usize) -> usize
+    ensures { λ r. ⌜ Least a b r ⌝ }
+{
+    if a < b { a } else { b }
+}
+
+// Lists the blocks of the file at a block, on a sound table, in chain order.
+pub fn open_list_sound(table: &[u8], n: usize, first_block: usize, list: &mut [u32]) -> Listed
+    requires { ⌜ Volume n (now table) ⌝ }
+    ensures { λ r. ⌜ First (listRows n (now (table .entry)) «first_block» (now (list .entry))) (listDone n (now (table .entry)) «first_block» (now (list .entry))) (listGives (r .answer) (r .count) (now (list .exit))) ⌝ }
+{
+    if !is_file(table, n, first_block) {
+        return Listed {
+            answer: Answer::NotAFile,
+            count: 0,
+        };
+    }
+    let room = least(list.len(), n);
+    let sought = seek(table, n, first_block + 1, room + 1);
+    let Sought::Past { last: _, part } = sought else {
+        return Listed {
+            answer: Answer::ListTooShort,
+            count: 0,
+        };
+    };
+    number_chain(table, n, first_block + 1, list);
+    Listed {
+        answer: Answer::Done,
+        count: room + 1 - part,
+    }
+}
+
+// A block of a chain: the part-th of the node at block `node`.
+pub struct Spot {
+    pub node: usize,
+    pub part: usize,
+}
+
+// From the k-th block of a chain to the one after it.
+fn step(table: &[u8], n: usize, first: usize, k: usize, node: usize, part: usize) -> Spot
+    requires { ⌜ ChainFrom n (now table) first ⌝ }
+    requires { ⌜ Inside (chainAt (now table) n first) k node part ⌝ }
+    ensures { λ r. ⌜ (k < total (chainAt (now (table .entry)) n first) → Inside (chainAt (now (table .entry)) n first) (k + 1) (r .node) (r .part)) ⌝ }
+{
+    let size = size_at(table, n, node);
+    if part < size {
+        return Spot {
+            node,
+            part: part + 1,
+        };
+    }
+    let next = fat_node::next_of(table, node);
+    if next == 0 {
+        return Spot { node, part };
+    }
+    Spot {
+        node: next - 1,
+        part: 1,
+    }
+}
+
+// Copies m bytes of one part, from its byte `from` on, into another, from its byte `to` on.
+fn paste(dst: &mut [u8], to: usize, src: &[u8], from: usize, m: usize)
+    requires { ⌜ to + m ≤ length (now dst) ⌝ }
+    requires { ⌜ from + m ≤ length (now src) ⌝ }
+    ensures { λ _. ⌜ now (dst .exit) ≡ take to (now (dst .entry)) ++ (take m (drop from (now (src .entry))) ++ drop (to + m) (now (dst .entry))) ⌝ }
+{
+    copy(&mut dst[to..to + m], &src[from..from + m]);
+}
+
 // Deletes the file whose first block is given: all its nodes go before the free front, in their order. Answers its number alone; NotAFile where the block
 // is not the first of a chain other than the free one.
 pub fn delete(
@@ -447,6 +557,28 @@ pub fn resize(
         Gated::Open { free: _, files: _ } => {
             let n = table.len() / 8 - 1;
             resize_sound(table, n, first_block, block_count)
+        }
+    }
+}
+
+// Lists the blocks of the file whose first block is given, in chain order; later places of the list stay. Answers its number and how many blocks there
+// are; NotAFile as delete, ListTooShort where the list can't hold them all.
+pub fn open_list(
+    table: &[u8],
+    data: &[u8],
+    block_len: usize,
+    work: &mut [u32],
+    first_block: usize,
+    list: &mut [u32],
+) -> Listed
+    ensures { λ r. ⌜ ListPromise (now (table .entry)) (length (now («data» .entry))) «block_len» (now (work .entry)) «first_block» (now (list .entry)) (beside (listGives (r .answer) (r .count) (now (list .exit))) (now (work .exit))) ⌝ }
+{
+    let gated = fat_test::gate(table, data.len(), block_len, work);
+    match gated {
+        Gated::Refused { answer } => Listed { answer, count: 0 },
+        Gated::Open { free: _, files: _ } => {
+            let n = table.len() / 8 - 1;
+            open_list_sound(table, n, first_block, list)
         }
     }
 }
