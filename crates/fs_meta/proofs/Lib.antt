@@ -8,3 +8,4 @@ pub mod Links
 pub mod Public
 pub mod Judges
 pub mod Changes
+pub mod Makes

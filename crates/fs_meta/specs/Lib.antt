@@ -7,3 +7,4 @@ pub mod Ready
 pub mod Seat
 pub mod Public
 pub mod Judge
+pub mod Take
