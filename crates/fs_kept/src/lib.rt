@@ -1,0 +1,1 @@
+// Every step of the tree calls keeps soundness: theorems alone.
