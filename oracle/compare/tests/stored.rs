@@ -7,7 +7,7 @@ use std::path::Path;
 
 /// The records of a stored file, by its header.
 fn records(name: &str, mark: u32, width: usize) -> Vec<Vec<u8>> {
-    let path = Path::new(env!("CARGO_MANIFEST_DIR")).join("../stored").join(name);
+    let path = Path::new(env!("CARGO_MANIFEST_DIR")).join("../..").join(name);
     let bytes = std::fs::read(path).unwrap();
     assert_eq!((word(&bytes, 0), word(&bytes, 4)), (mark, 1));
     assert_eq!(word(&bytes, 12) as usize, width);
@@ -18,7 +18,7 @@ fn records(name: &str, mark: u32, width: usize) -> Vec<Vec<u8>> {
 
 #[test]
 fn blocks() {
-    for bytes in records("blocks.bin", stored::BLOCK_MARK, stored::BLOCK_RECORD) {
+    for bytes in records("crates/stored_blocks/stdin", stored::BLOCK_MARK, stored::BLOCK_RECORD) {
         let record = block_record(&bytes);
         assert_eq!(block_bytes(&record), bytes);
         for port in [&Stated as &dyn Port, &Library] {
@@ -32,7 +32,7 @@ fn blocks() {
 
 #[test]
 fn tree() {
-    for bytes in records("tree.bin", stored::TREE_MARK, stored::TREE_RECORD) {
+    for bytes in records("oracle/stored/tree.bin", stored::TREE_MARK, stored::TREE_RECORD) {
         let record = tree_record(&bytes);
         assert_eq!(tree_bytes(&record), bytes);
         for port in [&Stated as &dyn Port, &Library] {

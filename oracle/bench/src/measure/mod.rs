@@ -9,7 +9,7 @@ use std::time::{Duration, Instant};
 pub fn median<S>(state: &mut S, ready: impl Fn(&mut S), run: impl Fn(&mut S)) -> f64 {
     let start = Instant::now();
     let mut times: Vec<Duration> = vec![];
-    while times.len() < 5 || (times.len() < 200 && start.elapsed() < Duration::from_millis(300)) {
+    while times.len() < 5 || (times.len() < 200 && start.elapsed() < Duration::from_millis(60)) {
         ready(state);
         let begin = Instant::now();
         run(state);

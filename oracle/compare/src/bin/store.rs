@@ -1,4 +1,4 @@
-//! `store FOLDER`: writes blocks.bin and tree.bin, a sample of answers. It needs the original, and starts from a fixed seed.
+//! `store BLOCKS TREE`: writes a sample of answers of the block calls to the first file, of the tree calls to the second. It needs the original, and starts from a fixed seed.
 
 use compare::chance::Chance;
 use compare::stored::{self, block_bytes, tree_bytes};
@@ -9,7 +9,8 @@ const SEED: u64 = 0x4D75_6B74_6869_6261;
 const EACH: usize = 4;
 
 fn main() {
-    let folder = std::env::args().nth(1).expect("store FOLDER");
+    let mut paths = std::env::args().skip(1);
+    let (block_path, tree_path) = paths.next().zip(paths.next()).expect("store BLOCKS TREE");
     assert!(original::PRESENT, "the original's source is not here: SAVE3DS_SRC names its folder");
     stored::keep(EACH);
     // Sessions with the original first, so that it gave most of what is kept.
@@ -24,11 +25,11 @@ fn main() {
     let blocks: Vec<Vec<u8>> = kept.blocks.iter().map(block_bytes).collect();
     let tree: Vec<Vec<u8>> = kept.tree.iter().map(tree_bytes).collect();
     let write = |name: &str, bytes: Vec<u8>| {
-        std::fs::write(format!("{folder}/{name}"), &bytes).expect("the folder can be written");
+        std::fs::write(name, &bytes).expect("the file can be written");
         println!("{name}: {} bytes", bytes.len());
     };
-    write("blocks.bin", stored::file(stored::BLOCK_MARK, stored::BLOCK_RECORD, &blocks));
-    write("tree.bin", stored::file(stored::TREE_MARK, stored::TREE_RECORD, &tree));
+    write(&block_path, stored::file(stored::BLOCK_MARK, stored::BLOCK_RECORD, &blocks));
+    write(&tree_path, stored::file(stored::TREE_MARK, stored::TREE_RECORD, &tree));
     let given = |of: usize, all: usize| println!("{of} of {all} given by the original too");
     given(kept.blocks.iter().filter(|r| r.original).count(), blocks.len());
     given(kept.tree.iter().filter(|r| r.original).count(), tree.len());
