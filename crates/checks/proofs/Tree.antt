@@ -10,8 +10,8 @@ use Rattle.order.specs.Answer.{numberOf}
 use Rattle.order.specs.Beside.{Beside, beside}
 use Rattle.order.specs.Given.{None}
 use Rattle.order.specs.declared.Answer.{Answer}
-use Rattle.order.specs.declared.Answer.the-variants.{Done}
-use Rattle.order.proofs.One.{settled}
+use Rattle.order.specs.declared.Answer.the-variants.{Done, NoSpace}
+use Rattle.order.proofs.One.{settled, refused}
 use Rattle.links.specs.Links.{_∈_}
 use Rattle.meta_key.specs.Key.{nameKey}
 use Rattle.meta_key.specs.Hash.{hashOf, mix, rotated}
@@ -22,7 +22,7 @@ use Rattle.meta_tree.specs.Sizes.{Misfit, Outside, Beyond, rooms}
 use Rattle.meta_tree.specs.Sound.{Sound}
 use Rattle.meta_test.specs.Gate.{treeGate, openGate}
 use Rattle.fs_meta.specs.Tables.{Tables, tables, dirs, files, Has}
-use Rattle.fs_meta.specs.Calls.{Carry, carryGives, Make, makeGives, makeRows, makeDirDone, Lookup, lookupGives, lookupRows, lookupDone}
+use Rattle.fs_meta.specs.Calls.{Carry, carryGives, Make, makeGives, makeRows, makeDirDone, makeFileDone, Lookup, lookupGives, lookupRows, lookupDone}
 use Rattle.fs_meta.specs.Format.{formatRows, formatted, FormatMisfit, FormatOutside}
 use Rattle.fs_meta.specs.Promise.{worked}
 use Rattle.fs_meta.specs.Public.{LookupPromise}
@@ -43,11 +43,12 @@ use Rattle.checks.specs.Tree.{
   keyIn5,
   formatTree,
   makeDir,
+  makeFile,
   lookupDir,
   lookupRoot,
 }
 use Rattle.checks.proofs.Passes.{own-rows}
-use Rattle.checks.proofs.Fresh.{NoFiles, Fresh, fresh-sound, Second, second-sound, not-removed, same-or}
+use Rattle.checks.proofs.Fresh.{NoFiles, no-live, Fresh, fresh-sound, Second, second-sound, not-removed, same-or}
 
 pub shows-rootHash : Shows rootHash
 unfolding hashOf mix rotated
@@ -291,3 +292,39 @@ shows-lookupDir o p = ap (λ (x : Lookup). numberOf (x .answer) ∷ x .inode ∷
 pub shows-lookupRoot : Shows lookupRoot
 unfolding word putWord field hashOf mix rotated
 shows-lookupRoot o p = ap (λ (x : Lookup). numberOf (x .answer) ∷ x .inode ∷ x .compared ∷ []) (lookup-done 0 (replicate 16 0) has-root o p)
+
+-- no file yet, and no room for one
+no-file-key : Has (files s1) key → ⊥
+no-file-key m = no-live (files s1) files1 (m .0) (m .1)
+
+no-room : freeOf (files s1) ≡ 0
+unfolding word putWord field
+no-room = refl
+
+pub shows-makeFile : Shows makeFile
+unfolding word putWord field hashOf mix rotated
+shows-makeFile o p =
+    ap (λ (x : Make). numberOf (x .answer) ∷ x .inode ∷ (x .opens ++ x .tables .fileTable))
+    (refused (makeRows s1 (files s1) (replicate 1 0) 1 key) (makeFileDone s1 (replicate 1 0) 1 name (replicate 20 0)) (o .given)
+    (makeGives NoSpace 0 s1 (replicate 1 0))
+    (inr (λ h. h live1, inr (no-file-key, inl (no-room, refl))))
+    (own-rows
+    (openGate (λ a w. beside (makeGives a 0 s1 (replicate 1 0)) w) (s1 .dirHash) (s1 .dirTable) (s1 .fileHash) (s1 .fileTable) 1 (length (s1 .fileTable) / 48) work5)
+    (worked s1 work5)
+    (makeRows s1 (files s1) (replicate 1 0) 1 key)
+    (makeFileDone s1 (replicate 1 0) 1 name (replicate 20 0))
+    o
+    file-passes
+    p))
+  where
+    file-passes : None (openGate (λ a w. beside (makeGives a 0 s1 (replicate 1 0)) w) (s1 .dirHash) (s1 .dirTable) (s1 .fileHash) (s1 .fileTable) 1 (length (s1 .fileTable) / 48) work5)
+    file-passes = (
+      fits (s1 .dirHash) (s1 .dirTable) (s1 .fileHash) (s1 .fileTable) (lengths1 .0) (lengths1 .1) (lengths1 .2) (lengths1 .3),
+      (
+        inside (s1 .dirHash) (s1 .dirTable) (s1 .fileHash) (s1 .fileTable) (lengths1 .0) (lengths1 .1) (lengths1 .2) (lengths1 .3),
+        (
+          λ m. ⊎-elim (λ h. omega (arith, lengths1 .1, lengths1 .3, h)) (λ h. omega (arith, lengths1 .3, h)) m,
+          (λ h. h (fresh-sound (dirs s1) (files s1) fresh1), tt),
+        ),
+      ),
+    )

@@ -13,7 +13,7 @@ use Rattle.fs_meta.specs.Tables.{Tables, tables, dirs}
 use Rattle.fs_meta.specs.Steps.{madeDir}
 use Rattle.fs_meta.specs.Calls.{Carry, Make, Lookup}
 use Rattle.fs_meta.specs.Format.{FormatPromise, formatted}
-use Rattle.fs_meta.specs.Public.{MakeDirPromise, LookupPromise}
+use Rattle.fs_meta.specs.Public.{MakeDirPromise, MakeFilePromise, LookupPromise}
 use Rattle.checks.specs.Check.{Check}
 
 -- the root's key; the name 61 and fifteen zeros, and its key under the root
@@ -112,3 +112,13 @@ lookupDir = lookup 1 name (0 ∷ 2 ∷ 1 ∷ [])
 
 abbrev pub lookupRoot : Check
 lookupRoot = lookup 0 (replicate 16 0) (0 ∷ 1 ∷ 2 ∷ [])
+
+-- beside the P checks: the files' maximum is 1, so the first make of a file is NoSpace, with the tables and the open counts as they were
+abbrev pub makeFile : Check
+makeFile =
+    record {
+      Given = Beside Make;
+      promise = MakeFilePromise s1 (replicate 1 0) work5 1 name (replicate 20 0);
+      seen = λ o. numberOf (o .given .answer) ∷ o .given .inode ∷ (o .given .opens ++ o .given .tables .fileTable);
+      wanted = 6 ∷ 0 ∷ 0 ∷ 1 ∷ 0 ∷ 0 ∷ 0 ∷ 1 ∷ replicate 43 0;
+    }
