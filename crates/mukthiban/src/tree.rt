@@ -5,7 +5,34 @@ ghost use Rattle.order.specs.declared.Answer.{Answer};
 ghost use Rattle.order.specs.First.{First};
 ghost use Rattle.meta_test.specs.Gate.{treeGate};
 ghost use Rattle.meta_test.specs.Promise.{tested, testDone};
+ghost use Rattle.fs_meta.specs.Tables.{tables};
+ghost use Rattle.fs_meta.specs.Calls.{carryGives};
+ghost use Rattle.fs_meta.specs.Format.{FormatPromise};
 use crate::Plain;
+
+#[no_mangle]
+pub extern "C" fn mukthiban_tree_format(
+    dir_hash: &mut [u8],
+    dir_table: &mut [u8],
+    dir_max: usize,
+    file_hash: &mut [u8],
+    file_table: &mut [u8],
+    file_max: usize,
+) -> Plain
+    ensures { λ p. ⌜ ((a : Answer) × (p .answer ≡ numberOf a) × FormatPromise (tables (now («dir_hash» .entry)) (now («dir_table» .entry)) (now («file_hash» .entry)) (now («file_table» .entry))) «dir_max» «file_max» (carryGives a (tables (now («dir_hash» .exit)) (now («dir_table» .exit)) (now («file_hash» .exit)) (now («file_table» .exit))))) ⌝ }
+{
+    let answer = fs_format::format(
+        dir_hash,
+        dir_table,
+        dir_max,
+        file_hash,
+        file_table,
+        file_max,
+    );
+    Plain {
+        answer: order::number(answer),
+    }
+}
 
 #[no_mangle]
 pub extern "C" fn mukthiban_tree_test(
