@@ -9,3 +9,6 @@ pub mod Done
 pub mod Public
 pub mod Resizes
 pub mod Lists
+pub mod InRow
+pub mod Puts
+pub mod Carries

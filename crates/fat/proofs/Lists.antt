@@ -30,7 +30,7 @@ pub length-blocks : (l : List Run) → length (blocksOf l) ≡ total l
 length-blocks [] = refl
 length-blocks (r ∷ l) = omega (arith, length-append (blocksFrom (r .size) (r .start)) (blocksOf l), length-from (r .size) (r .start), length-blocks l)
 
-sets-append : (xs ys l : List ℕ) (i : ℕ) → sets l i (xs ++ ys) ≡ sets (sets l i xs) (i + length xs) ys
+pub sets-append : (xs ys l : List ℕ) (i : ℕ) → sets l i (xs ++ ys) ≡ sets (sets l i xs) (i + length xs) ys
 sets-append [] ys l i = ap (λ (j : ℕ). sets l j ys) (omega arith)
 sets-append (x ∷ xs) ys l i =
     let e : suc i + length xs ≡ i + suc (length xs) = omega arith in

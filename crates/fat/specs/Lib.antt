@@ -2,3 +2,4 @@ pub mod Blocks
 pub mod Promise
 pub mod Calls
 pub mod Inner
+pub mod Stretches
