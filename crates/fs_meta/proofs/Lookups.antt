@@ -16,13 +16,13 @@ use Rattle.meta_key.specs.Key.{sameKey}
 use Rattle.meta_key.specs.Hash.{hashOf}
 use Rattle.meta_key.proofs.Laws.{same-equal, equal-same}
 use Rattle.meta_table.specs.Field.{field}
-use Rattle.meta_table.specs.View.{keyAt, hashAt, bucketOf, place, LiveIn}
+use Rattle.meta_table.specs.View.{View, keyAt, hashAt, bucketOf, place, LiveIn}
 use Rattle.meta_table.specs.Chain.{listAt, seekIn}
 use Rattle.meta_table.specs.declared.Hit.{Hit}
 use Rattle.meta_tree.specs.Sizes.{buckets}
 use Rattle.fs_meta.specs.Tables.{Has}
 use Rattle.fs_meta.specs.Ready.{LiveAt, Single, hashed}
-use Rattle.fs_meta.specs.Calls.{lookupRows, lookupDone, lookupGives}
+use Rattle.fs_meta.specs.Calls.{Lookup, lookupRows, lookupDone, lookupGives}
 use Rattle.fs_meta.proofs.Lists.{bucket-list, bucket-is}
 use Rattle.fs_meta.proofs.Live.{hash-word, in-hash}
 
@@ -113,3 +113,7 @@ module _ {h t : List ℕ} {w : ℕ} (S : Single h t w) (k : List ℕ) (b first :
         λ n. n (seekIn (keyAt (field w t)) k xs 0 .inode, live-in _ (m .0), m .1),
         ap (λ z. lookupGives Done (z .inode) (z .compared)) (hit-is ∙ ap (λ l. seekIn (keyAt (field w t)) k l 0) (sym bucket-of)),
       )
+
+-- the key that the code makes of a parent and a name
+pub with-key : (v : View) {k k′ : List ℕ} {o : Lookup} → k ≡ k′ → First (lookupRows v k) (lookupDone v k) o → First (lookupRows v k′) (lookupDone v k′) o
+with-key v {k} {k′} {o} e p = subst (λ (z : List ℕ). First (lookupRows v z) (lookupDone v z) o) e p

@@ -2,16 +2,19 @@
 use mathlib.Core.Path.{_≡_, refl, sym, ap, _∙_, subst}
 use mathlib.Core.Bool.{Bool, true, false}
 use mathlib.Core.List.{List, [], _∷_}
-use mathlib.Core.Logic.{inl, inr}
+use mathlib.Core.Logic.{_⊎_, inl, inr}
 use Prim.Native.Nat.{ℕ, _+_, _-_, _*_, _/_, _≤_, _<_}
+use native.Mathlib.Nat.{lt-of-not-le}
 use native.Mathlib.Omega.{arith}
 use lib.ListN.{length, getD, set, take, drop}
-use Rattle.order.specs.First.{First}
+use Rattle.order.specs.First.{First, row}
 use Rattle.order.specs.declared.Answer.{Answer}
 use Rattle.order.specs.declared.Answer.the-variants.{Done, NotFound, NotOpen, TooManyOpens}
 use Rattle.meta_table.specs.Field.{field}
-use Rattle.fs_meta.specs.Ready.{LiveAt, Single, alone}
-use Rattle.fs_meta.specs.Calls.{openRows, openDone, closeRows, closeDone, openingGives, part, shownRows, shownGives}
+use Rattle.fs_meta.specs.Tables.{Tables, tables, dirs, files}
+use Rattle.fs_meta.specs.Steps.{carriedDir, carriedFile}
+use Rattle.fs_meta.specs.Ready.{LiveAt, Single, alone, setGives}
+use Rattle.fs_meta.specs.Calls.{openRows, openDone, closeRows, closeDone, openingGives, part, shownRows, shownGives, carryRows, carryGives, carryDirDone, carryFileDone}
 use Rattle.fs_meta.proofs.Lists.{inside, all-fit}
 use Rattle.fs_meta.proofs.Live.{Tells}
 
@@ -58,3 +61,20 @@ module _ {h t : List ℕ} {w : ℕ} (S : Single h t w) (x i : ℕ) {r : Bool} (T
       → First (shownRows (alone w t) x none) (shownGives Done (part w t x at many)) (shownGives Done bytes)
   shown at many bytes none q =
       inr (λ n. n (T .0 yes), ap (shownGives Done) (q ∙ ap (λ z. take many (drop (z * w + at) t)) e))
+
+-- open counts that are not too short
+pub enough : {P : Type 0} (a b : ℕ) → (P ⊎ (a < b) → ⊥) → b ≤ a
+enough a b f = let h : b < a + 1 = lt-of-not-le (λ (k : a + 1 ≤ b). f (inr (omega arith))) in omega arith
+
+-- carried bytes set in one table, as a change of the four
+pub set-dir : (s : Tables) (x : ℕ) (bytes : List ℕ) (a : Answer) (t : List ℕ)
+    → First (row (LiveAt 40 (s .dirTable) x → ⊥) (setGives NotFound (s .dirTable)) ∷ []) (setGives Done (carriedDir (tables [] (s .dirTable) [] []) x bytes .dirTable)) (setGives a t)
+    → First (carryRows s (dirs s) x) (carryDirDone s x bytes) (carryGives a (tables (s .dirHash) t (s .fileHash) (s .fileTable)))
+set-dir s x bytes a t (inl p) = inl (p .0, ap (λ z. carryGives (z .answer) (tables (s .dirHash) (z .table) (s .fileHash) (s .fileTable))) (p .1))
+set-dir s x bytes a t (inr p) = inr (p .0, ap (λ z. carryGives (z .answer) (tables (s .dirHash) (z .table) (s .fileHash) (s .fileTable))) (p .1))
+
+pub set-file : (s : Tables) (x : ℕ) (bytes : List ℕ) (a : Answer) (t : List ℕ)
+    → First (row (LiveAt 48 (s .fileTable) x → ⊥) (setGives NotFound (s .fileTable)) ∷ []) (setGives Done (carriedFile (tables [] [] [] (s .fileTable)) x bytes .fileTable)) (setGives a t)
+    → First (carryRows s (files s) x) (carryFileDone s x bytes) (carryGives a (tables (s .dirHash) (s .dirTable) (s .fileHash) t))
+set-file s x bytes a t (inl p) = inl (p .0, ap (λ z. carryGives (z .answer) (tables (s .dirHash) (s .dirTable) (s .fileHash) (z .table))) (p .1))
+set-file s x bytes a t (inr p) = inr (p .0, ap (λ z. carryGives (z .answer) (tables (s .dirHash) (s .dirTable) (s .fileHash) (z .table))) (p .1))
