@@ -25,6 +25,7 @@ use Rattle.fat_test.specs.declared.Gated.{Gated}
 use Rattle.fat_test.specs.declared.Gated.the-variants.{Open, Refused}
 use Rattle.fat.specs.Promise.{Beside, beside, within, Promise}
 use Rattle.fat.specs.Inner.{Volume}
+use Rattle.fat.specs.Stretches.{Data}
 
 -- a call's own rows, beside the work list
 under : {A : Type 0} (work : List ℕ) (rs : List (Row A)) (d o : A) → First rs d o → First (within work rs) (beside d work) (beside o work)
@@ -77,6 +78,9 @@ module _ (t : Bytes) (d l : ℕ) (work work′ : List ℕ) (free files : ℕ) (g
     ⊎-elim (λ h. h) (λ h. absurd (g .none .1 .0 (inr (inl (omega (arith, h)))))) (le-or-lt 1 l),
     ⊎-elim (λ h. h) (λ h. absurd (g .none .1 .0 (inr (inr h)))) (le-or-lt l 65536),
   )
+
+  pub open-blocks : Data (blocks t) d l
+  open-blocks = record { some = open-block .0; few = open-block .1; fits = open-data }
 
 -- the gate's answer, taken apart
 pub says-open : (t : Bytes) (d l : ℕ) (work work′ : List ℕ) (r : Gated) (free files : ℕ) → GateOf t d l work work′ r → r ≡ Open free files → Opened t d l work work′ free files

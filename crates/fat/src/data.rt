@@ -9,9 +9,11 @@ ghost use Rattle.fat.specs.Blocks.{blocksOf, bytesAt, written};
 ghost use Rattle.fat.specs.Inner.{Volume, Standing, ChainFrom};
 ghost use Rattle.fat.specs.Stretches.{Data, CursorAt, StretchOf};
 ghost use Rattle.order.specs.First.{First};
-ghost use Rattle.fat.specs.Calls.{carryGives, carryRows, readDone, writeDone};
+ghost use Rattle.fat.specs.Calls.{carryGives, carryRows, readDone, writeDone, ReadPromise, WritePromise};
+ghost use Rattle.fat.specs.Promise.{beside};
 use crate::Answered;
 use crate::Sought;
+use fat_test::Gated;
 use order::Answer;
 
 // The number of blocks of the chain that index first starts.
@@ -223,5 +225,51 @@ pub fn write_sound(
     store(table, data, block_len, n, first_block + 1, pos, buf);
     Answered {
         answer: Answer::Done,
+    }
+}
+
+// Reads bytes of the file whose first block is given, from byte pos on, as many as the buffer has. Answers its number alone; NotAFile where the block is
+// not the first of a chain other than the free one, OutOfBound where the bytes pass the file's end. Refused, the buffer stays as it was.
+pub fn read(
+    table: &[u8],
+    data: &[u8],
+    block_len: usize,
+    work: &mut [u32],
+    first_block: usize,
+    pos: usize,
+    buf: &mut [u8],
+) -> Answered
+    ensures { λ r. ⌜ ReadPromise (now (table .entry)) (now («data» .entry)) «block_len» (now (work .entry)) «first_block» pos (now (buf .entry)) (beside (carryGives (r .answer) (now (buf .exit))) (now (work .exit))) ⌝ }
+{
+    let gated = fat_test::gate(table, data.len(), block_len, work);
+    match gated {
+        Gated::Refused { answer } => Answered { answer },
+        Gated::Open { free: _, files: _ } => {
+            let n = table.len() / 8 - 1;
+            read_sound(table, data, block_len, n, first_block, pos, buf)
+        }
+    }
+}
+
+// Writes the buffer's bytes into the file whose first block is given, from byte pos on. Answers its number alone, refused as read is; then the data stay as
+// they were.
+pub fn write(
+    table: &[u8],
+    data: &mut [u8],
+    block_len: usize,
+    work: &mut [u32],
+    first_block: usize,
+    pos: usize,
+    buf: &[u8],
+) -> Answered
+    ensures { λ r. ⌜ WritePromise (now (table .entry)) (now («data» .entry)) «block_len» (now (work .entry)) «first_block» pos (now (buf .entry)) (beside (carryGives (r .answer) (now («data» .exit))) (now (work .exit))) ⌝ }
+{
+    let gated = fat_test::gate(table, data.len(), block_len, work);
+    match gated {
+        Gated::Refused { answer } => Answered { answer },
+        Gated::Open { free: _, files: _ } => {
+            let n = table.len() / 8 - 1;
+            write_sound(table, data, block_len, n, first_block, pos, buf)
+        }
     }
 }
