@@ -12,3 +12,4 @@ pub mod Lists
 pub mod InRow
 pub mod Puts
 pub mod Carries
+pub mod Unique
