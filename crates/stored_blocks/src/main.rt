@@ -59,14 +59,25 @@ fn delete(table: &mut [u8], data: &[u8], work: &mut [u32], kept: &[u8]) -> bool
     stored::answers(kept, order::number(answer), 0, 0)
 }
 
+fn open_list(table: &[u8], data: &[u8], work: &mut [u32], list: &mut [u32], kept: &[u8]) -> bool
+    requires { ⌜ length (now kept) ≡ 696 ⌝ }
+{
+    let first = stored::wide_size(kept, 8);
+    let block_len = stored::wide_size(kept, 24);
+    let r = fat::open_list(table, data, block_len, work, first, list);
+    let answer = r.answer;
+    stored::answers(kept, order::number(answer), r.count, 0)
+}
+
 // The call of a record on what is lent to it: whether its answer is the stored one.
-fn call(table: &mut [u8], data: &mut [u8], work: &mut [u32], kept: &[u8]) -> u32
+fn call(table: &mut [u8], data: &mut [u8], work: &mut [u32], list: &mut [u32], kept: &[u8]) -> u32
     requires { ⌜ length (now kept) ≡ 696 ⌝ }
 {
     let which = words::get_u32(kept, 0);
     match which {
         0 => verdict(format(table, kept)),
         1 => verdict(test(table, work, kept)),
+        2 => verdict(open_list(table, data, work, list, kept)),
         3 => verdict(create(table, data, work, kept)),
         4 => verdict(resize(table, data, work, kept)),
         5 => verdict(delete(table, data, work, kept)),
@@ -75,12 +86,13 @@ fn call(table: &mut [u8], data: &mut [u8], work: &mut [u32], kept: &[u8]) -> u32
 }
 
 // The call on buffers that are cut to the record's lengths.
-fn cut(table: &mut [u8], data: &mut [u8], work: &mut [u32], kept: &[u8]) -> u32
+fn cut(table: &mut [u8], data: &mut [u8], work: &mut [u32], list: &mut [u32], kept: &[u8]) -> u32
     requires { ⌜ length (now kept) ≡ 696 ⌝ }
 {
     let t = stored::size(kept, 32);
     let d = stored::size(kept, 36);
     let w = stored::size(kept, 44);
+    let l = stored::size(kept, 48);
     if table.len() < t {
         return 0;
     }
@@ -90,11 +102,20 @@ fn cut(table: &mut [u8], data: &mut [u8], work: &mut [u32], kept: &[u8]) -> u32
     if work.len() < w {
         return 0;
     }
-    call(&mut table[..t], &mut data[..d], &mut work[..w], kept)
+    if list.len() < l {
+        return 0;
+    }
+    call(
+        &mut table[..t],
+        &mut data[..d],
+        &mut work[..w],
+        &mut list[..l],
+        kept,
+    )
 }
 
 // Whether the buffers hold what stood in them after the call.
-fn holds(table: &[u8], data: &[u8], work: &[u32], kept: &[u8]) -> bool
+fn holds(table: &[u8], data: &[u8], work: &[u32], list: &[u32], kept: &[u8]) -> bool
     requires { ⌜ length (now kept) ≡ 696 ⌝ }
 {
     if !stored::holds(table, &kept[388..460]) {
@@ -103,21 +124,32 @@ fn holds(table: &[u8], data: &[u8], work: &[u32], kept: &[u8]) -> bool
     if !stored::holds(data, &kept[460..532]) {
         return false;
     }
-    stored::holds_list(work, &kept[608..656])
+    if !stored::holds_list(work, &kept[608..656]) {
+        return false;
+    }
+    stored::holds_list(list, &kept[656..696])
 }
 
-// Fills the buffers with what stood in them before the call, makes it, and compares.
-fn on(table: &mut [u8], data: &mut [u8], work: &mut [u32], kept: &[u8]) -> u32
+// Fills the buffers with what stood in them before the call.
+fn fill(table: &mut [u8], data: &mut [u8], work: &mut [u32], list: &mut [u32], kept: &[u8])
     requires { ⌜ length (now kept) ≡ 696 ⌝ }
 {
     stored::fill(table, &kept[80..152]);
     stored::fill(data, &kept[152..224]);
     stored::fill_list(work, &kept[300..348]);
-    let answered = cut(table, data, work, kept);
+    stored::fill_list(list, &kept[348..388]);
+}
+
+// Fills the buffers, makes the call, and compares.
+fn on(table: &mut [u8], data: &mut [u8], work: &mut [u32], list: &mut [u32], kept: &[u8]) -> u32
+    requires { ⌜ length (now kept) ≡ 696 ⌝ }
+{
+    fill(table, data, work, list, kept);
+    let answered = cut(table, data, work, list, kept);
     if answered != 1 {
         return answered;
     }
-    verdict(holds(table, data, work, kept))
+    verdict(holds(table, data, work, list, kept))
 }
 
 // Whether the call of a record gives what is stored.
@@ -128,7 +160,8 @@ fn replay(kept: &[u8]) -> u32 {
     let mut table = [0u8; 72];
     let mut data = [0u8; 72];
     let mut work = [0u32; 12];
-    on(&mut table, &mut data, &mut work, kept)
+    let mut list = [0u32; 10];
+    on(&mut table, &mut data, &mut work, &mut list, kept)
 }
 
 // Reads the next record, and says what became of it.
@@ -184,6 +217,6 @@ fn main() {
     line(tally.same, b" came out as they are stored\n");
     line(
         tally.passed_over,
-        b" are open list, read and write, which are not replayed here\n",
+        b" are read and write, which are not replayed here\n",
     );
 }
