@@ -142,55 +142,6 @@ listed-is c l h =
     let e : 0 + length (blocksOf c) ≡ total c = omega (arith, length-blocks c) in
     sets-eq (blocksOf c) l 0 (omega (arith, e, h)) ∙ ap (λ (j : ℕ). blocksOf c ++ drop j l) e
 
--- the block after the k-th of a chain
-module _ (n : ℕ) (t : Bytes) (l : List Run) (k b m : ℕ) (c : Chain n t l) (w : Inside l k b m) where
-  mid : Chain n t (w .before ++ w .node ∷ w .after)
-  mid = subst (Chain n t) (w .is) c
-
-  pub step-in : (s : ℕ) → s ≡ sizeAt t b → m < s → Inside l (k + 1) b (m + 1)
-  step-in s e h =
-      let z : sizeAt t b ≡ w .node .size = ap (sizeAt t) (sym (w .at)) ∙ mid-size n t (w .before) (w .node) (w .after) mid in
-      record {
-        before = w .before;
-        node = w .node;
-        after = w .after;
-        is = w .is;
-        at = w .at;
-        sum = omega (arith, w .sum);
-        some = omega arith;
-        fits = omega (arith, e, z);
-      }
-
-  step-sum : (s : ℕ) → s ≡ sizeAt t b → s ≤ m → k ≡ total (w .before ++ w .node ∷ [])
-  step-sum s e h =
-      let z : sizeAt t b ≡ w .node .size = ap (sizeAt t) (sym (w .at)) ∙ mid-size n t (w .before) (w .node) (w .after) mid in
-      omega (arith, w .sum, w .fits, e, z, total-append (w .before) (w .node ∷ []))
-
-  step-next : (q : ℕ) → q ≡ nextAt t b → first (w .after) ≡ q
-  step-next q e = sym (e ∙ ap (nextAt t) (sym (w .at)) ∙ mid-next n t (w .before) (w .node) (w .after) mid)
-
-  pub step-none : (s q : ℕ) → s ≡ sizeAt t b → s ≤ m → q ≡ nextAt t b → q ≡ 0 → k < total l → Inside l (k + 1) b m
-  step-none s q e h f o j =
-      let a : w .after ≡ [] = ended (w .after) q (step-next q f) o in
-      let z : ⊥ = omega (arith, j, step-sum s e h, ap total (w .is ∙ ap (λ (r : List Run). w .before ++ w .node ∷ r) a)) in
-      absurd z
-
-  pub step-on : (s q : ℕ) → s ≡ sizeAt t b → s ≤ m → q ≡ nextAt t b → (q ≡ 0 → ⊥) → Inside l (k + 1) (q - 1) 1
-  step-on s q e h f o =
-      let y = named (w .after) q (step-next q f) o in
-      let i : l ≡ (w .before ++ w .node ∷ []) ++ y .node ∷ y .after =
-      w .is ∙ ap (λ (r : List Run). w .before ++ w .node ∷ r) (y .is) ∙ sym (append-assoc (w .before) (w .node ∷ []) (y .node ∷ y .after)) in
-      record {
-        before = w .before ++ w .node ∷ [];
-        node = y .node;
-        after = y .after;
-        is = i;
-        at = y .at;
-        sum = omega (arith, step-sum s e h);
-        some = omega arith;
-        fits = mid-pos n t (w .before ++ w .node ∷ []) (y .node) (y .after) (subst (Chain n t) i c);
-      }
-
 -- open list: what is sought past the list's room, or past the table's blocks
 module _ (n : ℕ) (t : Bytes) (b : ℕ) (list : List ℕ) (c : ChainFrom n t (b + 1)) (f : File t n b) (room : ℕ) (o : Least (length list) n room) where
   same : total (chainAt t n (b + 1)) ≡ total (fileAt n t b)

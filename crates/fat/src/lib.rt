@@ -3,8 +3,7 @@ pub mod data;
 
 ghost use mathlib.Core.Path.{_≡_};
 ghost use Prim.Native.Nat.{_+_, _*_, _≤_, _<_};
-ghost use mathlib.Core.List.{_++_};
-ghost use lib.ListN.{length, take, drop};
+ghost use lib.ListN.{length};
 ghost use lib.Seq.{sets};
 ghost use Rattle.fat_node.specs.Node.{prevAt, nextAt};
 ghost use mathlib.Core.Bool.{true};
@@ -459,44 +458,6 @@ pub fn open_list_sound(table: &[u8], n: usize, first_block: usize, list: &mut [u
         answer: Answer::Done,
         count: room + 1 - part,
     }
-}
-
-// A block of a chain: the part-th of the node at block `node`.
-pub struct Spot {
-    pub node: usize,
-    pub part: usize,
-}
-
-// From the k-th block of a chain to the one after it.
-fn step(table: &[u8], n: usize, first: usize, k: usize, node: usize, part: usize) -> Spot
-    requires { ⌜ ChainFrom n (now table) first ⌝ }
-    requires { ⌜ Inside (chainAt (now table) n first) k node part ⌝ }
-    ensures { λ r. ⌜ (k < total (chainAt (now (table .entry)) n first) → Inside (chainAt (now (table .entry)) n first) (k + 1) (r .node) (r .part)) ⌝ }
-{
-    let size = size_at(table, n, node);
-    if part < size {
-        return Spot {
-            node,
-            part: part + 1,
-        };
-    }
-    let next = fat_node::next_of(table, node);
-    if next == 0 {
-        return Spot { node, part };
-    }
-    Spot {
-        node: next - 1,
-        part: 1,
-    }
-}
-
-// Copies m bytes of one part, from its byte `from` on, into another, from its byte `to` on.
-fn paste(dst: &mut [u8], to: usize, src: &[u8], from: usize, m: usize)
-    requires { ⌜ to + m ≤ length (now dst) ⌝ }
-    requires { ⌜ from + m ≤ length (now src) ⌝ }
-    ensures { λ _. ⌜ now (dst .exit) ≡ take to (now (dst .entry)) ++ (take m (drop from (now (src .entry))) ++ drop (to + m) (now (dst .entry))) ⌝ }
-{
-    copy(&mut dst[to..to + m], &src[from..from + m]);
 }
 
 // Deletes the file whose first block is given: all its nodes go before the free front, in their order. Answers its number alone; NotAFile where the block
