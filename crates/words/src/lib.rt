@@ -1,4 +1,5 @@
-// A little-endian u32 in a slice of bytes.
+// A little-endian u32 in a slice of bytes. Each compiles to one 32-bit load or store: `rt staticlib mukthiban`, then
+// `objdump -d target/staticlib/libmukthiban.a` shows it, plainest in mukthiban_fat_format.
 ghost use mathlib.Core.Path.{_≡_};
 ghost use Prim.Native.Nat.{_+_, _*_, _≤_};
 ghost use lib.ListN.{length};
