@@ -7,8 +7,9 @@ ghost use Rattle.order.specs.declared.Answer.{Answer};
 ghost use Rattle.fat_node.specs.Format.{FormatPromise};
 ghost use Rattle.fat_node.specs.declared.Formatted.{Formatted};
 ghost use Rattle.fat_test.specs.Promise.{TestPromise, tested};
-ghost use Rattle.fat.specs.Calls.{CreatePromise, createGives, ResizePromise, DeletePromise, changeGives};
+ghost use Rattle.fat.specs.Calls.{CreatePromise, createGives, ResizePromise, DeletePromise, changeGives, ListPromise, listGives, ReadPromise, WritePromise, carryGives};
 use crate::Created;
+use crate::Listed;
 use crate::Plain;
 use crate::Tested;
 
@@ -83,6 +84,63 @@ pub extern "C" fn mukthiban_fat_delete(
     ensures { λ p. ⌜ ((a : Answer) × (p .answer ≡ numberOf a) × DeletePromise (now (table .entry)) (length (now («data» .entry))) «block_len» (now (work .entry)) «first_block» (beside (changeGives a (now (table .exit))) (now (work .exit)))) ⌝ }
 {
     let r = fat::delete(table, data, block_len, work, first_block);
+    let answer = r.answer;
+    Plain {
+        answer: order::number(answer),
+    }
+}
+
+#[no_mangle]
+pub extern "C" fn mukthiban_fat_open_list(
+    table: &[u8],
+    data: &[u8],
+    block_len: usize,
+    work: &mut [u32],
+    first_block: usize,
+    list: &mut [u32],
+) -> Listed
+    ensures { λ p. ⌜ ((a : Answer) × (p .answer ≡ numberOf a) × ListPromise (now (table .entry)) (length (now («data» .entry))) «block_len» (now (work .entry)) «first_block» (now (list .entry)) (beside (listGives a (p .count) (now (list .exit))) (now (work .exit)))) ⌝ }
+{
+    let r = fat::open_list(table, data, block_len, work, first_block, list);
+    let answer = r.answer;
+    Listed {
+        answer: order::number(answer),
+        count: r.count,
+    }
+}
+
+#[no_mangle]
+pub extern "C" fn mukthiban_fat_read(
+    table: &[u8],
+    data: &[u8],
+    block_len: usize,
+    work: &mut [u32],
+    first_block: usize,
+    pos: usize,
+    buf: &mut [u8],
+) -> Plain
+    ensures { λ p. ⌜ ((a : Answer) × (p .answer ≡ numberOf a) × ReadPromise (now (table .entry)) (now («data» .entry)) «block_len» (now (work .entry)) «first_block» pos (now (buf .entry)) (beside (carryGives a (now (buf .exit))) (now (work .exit)))) ⌝ }
+{
+    let r = fat::data::read(table, data, block_len, work, first_block, pos, buf);
+    let answer = r.answer;
+    Plain {
+        answer: order::number(answer),
+    }
+}
+
+#[no_mangle]
+pub extern "C" fn mukthiban_fat_write(
+    table: &[u8],
+    data: &mut [u8],
+    block_len: usize,
+    work: &mut [u32],
+    first_block: usize,
+    pos: usize,
+    buf: &[u8],
+) -> Plain
+    ensures { λ p. ⌜ ((a : Answer) × (p .answer ≡ numberOf a) × WritePromise (now (table .entry)) (now («data» .entry)) «block_len» (now (work .entry)) «first_block» pos (now (buf .entry)) (beside (carryGives a (now («data» .exit))) (now (work .exit)))) ⌝ }
+{
+    let r = fat::data::write(table, data, block_len, work, first_block, pos, buf);
     let answer = r.answer;
     Plain {
         answer: order::number(answer),

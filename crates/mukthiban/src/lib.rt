@@ -1,9 +1,13 @@
 // The C interface: every call once, under the name that include/mukthiban.h declares. An export gives the call's own answer with its number in the
 // place of its name, and promises what the call promises: there is an answer with that number and those fields of which the call's promise holds.
 mod blocks;
-mod carried;
-mod inner;
-mod opens;
+mod change;
+mod look;
+mod tested_blocks;
+mod tested_carried;
+mod tested_change;
+mod tested_look;
+mod tested_opens;
 mod tree;
 
 // The answer of a call that gives nothing else.
@@ -25,6 +29,13 @@ pub struct Tested {
 pub struct Created {
     pub answer: u32,
     pub first_block: usize,
+}
+
+// The inode of the entry that make made.
+#[repr(C)]
+pub struct Made {
+    pub answer: u32,
+    pub inode: u32,
 }
 
 // How many places of the lent list hold the answer.
@@ -50,4 +61,11 @@ pub struct Found {
     pub answer: u32,
     pub inode: u32,
     pub compared: u32,
+}
+
+// Where the sixteen bytes of a name begin in the table that the kind selects.
+#[repr(C)]
+pub struct Named {
+    pub answer: u32,
+    pub offset: usize,
 }

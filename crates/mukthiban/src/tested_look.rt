@@ -1,65 +1,61 @@
-// The inner calls, for a side that has tested its tables once and keeps them sound. Each requires what the test tells, and tests nothing.
+// The inner calls that look at the entry tables, for a side that has tested its tables once and keeps them sound. Each requires what the test tells, and
+// tests nothing.
 ghost use mathlib.Core.Path.{_≡_};
 ghost use Rattle.order.specs.Answer.{numberOf};
 ghost use Rattle.order.specs.declared.Answer.{Answer};
-ghost use Rattle.fs_meta.specs.Ready.{Ready};
-ghost use Rattle.fs_meta.specs.Tables.{tables};
-ghost use Rattle.fs_meta.specs.Calls.{ListDirs, ListFiles, listGives, statGives, statDone};
 ghost use Rattle.order.specs.First.{First};
-ghost use Rattle.fat.specs.Inner.{Volume};
-ghost use Rattle.fat.specs.Calls.{createRows, createDone, createGives, resizeRows, resizeDone, deleteRows, deleteDone, changeGives};
-use crate::Created;
+ghost use Rattle.meta_key.specs.Key.{nameKey};
+ghost use Rattle.fs_meta.specs.Ready.{Ready};
+ghost use Rattle.fs_meta.specs.Tables.{tables, dirs, files};
+ghost use Rattle.fs_meta.specs.Calls.{lookupRows, lookupDone, lookupGives, ListDirs, ListFiles, listGives, statGives, statDone};
+use crate::Found;
 use crate::Listed;
-use crate::Plain;
 use crate::Stat;
+use meta_key::SaveExtDirEntry;
+use meta_key::SaveExtFileEntry;
+use meta_key::SaveExtKey;
 
 #[no_mangle]
-pub extern "C" fn mukthiban_tested_fat_create(
-    table: &mut [u8],
-    n: usize,
-    block_count: usize,
-) -> Created
-    requires { ⌜ Volume n (now table) ⌝ }
-    ensures { λ p. ⌜ ((a : Answer) × (p .answer ≡ numberOf a) × First (createRows n (now (table .entry)) «block_count») (createDone n (now (table .entry)) «block_count») (createGives a (p .«first_block») (now (table .exit)))) ⌝ }
+pub extern "C" fn mukthiban_tested_tree_lookup_dir(
+    dir_hash: &[u8],
+    dir_table: &[u8],
+    file_hash: &[u8],
+    file_table: &[u8],
+    parent: u32,
+    name: &[u8; 16],
+) -> Found
+    requires { ⌜ Ready (tables (now «dir_hash») (now «dir_table») (now «file_hash») (now «file_table»)) ⌝ }
+    ensures { λ p. ⌜ ((a : Answer) × (p .answer ≡ numberOf a) × First (lookupRows (dirs (tables (now («dir_hash» .entry)) (now («dir_table» .entry)) (now («file_hash» .entry)) (now («file_table» .entry)))) (nameKey parent (now (name .entry)))) (lookupDone (dirs (tables (now («dir_hash» .entry)) (now («dir_table» .entry)) (now («file_hash» .entry)) (now («file_table» .entry)))) (nameKey parent (now (name .entry)))) (lookupGives a (p .inode) (p .compared))) ⌝ }
 {
-    let r = fat::create_sound(table, n, block_count);
+    let key = SaveExtKey::new(parent, name);
+    let r = fs_meta::look::lookup(dir_hash, dir_table, SaveExtDirEntry::WIDTH, key);
     let answer = r.answer;
-    Created {
+    Found {
         answer: order::number(answer),
-        first_block: r.first,
+        inode: r.inode,
+        compared: r.compared,
     }
 }
 
 #[no_mangle]
-pub extern "C" fn mukthiban_tested_fat_resize(
-    table: &mut [u8],
-    n: usize,
-    first_block: usize,
-    block_count: usize,
-) -> Plain
-    requires { ⌜ Volume n (now table) ⌝ }
-    ensures { λ p. ⌜ ((a : Answer) × (p .answer ≡ numberOf a) × First (resizeRows n (now (table .entry)) «first_block» «block_count») (resizeDone n (now (table .entry)) «first_block» «block_count») (changeGives a (now (table .exit)))) ⌝ }
+pub extern "C" fn mukthiban_tested_tree_lookup_file(
+    dir_hash: &[u8],
+    dir_table: &[u8],
+    file_hash: &[u8],
+    file_table: &[u8],
+    parent: u32,
+    name: &[u8; 16],
+) -> Found
+    requires { ⌜ Ready (tables (now «dir_hash») (now «dir_table») (now «file_hash») (now «file_table»)) ⌝ }
+    ensures { λ p. ⌜ ((a : Answer) × (p .answer ≡ numberOf a) × First (lookupRows (files (tables (now («dir_hash» .entry)) (now («dir_table» .entry)) (now («file_hash» .entry)) (now («file_table» .entry)))) (nameKey parent (now (name .entry)))) (lookupDone (files (tables (now («dir_hash» .entry)) (now («dir_table» .entry)) (now («file_hash» .entry)) (now («file_table» .entry)))) (nameKey parent (now (name .entry)))) (lookupGives a (p .inode) (p .compared))) ⌝ }
 {
-    let r = fat::resize_sound(table, n, first_block, block_count);
+    let key = SaveExtKey::new(parent, name);
+    let r = fs_meta::look::lookup(file_hash, file_table, SaveExtFileEntry::WIDTH, key);
     let answer = r.answer;
-    Plain {
+    Found {
         answer: order::number(answer),
-    }
-}
-
-#[no_mangle]
-pub extern "C" fn mukthiban_tested_fat_delete(
-    table: &mut [u8],
-    n: usize,
-    first_block: usize,
-) -> Plain
-    requires { ⌜ Volume n (now table) ⌝ }
-    ensures { λ p. ⌜ ((a : Answer) × (p .answer ≡ numberOf a) × First (deleteRows n (now (table .entry)) «first_block») (deleteDone n (now (table .entry)) «first_block») (changeGives a (now (table .exit)))) ⌝ }
-{
-    let r = fat::delete_sound(table, n, first_block);
-    let answer = r.answer;
-    Plain {
-        answer: order::number(answer),
+        inode: r.inode,
+        compared: r.compared,
     }
 }
 

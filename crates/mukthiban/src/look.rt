@@ -23,7 +23,15 @@ pub extern "C" fn mukthiban_tree_lookup_dir(
 ) -> Found
     ensures { λ p. ⌜ ((a : Answer) × (p .answer ≡ numberOf a) × LookupPromise (tables (now («dir_hash» .entry)) (now («dir_table» .entry)) (now («file_hash» .entry)) (now («file_table» .entry))) (dirs (tables (now («dir_hash» .entry)) (now («dir_table» .entry)) (now («file_hash» .entry)) (now («file_table» .entry)))) (now (work .entry)) parent (now (name .entry)) (beside (lookupGives a (p .inode) (p .compared)) (now (work .exit)))) ⌝ }
 {
-    let r = fs_calls::lookup_dir(dir_hash, dir_table, file_hash, file_table, work, parent, name);
+    let r = fs_calls::lookup_dir(
+        dir_hash,
+        dir_table,
+        file_hash,
+        file_table,
+        work,
+        parent,
+        name,
+    );
     let answer = r.answer;
     Found {
         answer: order::number(answer),
@@ -44,7 +52,15 @@ pub extern "C" fn mukthiban_tree_list_dirs(
 ) -> Listed
     ensures { λ p. ⌜ ((a : Answer) × (p .answer ≡ numberOf a) × ListPromise (tables (now («dir_hash» .entry)) (now («dir_table» .entry)) (now («file_hash» .entry)) (now («file_table» .entry))) (dirs (tables (now («dir_hash» .entry)) (now («dir_table» .entry)) (now («file_hash» .entry)) (now («file_table» .entry)))) (now (work .entry)) inode (now (list .entry)) (beside (listGives a (p .count) (now (list .exit))) (now (work .exit)))) ⌝ }
 {
-    let r = fs_calls::list_dirs(dir_hash, dir_table, file_hash, file_table, work, inode, list);
+    let r = fs_calls::list_dirs(
+        dir_hash,
+        dir_table,
+        file_hash,
+        file_table,
+        work,
+        inode,
+        list,
+    );
     let answer = r.answer;
     Listed {
         answer: order::number(answer),
@@ -86,7 +102,15 @@ pub extern "C" fn mukthiban_tree_set_carried_dir(
     ensures { λ p. ⌜ ((a : Answer) × (p .answer ≡ numberOf a) × SetCarriedDirPromise (tables (now («dir_hash» .entry)) (now («dir_table» .entry)) (now («file_hash» .entry)) (now («file_table» .entry))) (now (work .entry)) inode (now (carried .entry)) (beside (carryGives a (tables (now («dir_hash» .entry)) (now («dir_table» .exit)) (now («file_hash» .entry)) (now («file_table» .entry)))) (now (work .exit)))) ⌝ }
 {
     let bytes = *carried;
-    let answer = fs_calls::set_carried_dir(dir_hash, dir_table, file_hash, file_table, work, inode, bytes);
+    let answer = fs_calls::set_carried_dir(
+        dir_hash,
+        dir_table,
+        file_hash,
+        file_table,
+        work,
+        inode,
+        bytes,
+    );
     Plain {
         answer: order::number(answer),
     }
@@ -104,7 +128,15 @@ pub extern "C" fn mukthiban_tree_open_dir(
 ) -> Plain
     ensures { λ p. ⌜ ((a : Answer) × (p .answer ≡ numberOf a) × OpenDirPromise (tables (now («dir_hash» .entry)) (now («dir_table» .entry)) (now («file_hash» .entry)) (now («file_table» .entry))) (now (opens .entry)) (now (work .entry)) inode (beside (openingGives a (now (opens .exit))) (now (work .exit)))) ⌝ }
 {
-    let answer = fs_calls::open_dir(dir_hash, dir_table, file_hash, file_table, work, opens, inode);
+    let answer = fs_calls::open_dir(
+        dir_hash,
+        dir_table,
+        file_hash,
+        file_table,
+        work,
+        opens,
+        inode,
+    );
     Plain {
         answer: order::number(answer),
     }
@@ -122,7 +154,15 @@ pub extern "C" fn mukthiban_tree_close_dir(
 ) -> Plain
     ensures { λ p. ⌜ ((a : Answer) × (p .answer ≡ numberOf a) × CloseDirPromise (tables (now («dir_hash» .entry)) (now («dir_table» .entry)) (now («file_hash» .entry)) (now («file_table» .entry))) (now (opens .entry)) (now (work .entry)) inode (beside (openingGives a (now (opens .exit))) (now (work .exit)))) ⌝ }
 {
-    let answer = fs_calls::close_dir(dir_hash, dir_table, file_hash, file_table, work, opens, inode);
+    let answer = fs_calls::close_dir(
+        dir_hash,
+        dir_table,
+        file_hash,
+        file_table,
+        work,
+        opens,
+        inode,
+    );
     Plain {
         answer: order::number(answer),
     }
@@ -140,7 +180,15 @@ pub extern "C" fn mukthiban_tree_lookup_file(
 ) -> Found
     ensures { λ p. ⌜ ((a : Answer) × (p .answer ≡ numberOf a) × LookupPromise (tables (now («dir_hash» .entry)) (now («dir_table» .entry)) (now («file_hash» .entry)) (now («file_table» .entry))) (files (tables (now («dir_hash» .entry)) (now («dir_table» .entry)) (now («file_hash» .entry)) (now («file_table» .entry)))) (now (work .entry)) parent (now (name .entry)) (beside (lookupGives a (p .inode) (p .compared)) (now (work .exit)))) ⌝ }
 {
-    let r = fs_calls::lookup_file(dir_hash, dir_table, file_hash, file_table, work, parent, name);
+    let r = fs_calls::lookup_file(
+        dir_hash,
+        dir_table,
+        file_hash,
+        file_table,
+        work,
+        parent,
+        name,
+    );
     let answer = r.answer;
     Found {
         answer: order::number(answer),
@@ -161,7 +209,15 @@ pub extern "C" fn mukthiban_tree_list_files(
 ) -> Listed
     ensures { λ p. ⌜ ((a : Answer) × (p .answer ≡ numberOf a) × ListPromise (tables (now («dir_hash» .entry)) (now («dir_table» .entry)) (now («file_hash» .entry)) (now («file_table» .entry))) (files (tables (now («dir_hash» .entry)) (now («dir_table» .entry)) (now («file_hash» .entry)) (now («file_table» .entry)))) (now (work .entry)) inode (now (list .entry)) (beside (listGives a (p .count) (now (list .exit))) (now (work .exit)))) ⌝ }
 {
-    let r = fs_calls::list_files(dir_hash, dir_table, file_hash, file_table, work, inode, list);
+    let r = fs_calls::list_files(
+        dir_hash,
+        dir_table,
+        file_hash,
+        file_table,
+        work,
+        inode,
+        list,
+    );
     let answer = r.answer;
     Listed {
         answer: order::number(answer),
@@ -203,7 +259,15 @@ pub extern "C" fn mukthiban_tree_set_carried_file(
     ensures { λ p. ⌜ ((a : Answer) × (p .answer ≡ numberOf a) × SetCarriedFilePromise (tables (now («dir_hash» .entry)) (now («dir_table» .entry)) (now («file_hash» .entry)) (now («file_table» .entry))) (now (work .entry)) inode (now (carried .entry)) (beside (carryGives a (tables (now («dir_hash» .entry)) (now («dir_table» .entry)) (now («file_hash» .entry)) (now («file_table» .exit)))) (now (work .exit)))) ⌝ }
 {
     let bytes = *carried;
-    let answer = fs_calls::set_carried_file(dir_hash, dir_table, file_hash, file_table, work, inode, bytes);
+    let answer = fs_calls::set_carried_file(
+        dir_hash,
+        dir_table,
+        file_hash,
+        file_table,
+        work,
+        inode,
+        bytes,
+    );
     Plain {
         answer: order::number(answer),
     }
@@ -221,7 +285,15 @@ pub extern "C" fn mukthiban_tree_open_file(
 ) -> Plain
     ensures { λ p. ⌜ ((a : Answer) × (p .answer ≡ numberOf a) × OpenFilePromise (tables (now («dir_hash» .entry)) (now («dir_table» .entry)) (now («file_hash» .entry)) (now («file_table» .entry))) (now (opens .entry)) (now (work .entry)) inode (beside (openingGives a (now (opens .exit))) (now (work .exit)))) ⌝ }
 {
-    let answer = fs_calls::open_file(dir_hash, dir_table, file_hash, file_table, work, opens, inode);
+    let answer = fs_calls::open_file(
+        dir_hash,
+        dir_table,
+        file_hash,
+        file_table,
+        work,
+        opens,
+        inode,
+    );
     Plain {
         answer: order::number(answer),
     }
@@ -239,7 +311,15 @@ pub extern "C" fn mukthiban_tree_close_file(
 ) -> Plain
     ensures { λ p. ⌜ ((a : Answer) × (p .answer ≡ numberOf a) × CloseFilePromise (tables (now («dir_hash» .entry)) (now («dir_table» .entry)) (now («file_hash» .entry)) (now («file_table» .entry))) (now (opens .entry)) (now (work .entry)) inode (beside (openingGives a (now (opens .exit))) (now (work .exit)))) ⌝ }
 {
-    let answer = fs_calls::close_file(dir_hash, dir_table, file_hash, file_table, work, opens, inode);
+    let answer = fs_calls::close_file(
+        dir_hash,
+        dir_table,
+        file_hash,
+        file_table,
+        work,
+        opens,
+        inode,
+    );
     Plain {
         answer: order::number(answer),
     }

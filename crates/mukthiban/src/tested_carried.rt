@@ -1,0 +1,90 @@
+// The inner calls on carried bytes, for a side that has tested its tables once and keeps them sound.
+ghost use mathlib.Core.Path.{_≡_};
+ghost use Rattle.order.specs.Answer.{numberOf};
+ghost use Rattle.order.specs.declared.Answer.{Answer};
+ghost use lib.ListN.{replicate};
+ghost use Rattle.order.specs.First.{First};
+ghost use Rattle.fs_meta.specs.Ready.{Ready};
+ghost use Rattle.fs_meta.specs.Tables.{tables, dirs, files};
+ghost use Rattle.fs_meta.specs.Calls.{shownRows, shownGives, dirCarriedDone, fileCarriedDone, carryRows, carryGives, carryDirDone, carryFileDone};
+use crate::Plain;
+
+#[no_mangle]
+pub extern "C" fn mukthiban_tested_tree_carried_dir(
+    dir_hash: &[u8],
+    dir_table: &[u8],
+    file_hash: &[u8],
+    file_table: &[u8],
+    inode: u32,
+    carried: &mut [u8; 4],
+) -> Plain
+    requires { ⌜ Ready (tables (now «dir_hash») (now «dir_table») (now «file_hash») (now «file_table»)) ⌝ }
+    ensures { λ p. ⌜ ((a : Answer) × (p .answer ≡ numberOf a) × First (shownRows (dirs (tables (now («dir_hash» .entry)) (now («dir_table» .entry)) (now («file_hash» .entry)) (now («file_table» .entry)))) inode (replicate 4 0)) (dirCarriedDone (tables (now («dir_hash» .entry)) (now («dir_table» .entry)) (now («file_hash» .entry)) (now («file_table» .entry))) inode) (shownGives a (now (carried .exit)))) ⌝ }
+{
+    let r = fs_meta::carry::carried_dir(dir_hash, dir_table, inode);
+    let bytes = r.bytes;
+    *carried = bytes;
+    let answer = r.answer;
+    Plain {
+        answer: order::number(answer),
+    }
+}
+
+#[no_mangle]
+pub extern "C" fn mukthiban_tested_tree_carried_file(
+    dir_hash: &[u8],
+    dir_table: &[u8],
+    file_hash: &[u8],
+    file_table: &[u8],
+    inode: u32,
+    carried: &mut [u8; 20],
+) -> Plain
+    requires { ⌜ Ready (tables (now «dir_hash») (now «dir_table») (now «file_hash») (now «file_table»)) ⌝ }
+    ensures { λ p. ⌜ ((a : Answer) × (p .answer ≡ numberOf a) × First (shownRows (files (tables (now («dir_hash» .entry)) (now («dir_table» .entry)) (now («file_hash» .entry)) (now («file_table» .entry)))) inode (replicate 20 0)) (fileCarriedDone (tables (now («dir_hash» .entry)) (now («dir_table» .entry)) (now («file_hash» .entry)) (now («file_table» .entry))) inode) (shownGives a (now (carried .exit)))) ⌝ }
+{
+    let r = fs_meta::carry::carried_file(file_hash, file_table, inode);
+    let bytes = r.bytes;
+    *carried = bytes;
+    let answer = r.answer;
+    Plain {
+        answer: order::number(answer),
+    }
+}
+
+#[no_mangle]
+pub extern "C" fn mukthiban_tested_tree_set_carried_dir(
+    dir_hash: &[u8],
+    dir_table: &mut [u8],
+    file_hash: &[u8],
+    file_table: &[u8],
+    inode: u32,
+    carried: &[u8; 4],
+) -> Plain
+    requires { ⌜ Ready (tables (now «dir_hash») (now «dir_table») (now «file_hash») (now «file_table»)) ⌝ }
+    ensures { λ p. ⌜ ((a : Answer) × (p .answer ≡ numberOf a) × First (carryRows (tables (now («dir_hash» .entry)) (now («dir_table» .entry)) (now («file_hash» .entry)) (now («file_table» .entry))) (dirs (tables (now («dir_hash» .entry)) (now («dir_table» .entry)) (now («file_hash» .entry)) (now («file_table» .entry)))) inode) (carryDirDone (tables (now («dir_hash» .entry)) (now («dir_table» .entry)) (now («file_hash» .entry)) (now («file_table» .entry))) inode (now (carried .entry))) (carryGives a (tables (now («dir_hash» .entry)) (now («dir_table» .exit)) (now («file_hash» .entry)) (now («file_table» .entry))))) ⌝ }
+{
+    let bytes = *carried;
+    let answer = fs_meta::carry::set_carried_dir(dir_hash, dir_table, inode, bytes);
+    Plain {
+        answer: order::number(answer),
+    }
+}
+
+#[no_mangle]
+pub extern "C" fn mukthiban_tested_tree_set_carried_file(
+    dir_hash: &[u8],
+    dir_table: &[u8],
+    file_hash: &[u8],
+    file_table: &mut [u8],
+    inode: u32,
+    carried: &[u8; 20],
+) -> Plain
+    requires { ⌜ Ready (tables (now «dir_hash») (now «dir_table») (now «file_hash») (now «file_table»)) ⌝ }
+    ensures { λ p. ⌜ ((a : Answer) × (p .answer ≡ numberOf a) × First (carryRows (tables (now («dir_hash» .entry)) (now («dir_table» .entry)) (now («file_hash» .entry)) (now («file_table» .entry))) (files (tables (now («dir_hash» .entry)) (now («dir_table» .entry)) (now («file_hash» .entry)) (now («file_table» .entry)))) inode) (carryFileDone (tables (now («dir_hash» .entry)) (now («dir_table» .entry)) (now («file_hash» .entry)) (now («file_table» .entry))) inode (now (carried .entry))) (carryGives a (tables (now («dir_hash» .entry)) (now («dir_table» .entry)) (now («file_hash» .entry)) (now («file_table» .exit))))) ⌝ }
+{
+    let bytes = *carried;
+    let answer = fs_meta::carry::set_carried_file(file_hash, file_table, inode, bytes);
+    Plain {
+        answer: order::number(answer),
+    }
+}
