@@ -193,39 +193,41 @@ module _ (dh d fh f : List ℕ) (Q : Fine dh d fh f) (x p : ℕ) (name : List �
 -- ---- the theorems
 
 module _ (dh d fh f : List ℕ) (Q : Fine dh d fh f) (RD RF : List ℕ) (T : Tree (dirView dh d) (fileView d fh f) RD RF) where
-  pub renamed-dir-kept : (x : ℕ) (lx : Live (dirView dh d) RD x) (n1 : x ≢ 1) (p : ℕ) → Live (dirView dh d) RD p → (name : List ℕ) → Bytes name
-      → ((y : ℕ) → Live (dirView dh d) RD y → y ≢ x → dirView dh d .key y ≢ nameKey p name)
-      → ((qs : List ℕ) → Links (up (dirView dh d)) p qs → x ∈ qs → ⊥)
-      → Tree (dirView (renamedDir (tables dh d fh f) x p name .dirHash) (renamedDir (tables dh d fh f) x p name .dirTable)) (fileView (renamedDir (tables dh d fh f) x p name .dirTable) fh f) RD RF
-  renamed-dir-kept x lx n1 p lp name bn fresh above =
-      tree-agree (link (unlink (dirView dh d) x) x (nameKey p name)) (dirView (t2 .dirHash) (t2 .dirTable)) (fileView d fh f) (fileView (t2 .dirTable) fh f) RD RF
-      (renamed-dir (dirView dh d) (fileView d fh f) RD RF T x (nameKey p name) lx n1 lp (Q .dir-some) fresh above)
-      (agree-trans (link (unlink (dirView dh d) x) x (nameKey p name)) (link D1 x (nameKey p name)) (dirView (t2 .dirHash) (t2 .dirTable))
-      (link-agree (unlink (dirView dh d) x) D1 x (nameKey p name) (lp .0) A)
-      (linked-dir (t1 .dirHash) (t1 .dirTable) fh f fine x p name bn (lx .0) in-room p-room))
-      (files-same d (t2 .dirTable) fh f
-      (λ y. linked-heads (t1 .dirHash) (t1 .dirTable) fh f fine x p name bn (lx .0) in-room p-room y ∙ unlinked-heads dh d fh f Q RD RF T x lx n1 y 8 (omega arith) (omega arith)))
-    where
-      t1 : Tables
-      t1 = unlinkedDir (tables dh d fh f) x
+  module _ (x : ℕ) (lx : Live (dirView dh d) RD x) (n1 : x ≢ 1) (p : ℕ) (lp : Live (dirView dh d) RD p) (name : List ℕ) (bn : Bytes name) where
+    abbrev t1 : Tables
+    t1 = unlinkedDir (tables dh d fh f) x
 
-      t2 : Tables
-      t2 = renamedDir (tables dh d fh f) x p name
+    abbrev t2 : Tables
+    t2 = renamedDir (tables dh d fh f) x p name
 
-      D1 : View
-      D1 = dirView (t1 .dirHash) (t1 .dirTable)
+    A : Agree (unlink (dirView dh d) x) (dirView (t1 .dirHash) (t1 .dirTable))
+    A = unlinked-dir dh d fh f Q RD RF T x lx n1
 
-      A : Agree (unlink (dirView dh d) x) D1
-      A = unlinked-dir dh d fh f Q RD RF T x lx n1
+    fine : Fine (t1 .dirHash) (t1 .dirTable) fh f
+    fine = unlinked-dir-fine dh d fh f Q RD RF T x lx n1
 
-      fine : Fine (t1 .dirHash) (t1 .dirTable) fh f
-      fine = unlinked-dir-fine dh d fh f Q RD RF T x lx n1
+    in-room : x < length (t1 .dirTable) / 40
+    in-room = subst (λ n. x < n) (sym (A .room)) (dir-low dh d fh f Q RD RF T x (lx .1))
 
-      in-room : x < length (t1 .dirTable) / 40
-      in-room = subst (λ n. x < n) (sym (A .room)) (dir-low dh d fh f Q RD RF T x (lx .1))
+    p-room : p < length (t1 .dirTable) / 40
+    p-room = subst (λ n. p < n) (sym (A .room)) (dir-low dh d fh f Q RD RF T p (lp .1))
 
-      p-room : p < length (t1 .dirTable) / 40
-      p-room = subst (λ n. p < n) (sym (A .room)) (dir-low dh d fh f Q RD RF T p (lp .1))
+    -- the directories afterwards, whether or not x went below itself
+    pub renamed-dir-agrees : Agree (link (unlink (dirView dh d) x) x (nameKey p name)) (dirView (t2 .dirHash) (t2 .dirTable))
+    renamed-dir-agrees =
+        agree-trans (link (unlink (dirView dh d) x) x (nameKey p name)) (link (dirView (t1 .dirHash) (t1 .dirTable)) x (nameKey p name)) (dirView (t2 .dirHash) (t2 .dirTable))
+        (link-agree (unlink (dirView dh d) x) (dirView (t1 .dirHash) (t1 .dirTable)) x (nameKey p name) (lp .0) A)
+        (linked-dir (t1 .dirHash) (t1 .dirTable) fh f fine x p name bn (lx .0) in-room p-room)
+
+    pub renamed-dir-kept : ((y : ℕ) → Live (dirView dh d) RD y → y ≢ x → dirView dh d .key y ≢ nameKey p name)
+        → ((qs : List ℕ) → Links (up (dirView dh d)) p qs → x ∈ qs → ⊥)
+        → Tree (dirView (t2 .dirHash) (t2 .dirTable)) (fileView (t2 .dirTable) fh f) RD RF
+    renamed-dir-kept fresh above =
+        tree-agree (link (unlink (dirView dh d) x) x (nameKey p name)) (dirView (t2 .dirHash) (t2 .dirTable)) (fileView d fh f) (fileView (t2 .dirTable) fh f) RD RF
+        (renamed-dir (dirView dh d) (fileView d fh f) RD RF T x (nameKey p name) lx n1 lp (Q .dir-some) fresh above)
+        renamed-dir-agrees
+        (files-same d (t2 .dirTable) fh f
+        (λ y. linked-heads (t1 .dirHash) (t1 .dirTable) fh f fine x p name bn (lx .0) in-room p-room y ∙ unlinked-heads dh d fh f Q RD RF T x lx n1 y 8 (omega arith) (omega arith)))
 
   pub carried-dir-kept : (x : ℕ) → Live (dirView dh d) RD x → (bytes : List ℕ) → Bytes bytes
       → Tree (dirView dh (carriedDir (tables dh d fh f) x bytes .dirTable)) (fileView (carriedDir (tables dh d fh f) x bytes .dirTable) fh f) RD RF

@@ -1,18 +1,17 @@
 -- Every tree call that is answered Done leaves sound tables: where document 01's rows let a step pass, the step keeps Sound. The hypotheses are the
 -- rows' own conditions, not met. Assumes nothing.
-use mathlib.Core.Path.{_≡_, refl, sym, ap, _∙_, subst}
+use mathlib.Core.Path.{_≡_, refl, sym, ap, subst}
 use mathlib.Core.List.{List, [], _∷_}
 use mathlib.Core.Logic.{_⊎_, inl, inr, ⊎-elim, _≢_}
-use Prim.Native.Nat.{ℕ, zero, suc, _+_, _-_, _≤_, _<_}
+use Prim.Native.Nat.{ℕ, zero, suc, _-_, _<_}
 use native.Mathlib.Omega.{arith}
 use lib.ListN.{length}
 use Rattle.words.proofs.Laws.{Bytes}
 use Rattle.links.specs.Links.{_∈_, Links}
 use Rattle.links.specs.Change.{walk}
-use Rattle.links.proofs.Laws.{one-list, walked, fewer}
 use Rattle.links.proofs.Held.{same-or}
 use Rattle.meta_key.specs.Key.{nameKey}
-use Rattle.meta_table.specs.View.{View, parent, removedOf, LiveIn}
+use Rattle.meta_table.specs.View.{View, removedOf, LiveIn}
 use Rattle.meta_table.specs.Steps.{freeOf}
 use Rattle.meta_table.proofs.Table.{Space, rest}
 use Rattle.meta_tree.specs.Sound.{Sound, up}
@@ -20,13 +19,14 @@ use Rattle.meta_tree.proofs.Tree.{Tree}
 use Rattle.meta_tree.proofs.Equal.{tree-of, sound-of}
 use Rattle.fs_meta.specs.Tables.{Tables, dirs, files, Has, HasOther, above}
 use Rattle.fs_meta.specs.Steps.{madeDir, madeFile, deletedDir, deletedFile, renamedDir, renamedFile, carriedDir, carriedFile}
+use Rattle.fs_kept.proofs.Above.{way-up}
 use Rattle.fs_kept.proofs.Files.{Fine, deleted-file-kept, renamed-file-kept}
 use Rattle.fs_kept.proofs.MakeFile.{carried-file-kept, made-file-kept}
 use Rattle.fs_kept.proofs.Dirs.{renamed-dir-kept, carried-dir-kept}
 use Rattle.fs_kept.proofs.MakeDir.{made-dir-kept}
 use Rattle.fs_kept.proofs.DeleteDir.{deleted-dir-kept}
 
-walk-zero : (next : ℕ → ℕ) (k h : ℕ) → h ≡ 0 → walk next k h ≡ []
+pub walk-zero : (next : ℕ → ℕ) (k h : ℕ) → h ≡ 0 → walk next k h ≡ []
 walk-zero next zero h e = refl
 walk-zero next (suc k) h e = ap (walk next (suc k)) e
 
@@ -70,25 +70,9 @@ module _ (s : Tables) (Q : Fine (s .dirHash) (s .dirTable) (s .fileHash) (s .fil
       sound-of (dirs (deletedFile s x)) (files (deletedFile s x)) (removedOf (dirs s)) (x ∷ removedOf (files s))
       (deleted-file-kept (s .dirHash) (s .dirTable) (s .fileHash) (s .fileTable) Q (removedOf (dirs s)) (removedOf (files s)) T x lx)
 
-  -- the directories above a live one are below count
-  above-low : (y : ℕ) (xs : List ℕ) → LiveIn (dirs s) y → Links (up (dirs s)) y xs → (z : ℕ) → z ∈ xs → z < dirs s .count
-  above-low y (a ∷ xs) ly l z (inl e) = let q : y ≡ a = l .0 in let b : y < dirs s .count = ly .1 in subst (λ n. n < dirs s .count) (q ∙ sym e) b
-  above-low y (a ∷ xs) ly l z (inr m) =
-      ⊎-elim
-      (λ (e : a ≡ 1).
-      let u : up (dirs s) a ≡ 0 = ap (up (dirs s)) e ∙ ap parent (S .root-key) in
-      let n : xs ≡ [] = one-list (up (dirs s)) (up (dirs s) a) 0 xs [] u (l .2) refl in
-      absurd (subst (λ zs. z ∈ zs) n m))
-      (λ (e : a ≢ 1). above-low (up (dirs s) a) xs (S .dir-parents a (subst (λ w. LiveIn (dirs s) w) (l .0) ly) e) (l .2) z m)
-      (same-or a 1)
-
   -- the way up from p is the list that `above` walks: so what is not in it is not above p
   not-above : (x p : ℕ) → LiveIn (dirs s) p → (x ∈ above (dirs s) p → ⊥) → (qs : List ℕ) → Links (up (dirs s)) p qs → x ∈ qs → ⊥
-  not-above x p lp free qs l m =
-      let c : 0 < dirs s .count = (let a = S .dirs .count-one in omega arith) in
-      let low : (z : ℕ) → z ∈ qs → z < dirs s .count = above-low p qs lp l in
-      let q : length qs < dirs s .count = fewer (up (dirs s)) (dirs s .count) p qs c l low in
-      free (subst (λ zs. x ∈ zs) (sym (walked (up (dirs s)) (dirs s .count) p qs l (omega arith))) m)
+  not-above x p lp free qs l m = free (subst (λ zs. x ∈ zs) (sym (way-up (dirs s) (files s) S p lp qs l)) m)
 
   pub kept-rename-dir : (x p : ℕ) (name : List ℕ) → Bytes name → LiveIn (dirs s) x → (x ≡ 1 → ⊥) → LiveIn (dirs s) p → (x ∈ above (dirs s) p → ⊥)
       → (HasOther (dirs s) x (nameKey p name) → ⊥) → Sound (dirs (renamedDir s x p name)) (files (renamedDir s x p name))

@@ -1,5 +1,6 @@
 pub mod Tables
 pub mod Loose
+pub mod Above
 pub mod Files
 pub mod MakeFile
 pub mod Dirs

@@ -1,0 +1,9 @@
+pub mod Rows
+pub mod Stable
+pub mod Sizes
+pub mod Good
+pub mod Steps
+pub mod Calls
+pub mod Formats
+pub mod Looks
+pub mod Theorems

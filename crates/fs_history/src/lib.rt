@@ -1,0 +1,1 @@
+// Whole histories of the calls on the entry tables: theorems, and no code.
