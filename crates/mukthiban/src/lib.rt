@@ -3,6 +3,7 @@
 mod blocks;
 mod change;
 mod look;
+mod name;
 mod tested_blocks;
 mod tested_carried;
 mod tested_change;

@@ -1,0 +1,113 @@
+-- The promise of the name's export, from that of the call and by the kind. Assumes nothing.
+use mathlib.Core.Path.{_≡_, refl, ap, subst⁻¹}
+use mathlib.Core.Bool.{Bool, true, false, not}
+use mathlib.Core.List.{List, [], _∷_}
+use mathlib.Core.Logic.{_⊎_, inl, inr, ⊎-elim}
+use Prim.Native.Nat.{ℕ, zero, suc, _+_, _*_, _≤_, _<_}
+use native.Mathlib.Omega.{arith}
+use borrow.Author.Tests.{not-true, not-false}
+use Rattle.order.specs.First.{First, row}
+use Rattle.order.specs.Gate.{gate, cleared}
+use Rattle.order.specs.Beside.{Beside, beside, Promised}
+use Rattle.order.specs.Answer.{numberOf}
+use Rattle.order.specs.declared.Answer.{Answer}
+use Rattle.order.specs.declared.Answer.the-variants.{Done, NotFound, BrokenTree, SizeMismatch, InvalidValue}
+use Rattle.meta_tree.specs.Sizes.{Misfit, rooms}
+use Rattle.fs_meta.specs.Tables.{Tables}
+use Rattle.fs_meta.specs.Ready.{LiveAt}
+use Rattle.fs_meta.proofs.Live.{Tells}
+use Rattle.fs_meta.proofs.Opens.{not-live}
+use Rattle.fs_meta.specs.declared.Kind.the-variants.{Directory, File}
+use Rattle.fs_name.specs.Name.{NameAnswerPromise}
+use Rattle.mukthiban.specs.Name.{Naming, namedGives, placed, nameRows, nameDone, NamePromise}
+
+-- an answer with its place
+abbrev naming : ℕ → Answer → Naming
+naming at a = namedGives a (placed (numberOf a) at)
+
+module _ {misfit outside other short unsound dead : Type 0} (k at : ℕ) (work w : List ℕ) (a : Answer) (no : other → ⊥) where
+  -- the rows of the answer alone, as rows of the answer with its place
+  pub with-place : Promised (gate (λ a w. beside a w) misfit outside short unsound BrokenTree k work) (cleared k work) (row dead NotFound ∷ []) Done (beside a w)
+      → Promised (gate (λ a w. beside (namedGives a 0) w) misfit (outside ⊎ other) short unsound BrokenTree k work) (cleared k work)
+      (row dead (namedGives NotFound 0) ∷ []) (namedGives Done at) (beside (naming at a) w)
+  with-place (inl p) = inl (p .0, ap (λ (o : Beside Answer). beside (naming at (o .given)) (o .work)) (p .1))
+  with-place (inr (m, inl p)) = inr (m, inl (inl (p .0), ap (λ (o : Beside Answer). beside (naming at (o .given)) (o .work)) (p .1)))
+  with-place (inr (m, inr (i, inl p))) =
+      inr (m, inr (⊎-elim i no, inl (p .0, ap (λ (o : Beside Answer). beside (naming at (o .given)) (o .work)) (p .1))))
+  with-place (inr (m, inr (i, inr (s, inl p)))) =
+      inr (m, inr (⊎-elim i no, inr (s, inl (p .0, ap (λ (o : Beside Answer). beside (naming at (o .given)) (o .work)) (p .1)))))
+  with-place (inr (m, inr (i, inr (s, inr (u, inl p))))) =
+      inr (m, inr (⊎-elim i no, inr (s, inr (u, inl (p .0, ap (λ (o : Beside Answer). beside (naming at (o .given)) (o .work)) (p .1))))))
+  with-place (inr (m, inr (i, inr (s, inr (u, inr (d, p)))))) =
+      inr (m, inr (⊎-elim i no, inr (s, inr (u, inr (d, ap (λ (o : Beside Answer). beside (naming at (o .given)) (o .work)) p)))))
+
+-- a number that is not 0 goes with no place
+pub place-none : (n m at : ℕ) → m ≡ n → (m ≡ 0 → ⊥) → (m ≡ n) × (0 ≡ placed n at)
+place-none zero m at e z = absurd (z e)
+place-none (suc n) m at e z = (e, refl)
+
+-- there is an answer with the number n, of which P holds
+abbrev Exported : ℕ → (Answer → Type 0) → Type 0
+Exported n P = (a : Answer) × (n ≡ numberOf a) × P a
+
+module _ (s : Tables) (work w : List ℕ) (kind x n off : ℕ) (a : Answer) (number : n ≡ numberOf a) where
+  -- the directories
+  pub dir-named : kind ≡ 0 → NameAnswerPromise s work Directory x (beside a w) → off ≡ placed (numberOf a) (x * 40 + 4)
+      → Exported n (λ a. NamePromise s work kind x (beside (namedGives a off) w))
+  dir-named e p z = (
+    a,
+    number,
+    subst⁻¹ (λ (o : ℕ). NamePromise s work kind x (beside (namedGives a o) w)) z
+        (subst⁻¹ (λ (k : ℕ). NamePromise s work k x (beside (naming (x * 40 + 4) a) w)) e
+        (with-place (rooms (s .dirTable) (s .fileTable)) (x * 40 + 4) work w a (λ h. omega (arith, h)) p)),
+  )
+
+  -- the files
+  pub file-named : kind ≡ 1 → NameAnswerPromise s work File x (beside a w) → off ≡ placed (numberOf a) (x * 48 + 4)
+      → Exported n (λ a. NamePromise s work kind x (beside (namedGives a off) w))
+  file-named e p z = (
+    a,
+    number,
+    subst⁻¹ (λ (o : ℕ). NamePromise s work kind x (beside (namedGives a o) w)) z
+        (subst⁻¹ (λ (k : ℕ). NamePromise s work k x (beside (naming (x * 48 + 4) a) w)) e
+        (with-place (rooms (s .dirTable) (s .fileTable)) (x * 48 + 4) work w a (λ h. omega (arith, h)) p)),
+  )
+
+module _ (s : Tables) (work : List ℕ) (kind x n off : ℕ) where
+  -- another kind: the sizes do not fit, or they do
+  pub other-misfit : Misfit (s .dirHash) (s .dirTable) (s .fileHash) (s .fileTable) → n ≡ 1 → off ≡ 0
+      → Exported n (λ a. NamePromise s work kind x (beside (namedGives a off) work))
+  other-misfit m e z = (SizeMismatch, e, inl (m, ap (λ (o : ℕ). beside (namedGives SizeMismatch o) work) z))
+
+  pub other-kind : (Misfit (s .dirHash) (s .dirTable) (s .fileHash) (s .fileTable) → ⊥) → (kind ≡ 0 → ⊥) → (kind ≡ 1 → ⊥) → n ≡ 2 → off ≡ 0
+      → Exported n (λ a. NamePromise s work kind x (beside (namedGives a off) work))
+  other-kind m k k′ e z =
+      (InvalidValue, e, inr (m, inl (inr (beyond-one kind k k′), ap (λ (o : ℕ). beside (namedGives InvalidValue o) work) z)))
+    where
+      beyond-one : (k : ℕ) → (k ≡ 0 → ⊥) → (k ≡ 1 → ⊥) → 1 < k
+      beyond-one zero p q = absurd (p refl)
+      beyond-one (suc zero) p q = absurd (q refl)
+      beyond-one (suc (suc k)) p q = omega arith
+
+-- the inner call: the entry is not there, or is
+module _ {r : Bool} {P : Type 0} (T : Tells r P) (at n off : ℕ) where
+  pub inner-none : not r ≡ true → n ≡ 10 → off ≡ 0 → Exported n (λ a. First (row (P → ⊥) (namedGives NotFound 0) ∷ []) (namedGives Done at) (namedGives a off))
+  inner-none e q z = (NotFound, q, inl (not-live T (not-true _ e), ap (namedGives NotFound) z))
+
+  pub inner-done : not r ≡ false → n ≡ 0 → off ≡ at → Exported n (λ a. First (row (P → ⊥) (namedGives NotFound 0) ∷ []) (namedGives Done at) (namedGives a off))
+  inner-done e q z = (Done, q, inr (λ k. k (T .0 (not-false _ e)), ap (namedGives Done) z))
+
+module _ (s : Tables) (kind x n off : ℕ) where
+  pub inner-dir : kind ≡ 0
+      → Exported n (λ a. First (row (LiveAt 40 (s .dirTable) x → ⊥) (namedGives NotFound 0) ∷ []) (namedGives Done (x * 40 + 4)) (namedGives a off))
+      → Exported n (λ a. First (nameRows s kind x) (nameDone kind x) (namedGives a off))
+  inner-dir e p = subst⁻¹ (λ (k : ℕ). Exported n (λ a. First (nameRows s k x) (nameDone k x) (namedGives a off))) e p
+
+  pub inner-file : kind ≤ 1 → (kind ≡ 0 → ⊥)
+      → Exported n (λ a. First (row (LiveAt 48 (s .fileTable) x → ⊥) (namedGives NotFound 0) ∷ []) (namedGives Done (x * 48 + 4)) (namedGives a off))
+      → Exported n (λ a. First (nameRows s kind x) (nameDone kind x) (namedGives a off))
+  inner-file h k p = subst⁻¹ (λ (k : ℕ). Exported n (λ a. First (nameRows s k x) (nameDone k x) (namedGives a off))) (one kind h k) p
+    where
+      one : (k : ℕ) → k ≤ 1 → (k ≡ 0 → ⊥) → k ≡ 1
+      one zero h q = absurd (q refl)
+      one (suc k) h q = omega arith

@@ -1,0 +1,134 @@
+// The name of an entry, answered as the place of its sixteen bytes in the table that the kind selects: 0 the directories, 1 the files.
+ghost use mathlib.Core.Path.{_≡_};
+ghost use mathlib.Core.List.{[], _∷_};
+ghost use Prim.Native.Nat.{_≤_};
+ghost use Rattle.order.specs.Answer.{numberOf};
+ghost use Rattle.order.specs.First.{First, row};
+ghost use Rattle.order.specs.Beside.{beside};
+ghost use Rattle.order.specs.declared.Answer.{Answer};
+ghost use Rattle.order.specs.declared.Answer.the-variants.{Done, NotFound};
+ghost use Rattle.meta_marks.specs.Marks.{Tells};
+ghost use Rattle.meta_tree.specs.Sizes.{Misfit};
+ghost use Rattle.fs_meta.specs.Tables.{tables};
+ghost use Rattle.fs_meta.specs.Ready.{Ready, Single, LiveAt};
+ghost use Rattle.mukthiban.specs.Name.{namedGives, placed, nameRows, nameDone, NamePromise};
+use crate::Named;
+use fs_meta::Kind;
+use meta_key::SaveExtDirEntry;
+use meta_key::SaveExtFileEntry;
+use order::Answer;
+
+// Where the name stands in an entry: behind the parent's four bytes.
+const NAME: usize = 4;
+
+// The number of an answer, with the place of the name for Done.
+fn named(answer: Answer, at: usize) -> Named
+    ensures { λ p. ⌜ (p .answer ≡ numberOf answer) × (p .offset ≡ placed (numberOf answer) at) ⌝ }
+{
+    let number = order::number(answer);
+    if number == 0 {
+        return Named {
+            answer: number,
+            offset: at,
+        };
+    }
+    Named {
+        answer: number,
+        offset: 0,
+    }
+}
+
+// Whether one of the four does not fit.
+fn misfit(dir_hash: &[u8], dir_table: &[u8], file_hash: &[u8], file_table: &[u8]) -> bool
+    ensures { λ r. ⌜ Tells (Misfit (now («dir_hash» .entry)) (now («dir_table» .entry)) (now («file_hash» .entry)) (now («file_table» .entry))) r ⌝ }
+{
+    if meta_test::hash_misfit(dir_hash) {
+        return true;
+    }
+    if dir_table.len() < SaveExtDirEntry::WIDTH {
+        return true;
+    }
+    if meta_test::hash_misfit(file_hash) {
+        return true;
+    }
+    if file_table.len() < SaveExtFileEntry::WIDTH {
+        return true;
+    }
+    false
+}
+
+#[no_mangle]
+pub extern "C" fn mukthiban_tree_name(
+    dir_hash: &[u8],
+    dir_table: &[u8],
+    file_hash: &[u8],
+    file_table: &[u8],
+    work: &mut [u32],
+    kind: u32,
+    inode: u32,
+) -> Named
+    ensures { λ p. ⌜ ((a : Answer) × (p .answer ≡ numberOf a) × NamePromise (tables (now («dir_hash» .entry)) (now («dir_table» .entry)) (now («file_hash» .entry)) (now («file_table» .entry))) (now (work .entry)) kind inode (beside (namedGives a (p .offset)) (now (work .exit)))) ⌝ }
+{
+    if kind == 0 {
+        let r = fs_name::name_answer(
+            dir_hash,
+            dir_table,
+            file_hash,
+            file_table,
+            work,
+            Kind::Directory,
+            inode,
+        );
+        let answer = r.answer;
+        return named(answer, inode as usize * SaveExtDirEntry::WIDTH + NAME);
+    }
+    if kind == 1 {
+        let r = fs_name::name_answer(
+            dir_hash,
+            dir_table,
+            file_hash,
+            file_table,
+            work,
+            Kind::File,
+            inode,
+        );
+        let answer = r.answer;
+        return named(answer, inode as usize * SaveExtFileEntry::WIDTH + NAME);
+    }
+    if misfit(dir_hash, dir_table, file_hash, file_table) {
+        return named(Answer::SizeMismatch, 0);
+    }
+    named(Answer::InvalidValue, 0)
+}
+
+// The name of entry x of a sound table of width w, which stands at `at`.
+fn name_in(hash: &[u8], table: &[u8], w: usize, x: u32, at: usize) -> Named
+    requires { ⌜ Single (now hash) (now table) w ⌝ }
+    ensures { λ p. ⌜ ((a : Answer) × (p .answer ≡ numberOf a) × First (row (LiveAt w (now (table .entry)) x → ⊥) (namedGives NotFound 0) ∷ []) (namedGives Done at) (namedGives a (p .offset))) ⌝ }
+{
+    if !fs_meta::look::live(hash, table, w, x) {
+        return named(Answer::NotFound, 0);
+    }
+    named(Answer::Done, at)
+}
+
+// The inner call, for a side that has tested its tables once and keeps them sound.
+#[no_mangle]
+pub extern "C" fn mukthiban_tested_tree_name(
+    dir_hash: &[u8],
+    dir_table: &[u8],
+    file_hash: &[u8],
+    file_table: &[u8],
+    kind: u32,
+    inode: u32,
+) -> Named
+    requires { ⌜ Ready (tables (now «dir_hash») (now «dir_table») (now «file_hash») (now «file_table»)) × (kind ≤ 1) ⌝ }
+    ensures { λ p. ⌜ ((a : Answer) × (p .answer ≡ numberOf a) × First (nameRows (tables (now («dir_hash» .entry)) (now («dir_table» .entry)) (now («file_hash» .entry)) (now («file_table» .entry))) kind inode) (nameDone kind inode) (namedGives a (p .offset))) ⌝ }
+{
+    if kind == 0 {
+        let at = inode as usize * SaveExtDirEntry::WIDTH + NAME;
+        return name_in(dir_hash, dir_table, SaveExtDirEntry::WIDTH, inode, at);
+    }
+    let at = inode as usize * SaveExtFileEntry::WIDTH + NAME;
+    name_in(file_hash, file_table, SaveExtFileEntry::WIDTH, inode, at)
+}
