@@ -1,11 +1,11 @@
 // The public calls that change the entry tables: make, rename and delete. Every call takes all four tables, a work list and the open counts of its own table;
-// it tests sizes and soundness, and then does its work by the call of fs_meta that requires soundness. What each promises on all inputs stands in fs_meta's
+// it tests sizes and soundness, and then does its work by the call of fs_step that requires soundness. What each promises on all inputs stands in fs_meta's
 // specs/Public.antt. A refusal gives its number and changes nothing but the work list.
 ghost use Rattle.order.specs.Beside.{beside};
 ghost use Rattle.fs_meta.specs.Tables.{tables};
 ghost use Rattle.fs_meta.specs.Calls.{makeGives, changeGives};
 ghost use Rattle.fs_meta.specs.Public.{MakeDirPromise, MakeFilePromise, RenameDirPromise, RenameFilePromise, DeleteDirPromise, DeleteFilePromise};
-use fs_meta::make::Made;
+use fs_step::make::Made;
 use meta_key::SaveExtDirEntry;
 use meta_key::SaveExtFileEntry;
 use meta_test::Gated;
@@ -36,7 +36,7 @@ pub fn make_dir(
     );
     match gated {
         Gated::Refused { answer } => Made { answer, inode: 0 },
-        Gated::Open => fs_meta::make::make_dir(
+        Gated::Open => fs_step::make::make_dir(
             dir_hash,
             dir_table,
             file_hash,
@@ -74,7 +74,7 @@ pub fn make_file(
     );
     match gated {
         Gated::Refused { answer } => Made { answer, inode: 0 },
-        Gated::Open => fs_meta::make::make_file(
+        Gated::Open => fs_step::make::make_file(
             dir_hash,
             dir_table,
             file_hash,
@@ -112,7 +112,7 @@ pub fn rename_dir(
     );
     match gated {
         Gated::Refused { answer } => answer,
-        Gated::Open => fs_meta::change::rename_dir(
+        Gated::Open => fs_step::change::rename_dir(
             dir_hash,
             dir_table,
             file_hash,
@@ -150,7 +150,7 @@ pub fn rename_file(
     );
     match gated {
         Gated::Refused { answer } => answer,
-        Gated::Open => fs_meta::change::rename_file(
+        Gated::Open => fs_step::change::rename_file(
             dir_hash,
             dir_table,
             file_hash,
@@ -186,7 +186,7 @@ pub fn delete_dir(
     );
     match gated {
         Gated::Refused { answer } => answer,
-        Gated::Open => fs_meta::change::delete_dir(
+        Gated::Open => fs_step::change::delete_dir(
             dir_hash,
             dir_table,
             file_hash,
@@ -220,7 +220,7 @@ pub fn delete_file(
     );
     match gated {
         Gated::Refused { answer } => answer,
-        Gated::Open => fs_meta::change::delete_file(
+        Gated::Open => fs_step::change::delete_file(
             dir_hash,
             dir_table,
             file_hash,

@@ -3,9 +3,5 @@ pub mod Live
 pub mod Opens
 pub mod Lookups
 pub mod Listings
-pub mod Seats
-pub mod Links
 pub mod Public
-pub mod Judges
-pub mod Changes
-pub mod Makes
+pub mod Unique

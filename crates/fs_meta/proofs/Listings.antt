@@ -17,12 +17,13 @@ use Rattle.meta_table.specs.Field.{field}
 use Rattle.meta_table.specs.View.{View, childrenOf, removedOf, LiveIn}
 use Rattle.meta_table.specs.Steps.{freeOf}
 use Rattle.meta_table.specs.Chain.{listAt, Ends}
+use Rattle.meta_marks.specs.Marks.{Tells}
 use Rattle.fs_meta.specs.Tables.{Tables, dirs, files}
 use Rattle.fs_meta.specs.Ready.{Ready, LiveAt, Single, alone}
 use Rattle.fs_meta.specs.Calls.{Listing, listGives, shortRows, listedDone, ListDirs, ListFiles, part}
 use Rattle.fs_meta.proofs.Lists.{inside, all-fit, removed-ends, removed-list, child-ends, child-list, dir-single, file-single}
-use Rattle.fs_meta.proofs.Live.{Tells, count-word, first-fits}
-use Rattle.fs_meta.proofs.Opens.{not-live}
+use Rattle.fs_meta.proofs.Live.{count-word, first-fits}
+use Rattle.meta_test.proofs.Cases.{tells-not}
 
 pub short-done : (xs list l : List ℕ) (n : ℕ) → n ≡ length xs → n ≤ length list → l ≡ xs ++ drop (length xs) list
     → First (shortRows xs list) (listedDone xs list) (listGives Done n l)
@@ -51,9 +52,9 @@ part-more t out at i n e h k p =
     rw (add-one, a, b, d, p)
 
 -- the listing of a live directory's children
-module _ (s : Tables) (R : Ready s) (x i : ℕ) {r : Bool} (T : Tells r (LiveAt 40 (s .dirTable) x)) (yes : r ≡ true) (e : i ≡ x) where
+module _ (s : Tables) (R : Ready s) (x i : ℕ) {r : Bool} (T : Tells (LiveAt 40 (s .dirTable) x) r) (yes : r ≡ true) (e : i ≡ x) where
   live-x : LiveIn (dirs s) x
-  live-x = T .0 yes
+  live-x = T .yes yes
 
   -- its entry lies in the table
   pub dir-fits : i * 40 + 40 ≤ length (s .dirTable)

@@ -16,18 +16,10 @@ use Rattle.meta_table.specs.View.{View, keyAt, hashAt, bucketOf}
 use Rattle.meta_table.specs.Chain.{listAt, Ends, member}
 use Rattle.meta_table.proofs.Chain.{key-part, member-in, in-member}
 use Rattle.meta_tree.specs.Sizes.{buckets}
+use Rattle.meta_marks.specs.Marks.{Tells}
+use Rattle.meta_test.proofs.Cases.{told-false}
 use Rattle.fs_meta.specs.Ready.{LiveAt, Single}
 use Rattle.fs_meta.proofs.Lists.{inside, all-fit, bucket-ends, bucket-list, bucket-is}
-
--- a bool that says whether P
-abbrev pub Tells : Bool → Type 0 → Type 0
-Tells r P = (r ≡ true → P) × (P → r ≡ true)
-
-never : false ≡ true → ⊥
-never e = let z : _≡_ {A = ℕ} 0 1 = cc in omega arith
-
-pub no : {P : Type 0} → (P → ⊥) → Tells false P
-no n = (λ e. absurd (never e), λ p. absurd (n p))
 
 pub hash-word : (h : List ℕ) (b : ℕ) → word h (b * 4) ≡ hashAt h b
 unfolding field
@@ -42,11 +34,11 @@ module _ {h t : List ℕ} {w : ℕ} (S : Single h t w) where
   pub first-fits : w ≤ length t
   first-fits = omega (arith, all-fit h t w S, mul-le-mul-right w (S .table .count-one))
 
-  pub live-zero : (x : ℕ) → x ≡ 0 → Tells false (LiveAt w t x)
-  live-zero x e = no (λ l. let p : 0 < x = l .0 in omega arith)
+  pub live-zero : (x : ℕ) → x ≡ 0 → Tells (LiveAt w t x) false
+  live-zero x e = told-false (λ l. let p : 0 < x = l .0 in omega arith)
 
-  pub live-beyond : (x c : ℕ) → c ≡ word t 0 → c ≤ x → Tells false (LiveAt w t x)
-  live-beyond x c e g = no (λ l. let p : x < field w t 0 1 = l .1 in omega (arith, count-word w t))
+  pub live-beyond : (x c : ℕ) → c ≡ word t 0 → c ≤ x → Tells (LiveAt w t x) false
+  live-beyond x c e g = told-false (λ l. let p : x < field w t 0 1 = l .1 in omega (arith, count-word w t))
 
   pub live-inside : (x c i : ℕ) → c ≡ word t 0 → x < c → i ≡ x → i * w + w ≤ length t
   live-inside x c i e g q = inside t w i (field w t 0 1) (omega (arith, count-word w t)) (all-fit h t w S)
@@ -58,13 +50,13 @@ module _ {h t : List ℕ} {w : ℕ} (S : Single h t w) where
   bucket-there b first k e f = subst (λ z. Ends t w (w - 4) z) (sym (f ∙ hash-word h b)) (bucket-ends h t w S b (in-hash b k e))
 
   pub live-told : (x i b first : ℕ) (k : List ℕ) (r : Bool) → i ≡ x → k ≡ keyOf (take (i * w + w - i * w) (drop (i * w) t)) → b ≡ hashOf k % (length h / 4)
-      → first ≡ word h (b * 4) → r ≡ member x (listAt t w (w - 4) first) → Tells r (LiveAt w t x)
+      → first ≡ word h (b * 4) → r ≡ member x (listAt t w (w - 4) first) → Tells (LiveAt w t x) r
   live-told x i b first k r ei ek eb ef er =
       let hb : b < buckets h = in-hash b k eb in
       let key : k ≡ keyAt (field w t) x = ek ∙ key-part w t x (i * w) (ap (λ z. z * w) ei) (omega (arith, S .wide)) in
       let at : hashOf (keyAt (field w t) x) % buckets h ≡ b = ap (λ z. hashOf z % buckets h) (sym key) ∙ sym eb in
       let H = S .table .bucket b hb in
-      let l : listAt t w (w - 4) first ≡ H .0 = ap (listAt t w (w - 4)) (ef ∙ hash-word h b) ∙ bucket-list h t w S b hb ∙ bucket-is h t w S b hb in (
-        λ e. H .2 x .0 (subst (λ z. x ∈ z) l (member-in x (listAt t w (w - 4) first) (sym er ∙ e))) .0,
-        λ p. er ∙ in-member x (listAt t w (w - 4) first) (subst (λ z. x ∈ z) (sym l) (H .2 x .1 (p, at))),
-      )
+      let l : listAt t w (w - 4) first ≡ H .0 = ap (listAt t w (w - 4)) (ef ∙ hash-word h b) ∙ bucket-list h t w S b hb ∙ bucket-is h t w S b hb in record {
+        yes = λ e. H .2 x .0 (subst (λ z. x ∈ z) l (member-in x (listAt t w (w - 4) first) (sym er ∙ e))) .0;
+        only = λ p. er ∙ in-member x (listAt t w (w - 4) first) (subst (λ z. x ∈ z) (sym l) (H .2 x .1 (p, at)));
+      }

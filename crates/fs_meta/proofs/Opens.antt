@@ -11,56 +11,53 @@ use Rattle.order.specs.First.{First, row}
 use Rattle.order.specs.declared.Answer.{Answer}
 use Rattle.order.specs.declared.Answer.the-variants.{Done, NotFound, NotOpen, TooManyOpens}
 use Rattle.meta_table.specs.Field.{field}
+use Rattle.meta_marks.specs.Marks.{Tells}
+use Rattle.meta_test.proofs.Cases.{tells-not}
 use Rattle.fs_meta.specs.Tables.{Tables, tables, dirs, files}
 use Rattle.fs_meta.specs.Steps.{carriedDir, carriedFile}
 use Rattle.fs_meta.specs.Ready.{LiveAt, Single, alone, setGives}
 use Rattle.fs_meta.specs.Calls.{openRows, openDone, closeRows, closeDone, openingGives, part, shownRows, shownGives, carryRows, carryGives, carryDirDone, carryFileDone}
 use Rattle.fs_meta.proofs.Lists.{inside, all-fit}
-use Rattle.fs_meta.proofs.Live.{Tells}
-
--- a test that failed
-pub not-live : {r : Bool} {P : Type 0} → Tells r P → r ≡ false → P → ⊥
-not-live T e p = let z : _≡_ {A = ℕ} 0 1 = (let q = T .1 p in cc) in omega arith
 
 module _ {h t : List ℕ} {w : ℕ} (S : Single h t w) (opens : List ℕ) (room : length t / w ≤ length opens) (x : ℕ) where
   -- a live inode has an open count
-  pub in-opens : {r : Bool} (i : ℕ) → Tells r (LiveAt w t x) → r ≡ true → i ≡ x → i < length opens
-  in-opens i T e q = let l : x < field w t 0 1 = T .0 e .1 in omega (arith, S .table .count-max, S .table .max-room)
+  pub in-opens : {r : Bool} (i : ℕ) → Tells (LiveAt w t x) r → r ≡ true → i ≡ x → i < length opens
+  in-opens i T e q = let l : x < field w t 0 1 = T .yes e .1 in omega (arith, S .table .count-max, S .table .max-room)
 
-  pub open-none : {r : Bool} → Tells r (LiveAt w t x) → r ≡ false → First (openRows (alone w t) opens x) (openDone opens x) (openingGives NotFound opens)
-  open-none T e = inl (not-live T e, refl)
+  pub open-none : {r : Bool} → Tells (LiveAt w t x) r → r ≡ false → First (openRows (alone w t) opens x) (openDone opens x) (openingGives NotFound opens)
+  open-none T e = inl (tells-not T e, refl)
 
-  pub open-full : {r : Bool} (i : ℕ) → Tells r (LiveAt w t x) → r ≡ true → i ≡ x → 65535 ≤ getD opens i 0
+  pub open-full : {r : Bool} (i : ℕ) → Tells (LiveAt w t x) r → r ≡ true → i ≡ x → 65535 ≤ getD opens i 0
       → First (openRows (alone w t) opens x) (openDone opens x) (openingGives TooManyOpens opens)
-  open-full i T e q g = inr (λ n. n (T .0 e), inl (subst (λ z. 65535 ≤ getD opens z 0) q g, refl))
+  open-full i T e q g = inr (λ n. n (T .yes e), inl (subst (λ z. 65535 ≤ getD opens z 0) q g, refl))
 
-  pub open-done : {r : Bool} (i : ℕ) → Tells r (LiveAt w t x) → r ≡ true → i ≡ x → getD opens i 0 < 65535
+  pub open-done : {r : Bool} (i : ℕ) → Tells (LiveAt w t x) r → r ≡ true → i ≡ x → getD opens i 0 < 65535
       → First (openRows (alone w t) opens x) (openDone opens x) (openingGives Done (set opens i (getD opens i 0 + 1)))
   open-done i T e q g =
-      inr (λ n. n (T .0 e), inr (λ k. omega (arith, ap (λ z. getD opens z 0) q), ap (λ z. openingGives Done (set opens z (getD opens z 0 + 1))) q))
+      inr (λ n. n (T .yes e), inr (λ k. omega (arith, ap (λ z. getD opens z 0) q), ap (λ z. openingGives Done (set opens z (getD opens z 0 + 1))) q))
 
-  pub close-none : {r : Bool} → Tells r (LiveAt w t x) → r ≡ false → First (closeRows (alone w t) opens x) (closeDone opens x) (openingGives NotFound opens)
-  close-none T e = inl (not-live T e, refl)
+  pub close-none : {r : Bool} → Tells (LiveAt w t x) r → r ≡ false → First (closeRows (alone w t) opens x) (closeDone opens x) (openingGives NotFound opens)
+  close-none T e = inl (tells-not T e, refl)
 
-  pub close-shut : {r : Bool} (i : ℕ) → Tells r (LiveAt w t x) → r ≡ true → i ≡ x → getD opens i 0 ≡ 0
+  pub close-shut : {r : Bool} (i : ℕ) → Tells (LiveAt w t x) r → r ≡ true → i ≡ x → getD opens i 0 ≡ 0
       → First (closeRows (alone w t) opens x) (closeDone opens x) (openingGives NotOpen opens)
-  close-shut i T e q g = inr (λ n. n (T .0 e), inl (subst (λ z. getD opens z 0 ≡ 0) q g, refl))
+  close-shut i T e q g = inr (λ n. n (T .yes e), inl (subst (λ z. getD opens z 0 ≡ 0) q g, refl))
 
-  pub close-done : {r : Bool} (i : ℕ) → Tells r (LiveAt w t x) → r ≡ true → i ≡ x → (getD opens i 0 ≡ 0 → ⊥)
+  pub close-done : {r : Bool} (i : ℕ) → Tells (LiveAt w t x) r → r ≡ true → i ≡ x → (getD opens i 0 ≡ 0 → ⊥)
       → First (closeRows (alone w t) opens x) (closeDone opens x) (openingGives Done (set opens i (getD opens i 0 - 1)))
   close-done i T e q g =
-      inr (λ n. n (T .0 e), inr (λ k. g (ap (λ z. getD opens z 0) q ∙ k), ap (λ z. openingGives Done (set opens z (getD opens z 0 - 1))) q))
+      inr (λ n. n (T .yes e), inr (λ k. g (ap (λ z. getD opens z 0) q ∙ k), ap (λ z. openingGives Done (set opens z (getD opens z 0 - 1))) q))
 
-module _ {h t : List ℕ} {w : ℕ} (S : Single h t w) (x i : ℕ) {r : Bool} (T : Tells r (LiveAt w t x)) (yes : r ≡ true) (e : i ≡ x) where
+module _ {h t : List ℕ} {w : ℕ} (S : Single h t w) (x i : ℕ) {r : Bool} (T : Tells (LiveAt w t x) r) (yes : r ≡ true) (e : i ≡ x) where
   -- a live entry lies in the table
   pub live-fits : i * w + w ≤ length t
-  live-fits = inside t w i (field w t 0 1) (let l : x < field w t 0 1 = T .0 yes .1 in omega arith) (all-fit h t w S)
+  live-fits = inside t w i (field w t 0 1) (let l : x < field w t 0 1 = T .yes yes .1 in omega arith) (all-fit h t w S)
 
   -- bytes of it, shown
   pub shown : (at many : ℕ) (bytes none : List ℕ) → bytes ≡ take many (drop (i * w + at) t)
       → First (shownRows (alone w t) x none) (shownGives Done (part w t x at many)) (shownGives Done bytes)
   shown at many bytes none q =
-      inr (λ n. n (T .0 yes), ap (shownGives Done) (q ∙ ap (λ z. take many (drop (z * w + at) t)) e))
+      inr (λ n. n (T .yes yes), ap (shownGives Done) (q ∙ ap (λ z. take many (drop (z * w + at) t)) e))
 
 -- open counts that are not too short
 pub enough : {P : Type 0} (a b : ℕ) → (P ⊎ (a < b) → ⊥) → b ≤ a

@@ -230,13 +230,13 @@ statGives answer dt df ft ff = record { answer = answer; dirTotal = dt; dirFree 
 abbrev pub statDone : Tables → Stat
 statDone s = statGives Done (dirs s .maximum - 1) (freeOf (dirs s)) (files s .maximum - 1) (freeOf (files s))
 
--- name and carried bytes ---------------------------------------------------------------------------------------------------------------------------
+-- carried bytes ------------------------------------------------------------------------------------------------------------------------------------
 
 -- the bytes of an entry: many of them from place `at` on of entry x in a table of width w
 abbrev pub part : ℕ → List ℕ → ℕ → ℕ → ℕ → List ℕ
 part w t x at many = take many (drop (x * w + at) t)
 
--- the answer, and the bytes: the 16 of a name, the 4 or 20 carried ones
+-- the answer, and the bytes: the 4 or 20 carried ones
 pub record Shown : Type 0 where
   pub answer : Answer
   pub bytes : List ℕ
@@ -244,15 +244,9 @@ pub record Shown : Type 0 where
 abbrev pub shownGives : Answer → List ℕ → Shown
 shownGives answer bytes = record { answer = answer; bytes = bytes }
 
--- none is what a refusal shows: an empty part for a name, zero bytes for carried ones
+-- none is what a refusal shows: zero bytes
 abbrev pub shownRows : View → ℕ → List ℕ → List (Row Shown)
 shownRows v x none = row (LiveIn v x → ⊥) (shownGives NotFound none) ∷ []
-
-abbrev pub dirNameDone : Tables → ℕ → Shown
-dirNameDone s x = shownGives Done (part 40 (s .dirTable) x 4 16)
-
-abbrev pub fileNameDone : Tables → ℕ → Shown
-fileNameDone s x = shownGives Done (part 48 (s .fileTable) x 4 16)
 
 abbrev pub dirCarriedDone : Tables → ℕ → Shown
 dirCarriedDone s x = shownGives Done (part 40 (s .dirTable) x 32 4)

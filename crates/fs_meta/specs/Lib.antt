@@ -4,7 +4,4 @@ pub mod Calls
 pub mod Promise
 pub mod Format
 pub mod Ready
-pub mod Seat
 pub mod Public
-pub mod Judge
-pub mod Take

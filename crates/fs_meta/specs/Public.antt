@@ -1,6 +1,6 @@
 -- The promise of each call on the entry tables, whole: sizes, work list and soundness, then the call's own rows, on all inputs. s are the four tables as
 -- they are lent, work the work list, opens the open counts of the call's own table. The last argument is what is given: the answer with its fields and
--- what stands in every lent buffer afterwards, beside the work list. Assumes nothing.
+-- what stands in every lent buffer afterwards, beside the work list. The two calls on a name are in crate fs_name. Assumes nothing.
 use mathlib.Core.List.{List, []}
 use Prim.Native.Nat.{ℕ}
 use lib.ListN.{replicate}
@@ -10,13 +10,6 @@ use Rattle.meta_table.specs.View.{View}
 use Rattle.fs_meta.specs.Tables.{Tables, dirs, files}
 use Rattle.fs_meta.specs.Calls as calls
 use Rattle.fs_meta.specs.Promise.{TreePromise, DirPromise, FilePromise}
-use Rattle.fs_meta.specs.declared.Kind.{Kind}
-use Rattle.fs_meta.specs.declared.Kind.the-variants.{Directory, File}
-
--- the table that a kind selects
-abbrev pub ofKind : Tables → Kind → View
-ofKind s Directory = dirs s
-ofKind s File = files s
 
 -- lookup of a parent and a name, in the directories or in the files (v)
 abbrev pub LookupPromise : Tables → View → List ℕ → ℕ → List ℕ → Beside calls.Lookup → Type 0
@@ -29,14 +22,6 @@ ListPromise s v work x list = TreePromise (λ a. calls.listGives a 0 list) s wor
 
 abbrev pub StatPromise : Tables → List ℕ → Beside calls.Stat → Type 0
 StatPromise s work = TreePromise (λ a. calls.statGives a 0 0 0 0) s work [] (calls.statDone s)
-
--- the name of an entry: 16 bytes of the table that the kind selects, or none
-abbrev pub nameDone : Tables → Kind → ℕ → calls.Shown
-nameDone s Directory x = calls.dirNameDone s x
-nameDone s File x = calls.fileNameDone s x
-
-abbrev pub NamePromise : Tables → List ℕ → Kind → ℕ → Beside calls.Shown → Type 0
-NamePromise s work kind x = TreePromise (λ a. calls.shownGives a []) s work (calls.shownRows (ofKind s kind) x []) (nameDone s kind x)
 
 -- carried bytes, read and set
 abbrev pub CarriedDirPromise : Tables → List ℕ → ℕ → Beside calls.Shown → Type 0

@@ -1,10 +1,6 @@
-// The calls on the entry tables.
+// The calls that look at sound entry tables, and the bytes that an entry carries.
 pub mod carry;
-pub mod change;
-pub mod judge;
 pub mod look;
-pub mod make;
-pub mod step;
 
 // What a name is asked of.
 pub enum Kind {

@@ -1,10 +1,10 @@
 // What stands in sound entry tables: the inner calls that look, and those that touch open counts alone. Each requires soundness and tests nothing.
 ghost use mathlib.Core.Path.{_≡_};
-ghost use mathlib.Core.Bool.{true};
 ghost use Prim.Native.Nat.{_-_, _/_, _≤_};
 ghost use lib.ListN.{length};
 ghost use Rattle.order.specs.First.{First};
 ghost use Rattle.fs_meta.specs.Calls.{openRows, openDone, closeRows, closeDone, openingGives, lookupRows, lookupDone, lookupGives, listGives, shortRows, listedDone, ListDirs, ListFiles, statGives, statDone};
+ghost use Rattle.meta_marks.specs.Marks.{Tells};
 ghost use Rattle.meta_table.specs.Chain.{listAt, Ends};
 ghost use Rattle.meta_table.specs.Steps.{freeOf};
 ghost use Rattle.fs_meta.specs.Tables.{tables};
@@ -18,7 +18,7 @@ use order::Answer;
 // Whether inode x of a table is live: it stands in the bucket of its own key.
 pub fn live(hash: &[u8], table: &[u8], w: usize, x: u32) -> bool
     requires { ⌜ Single (now hash) (now table) w ⌝ }
-    ensures { λ r. ⌜ (r ≡ true → LiveAt w (now (table .entry)) x) × (LiveAt w (now (table .entry)) x → r ≡ true) ⌝ }
+    ensures { λ r. ⌜ Tells (LiveAt w (now (table .entry)) x) r ⌝ }
 {
     if x == 0 {
         return false;

@@ -16,7 +16,7 @@ use Rattle.fs_changes.proofs.delete_dir.Statement.{statement}
 use Rattle.fs_changes.proofs.delete_dir.Tie as tie
 use Rattle.fs_changes.proofs.delete_dir.Reads as reads
 use Rattle.fs_changes.proofs.delete_dir.Lts as lts
-use Rattle.fs_meta.proofs.change.delete_dir.Reads as delete-dir-reads
+use Rattle.fs_step.proofs.change.delete_dir.Reads as delete-dir-reads
 use Rattle.meta_test.proofs.open_gate.Reads as open-gate-reads
 
 -- src/lib.rt:178:9

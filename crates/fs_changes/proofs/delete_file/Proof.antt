@@ -16,7 +16,7 @@ use Rattle.fs_changes.proofs.delete_file.Statement.{statement}
 use Rattle.fs_changes.proofs.delete_file.Tie as tie
 use Rattle.fs_changes.proofs.delete_file.Reads as reads
 use Rattle.fs_changes.proofs.delete_file.Lts as lts
-use Rattle.fs_meta.proofs.change.delete_file.Reads as delete-file-reads
+use Rattle.fs_step.proofs.change.delete_file.Reads as delete-file-reads
 use Rattle.meta_test.proofs.open_gate.Reads as open-gate-reads
 
 -- src/lib.rt:212:9

@@ -16,7 +16,7 @@ use Rattle.fs_changes.proofs.make_dir.Statement.{statement}
 use Rattle.fs_changes.proofs.make_dir.Tie as tie
 use Rattle.fs_changes.proofs.make_dir.Reads as reads
 use Rattle.fs_changes.proofs.make_dir.Lts as lts
-use Rattle.fs_meta.proofs.make.make_dir.Reads as make-dir-reads
+use Rattle.fs_step.proofs.make.make_dir.Reads as make-dir-reads
 use Rattle.meta_test.proofs.open_gate.Reads as open-gate-reads
 
 -- src/lib.rt:28:9

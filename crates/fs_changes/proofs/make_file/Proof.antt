@@ -16,7 +16,7 @@ use Rattle.fs_changes.proofs.make_file.Statement.{statement}
 use Rattle.fs_changes.proofs.make_file.Tie as tie
 use Rattle.fs_changes.proofs.make_file.Reads as reads
 use Rattle.fs_changes.proofs.make_file.Lts as lts
-use Rattle.fs_meta.proofs.make.make_file.Reads as make-file-reads
+use Rattle.fs_step.proofs.make.make_file.Reads as make-file-reads
 use Rattle.meta_test.proofs.open_gate.Reads as open-gate-reads
 
 -- src/lib.rt:66:9

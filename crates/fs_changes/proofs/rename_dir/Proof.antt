@@ -16,7 +16,7 @@ use Rattle.fs_changes.proofs.rename_dir.Statement.{statement}
 use Rattle.fs_changes.proofs.rename_dir.Tie as tie
 use Rattle.fs_changes.proofs.rename_dir.Reads as reads
 use Rattle.fs_changes.proofs.rename_dir.Lts as lts
-use Rattle.fs_meta.proofs.change.rename_dir.Reads as rename-dir-reads
+use Rattle.fs_step.proofs.change.rename_dir.Reads as rename-dir-reads
 use Rattle.meta_test.proofs.open_gate.Reads as open-gate-reads
 
 -- src/lib.rt:104:9

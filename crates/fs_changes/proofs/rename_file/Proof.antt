@@ -16,7 +16,7 @@ use Rattle.fs_changes.proofs.rename_file.Statement.{statement}
 use Rattle.fs_changes.proofs.rename_file.Tie as tie
 use Rattle.fs_changes.proofs.rename_file.Reads as reads
 use Rattle.fs_changes.proofs.rename_file.Lts as lts
-use Rattle.fs_meta.proofs.change.rename_file.Reads as rename-file-reads
+use Rattle.fs_step.proofs.change.rename_file.Reads as rename-file-reads
 use Rattle.meta_test.proofs.open_gate.Reads as open-gate-reads
 
 -- src/lib.rt:142:9

@@ -3,7 +3,8 @@ use mathlib.Core.Path.{_≡_, refl, sym, ap, _∙_, subst}
 use mathlib.Core.Logic.{inl, inr}
 use native.Mathlib.Omega.{arith}
 use borrow.Author.Tests.{not-true, not-false}
-use Rattle.fs_meta.proofs.Opens.{not-live, live-fits}
+use Rattle.meta_test.proofs.Cases.{tells-not}
+use Rattle.fs_meta.proofs.Opens.{live-fits}
 use Rattle.fs_meta.proofs.Lists.{dir-single, file-single}
 use Rattle.fs_meta.specs.Tables.{tables}
 use Rattle.fs_name.proofs.Cases.{ready-of, answer-shut, answer-open, name-shut, name-open}
@@ -21,11 +22,11 @@ live-requires c κs = search needs
 
 -- src/lib.rt:27:9
 returns : tie.Need-returns
-returns c = inl (not-live (c .before .live .ensures) (not-true _ (c .if1 .taken)), refl)
+returns c = inl (tells-not (c .before .live .ensures) (not-true _ (c .if1 .taken)), refl)
 
 -- src/lib.rt:22:1
 returns-2 : tie.Need-returns-2
-returns-2 c = inr (λ n. n (c .before .live .ensures .0 (not-false _ (c .if1 .left))), refl)
+returns-2 c = inr (λ n. n (c .before .live .ensures .yes (not-false _ (c .if1 .left))), refl)
 
 pub answer-in-spec : {M : Type 1} → statement M
 answer-in-spec = tie.close (tie.spec live-requires returns returns-2)

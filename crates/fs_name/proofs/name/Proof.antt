@@ -3,7 +3,8 @@ use mathlib.Core.Path.{_≡_, refl, sym, ap, _∙_, subst}
 use mathlib.Core.Logic.{inl, inr}
 use native.Mathlib.Omega.{arith}
 use borrow.Author.Tests.{not-true, not-false}
-use Rattle.fs_meta.proofs.Opens.{not-live, live-fits}
+use Rattle.meta_test.proofs.Cases.{tells-not}
+use Rattle.fs_meta.proofs.Opens.{live-fits}
 use Rattle.fs_meta.proofs.Lists.{dir-single, file-single}
 use Rattle.fs_meta.specs.Tables.{tables}
 use Rattle.fs_name.proofs.Cases.{ready-of, answer-shut, answer-open, name-shut, name-open}

@@ -3,7 +3,8 @@ use mathlib.Core.Path.{_≡_, refl, sym, ap, _∙_, subst}
 use mathlib.Core.Logic.{inl, inr}
 use native.Mathlib.Omega.{arith}
 use borrow.Author.Tests.{not-true, not-false}
-use Rattle.fs_meta.proofs.Opens.{not-live, live-fits}
+use Rattle.meta_test.proofs.Cases.{tells-not}
+use Rattle.fs_meta.proofs.Opens.{live-fits}
 use Rattle.fs_meta.proofs.Lists.{dir-single, file-single}
 use Rattle.fs_meta.specs.Tables.{tables}
 use Rattle.fs_name.proofs.Cases.{ready-of, answer-shut, answer-open, name-shut, name-open}
@@ -26,7 +27,7 @@ slice-aggregate-result c = search needs
 
 -- src/lib.rt:42:9
 returns : tie.Need-returns
-returns c = inl (not-live (c .before .before .live .ensures) (not-true _ (c .before .if1 .taken)), refl)
+returns c = inl (tells-not (c .before .before .live .ensures) (not-true _ (c .before .if1 .taken)), refl)
 
 -- src/lib.rt:44:5
 name-part-requires : tie.Need-name-part-requires
@@ -34,7 +35,7 @@ name-part-requires c κs = (live-fits (c .before .before .before .before .pre) (
 
 -- src/lib.rt:37:1
 returns-2 : tie.Need-returns-2
-returns-2 c = inr (λ n. n (c .before .before .live .ensures .0 (not-false _ (c .before .if1 .left))), c .name-part .ensures)
+returns-2 c = inr (λ n. n (c .before .before .live .ensures .yes (not-false _ (c .before .if1 .left))), c .name-part .ensures)
 
 pub part-in-spec : {M : Type 1} → statement M
 part-in-spec =

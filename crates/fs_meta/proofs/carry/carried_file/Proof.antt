@@ -2,7 +2,8 @@ use mathlib.Core.Path.{refl}
 use mathlib.Core.Logic.{inl}
 use native.Mathlib.Omega.{arith}
 use borrow.Author.Tests.{not-true, not-false}
-use Rattle.fs_meta.proofs.Opens.{not-live, live-fits, shown}
+use Rattle.meta_test.proofs.Cases.{tells-not}
+use Rattle.fs_meta.proofs.Opens.{live-fits, shown}
 use borrow.Author.Needs.{needs}
 use Rattle.fs_meta.proofs.carry.carried_file.Statement.{statement}
 use Rattle.fs_meta.proofs.carry.carried_file.Tie as tie
@@ -16,7 +17,7 @@ live-requires : tie.Need-live-requires
 live-requires c κs = search needs
 
 returns : tie.Need-returns
-returns c = inl (not-live (c .before .live .ensures) (not-true _ (c .if1 .taken)), refl)
+returns c = inl (tells-not (c .before .live .ensures) (not-true _ (c .if1 .taken)), refl)
 
 index-requires : tie.Need-index-requires
 index-requires c κs = search needs

@@ -4,7 +4,8 @@ use native.Mathlib.Omega.{arith}
 use borrow.Author.Tests.{not-true, not-false}
 use Rattle.order.specs.declared.Answer.the-variants.{Done}
 use Rattle.fs_meta.specs.Ready.{setGives}
-use Rattle.fs_meta.proofs.Opens.{not-live, live-fits}
+use Rattle.meta_test.proofs.Cases.{tells-not}
+use Rattle.fs_meta.proofs.Opens.{live-fits}
 use borrow.Author.Needs.{needs}
 use Rattle.fs_meta.proofs.carry.set_carried_dir.Statement.{statement}
 use Rattle.fs_meta.proofs.carry.set_carried_dir.Tie as tie
@@ -20,7 +21,7 @@ same-length : tie.Need-same-length
 same-length c = search needs
 
 returns : tie.Need-returns
-returns c = inl (not-live (c .before .live .ensures) (not-true _ (c .if1 .taken)), refl)
+returns c = inl (tells-not (c .before .live .ensures) (not-true _ (c .if1 .taken)), refl)
 
 put-carried-dir-requires : tie.Need-put-carried-dir-requires
 put-carried-dir-requires c κs = live-fits (c .before .before .before .before .before .before .before .pre) (c .before .before .before .before .before .before .before .args .x) (c .before .before .before .before .before .before .before .args .x) (c .before .before .before .live .ensures) (not-false _ (c .before .before .if1 .left)) refl
@@ -29,7 +30,7 @@ same-length-2 : tie.Need-same-length-2
 same-length-2 c = search needs
 
 returns-2 : tie.Need-returns-2
-returns-2 c = inr (λ n. n (c .before .before .before .before .before .before .live .ensures .0 (not-false _ (c .before .before .before .before .before .if1 .left))), ap (setGives Done) (c .before .before .put-carried-dir .ensures))
+returns-2 c = inr (λ n. n (c .before .before .before .before .before .before .live .ensures .yes (not-false _ (c .before .before .before .before .before .if1 .left))), ap (setGives Done) (c .before .before .put-carried-dir .ensures))
 
 pub set-carried-dir-spec : {M : Type 1} → statement M
 set-carried-dir-spec =

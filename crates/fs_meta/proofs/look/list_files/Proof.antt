@@ -5,7 +5,7 @@ use native.Mathlib.Omega.{arith}
 use borrow.Author.Tests.{not-true, not-false}
 use Rattle.fs_meta.specs.Tables.{tables}
 use Rattle.fs_meta.proofs.Lists.{dir-single}
-use Rattle.fs_meta.proofs.Opens.{not-live}
+use Rattle.meta_test.proofs.Cases.{tells-not}
 use Rattle.fs_meta.proofs.Listings.{dir-fits, files-end, files-listed}
 use Rattle.fs_meta.proofs.look.list_files.Statement.{statement}
 use Rattle.fs_meta.proofs.look.list_files.Tie as tie
@@ -20,7 +20,7 @@ live-requires : tie.Need-live-requires
 live-requires c κs = dir-single (tables (c .before .before .before .before .before .args .dir-hash .now) (c .before .before .before .before .before .args .dir-table .now) (c .before .before .before .before .before .args .file-hash .now) (c .before .before .before .before .before .args .file-table .now)) (c .before .before .before .before .before .pre)
 
 returns : tie.Need-returns
-returns c = inl (not-live (c .before .live .ensures) (not-true _ (c .if1 .taken)), refl)
+returns c = inl (tells-not (c .before .live .ensures) (not-true _ (c .if1 .taken)), refl)
 
 index-requires : tie.Need-index-requires
 index-requires c κs = search needs

@@ -1,0 +1,5 @@
+pub mod Seats
+pub mod Links
+pub mod Judges
+pub mod Changes
+pub mod Makes
