@@ -15,8 +15,8 @@ use Rattle.order.specs.declared.Answer.the-variants.{Done, NotFound, BrokenTree
 use Rattle.meta_tree.specs.Sizes.{Misfit, rooms}
 use Rattle.fs_meta.specs.Tables.{Tables}
 use Rattle.fs_meta.specs.Ready.{LiveAt}
-use Rattle.fs_meta.proofs.Live.{Tells}
-use Rattle.fs_meta.proofs.Opens.{not-live}
+use Rattle.meta_marks.specs.Marks.{Tells}
+use Rattle.meta_test.proofs.Cases.{tells-not}
 use Rattle.fs_meta.specs.declared.Kind.the-variants.{Directory, File}
 use Rattle.fs_name.specs.Name.{NameAnswerPromise}
 use Rattle.mukthiban.specs.Name.{Naming, namedGives, placed, nameRows, nameDone, NamePromise}
@@ -90,12 +90,12 @@ module _ (s : Tables) (work : List ℕ) (kind x n off : ℕ) where
       beyond-one (suc (suc k)) p q = omega arith
 
 -- the inner call: the entry is not there, or is
-module _ {r : Bool} {P : Type 0} (T : Tells r P) (at n off : ℕ) where
+module _ {r : Bool} {P : Type 0} (T : Tells P r) (at n off : ℕ) where
   pub inner-none : not r ≡ true → n ≡ 10 → off ≡ 0 → Exported n (λ a. First (row (P → ⊥) (namedGives NotFound 0) ∷ []) (namedGives Done at) (namedGives a off))
-  inner-none e q z = (NotFound, q, inl (not-live T (not-true _ e), ap (namedGives NotFound) z))
+  inner-none e q z = (NotFound, q, inl (tells-not T (not-true _ e), ap (namedGives NotFound) z))
 
   pub inner-done : not r ≡ false → n ≡ 0 → off ≡ at → Exported n (λ a. First (row (P → ⊥) (namedGives NotFound 0) ∷ []) (namedGives Done at) (namedGives a off))
-  inner-done e q z = (Done, q, inr (λ k. k (T .0 (not-false _ e)), ap (namedGives Done) z))
+  inner-done e q z = (Done, q, inr (λ k. k (T .yes (not-false _ e)), ap (namedGives Done) z))
 
 module _ (s : Tables) (kind x n off : ℕ) where
   pub inner-dir : kind ≡ 0

@@ -27,7 +27,7 @@ pub extern "C" fn mukthiban_tested_tree_make_dir(
     requires { ⌜ Ready (tables (now «dir_hash») (now «dir_table») (now «file_hash») (now «file_table»)) × (length (now «dir_table») / 40 ≤ length (now opens)) ⌝ }
     ensures { λ p. ⌜ ((a : Answer) × (p .answer ≡ numberOf a) × First (makeRows (tables (now («dir_hash» .entry)) (now («dir_table» .entry)) (now («file_hash» .entry)) (now («file_table» .entry))) (dirs (tables (now («dir_hash» .entry)) (now («dir_table» .entry)) (now («file_hash» .entry)) (now («file_table» .entry)))) (now (opens .entry)) parent (nameKey parent (now (name .entry)))) (makeDirDone (tables (now («dir_hash» .entry)) (now («dir_table» .entry)) (now («file_hash» .entry)) (now («file_table» .entry))) (now (opens .entry)) parent (now (name .entry)) (now (carried .entry))) (makeGives a (p .inode) (tables (now («dir_hash» .exit)) (now («dir_table» .exit)) (now («file_hash» .entry)) (now («file_table» .entry))) (now (opens .exit)))) ⌝ }
 {
-    let r = fs_meta::make::make_dir(
+    let r = fs_step::make::make_dir(
         dir_hash,
         dir_table,
         file_hash,
@@ -58,7 +58,7 @@ pub extern "C" fn mukthiban_tested_tree_make_file(
     requires { ⌜ Ready (tables (now «dir_hash») (now «dir_table») (now «file_hash») (now «file_table»)) × (length (now «file_table») / 48 ≤ length (now opens)) ⌝ }
     ensures { λ p. ⌜ ((a : Answer) × (p .answer ≡ numberOf a) × First (makeRows (tables (now («dir_hash» .entry)) (now («dir_table» .entry)) (now («file_hash» .entry)) (now («file_table» .entry))) (files (tables (now («dir_hash» .entry)) (now («dir_table» .entry)) (now («file_hash» .entry)) (now («file_table» .entry)))) (now (opens .entry)) parent (nameKey parent (now (name .entry)))) (makeFileDone (tables (now («dir_hash» .entry)) (now («dir_table» .entry)) (now («file_hash» .entry)) (now («file_table» .entry))) (now (opens .entry)) parent (now (name .entry)) (now (carried .entry))) (makeGives a (p .inode) (tables (now («dir_hash» .entry)) (now («dir_table» .exit)) (now («file_hash» .exit)) (now («file_table» .exit))) (now (opens .exit)))) ⌝ }
 {
-    let r = fs_meta::make::make_file(
+    let r = fs_step::make::make_file(
         dir_hash,
         dir_table,
         file_hash,
@@ -89,7 +89,7 @@ pub extern "C" fn mukthiban_tested_tree_rename_dir(
     requires { ⌜ Ready (tables (now «dir_hash») (now «dir_table») (now «file_hash») (now «file_table»)) × (length (now «dir_table») / 40 ≤ length (now opens)) ⌝ }
     ensures { λ p. ⌜ ((a : Answer) × (p .answer ≡ numberOf a) × First (renameDirRows (tables (now («dir_hash» .entry)) (now («dir_table» .entry)) (now («file_hash» .entry)) (now («file_table» .entry))) (now (opens .entry)) inode parent (now (name .entry))) (renameDirDone (tables (now («dir_hash» .entry)) (now («dir_table» .entry)) (now («file_hash» .entry)) (now («file_table» .entry))) (now (opens .entry)) inode parent (now (name .entry))) (changeGives a (tables (now («dir_hash» .exit)) (now («dir_table» .exit)) (now («file_hash» .entry)) (now («file_table» .entry))) (now (opens .entry)))) ⌝ }
 {
-    let answer = fs_meta::change::rename_dir(
+    let answer = fs_step::change::rename_dir(
         dir_hash,
         dir_table,
         file_hash,
@@ -118,7 +118,7 @@ pub extern "C" fn mukthiban_tested_tree_rename_file(
     requires { ⌜ Ready (tables (now «dir_hash») (now «dir_table») (now «file_hash») (now «file_table»)) × (length (now «file_table») / 48 ≤ length (now opens)) ⌝ }
     ensures { λ p. ⌜ ((a : Answer) × (p .answer ≡ numberOf a) × First (renameFileRows (tables (now («dir_hash» .entry)) (now («dir_table» .entry)) (now («file_hash» .entry)) (now («file_table» .entry))) (now (opens .entry)) inode parent (now (name .entry))) (renameFileDone (tables (now («dir_hash» .entry)) (now («dir_table» .entry)) (now («file_hash» .entry)) (now («file_table» .entry))) (now (opens .entry)) inode parent (now (name .entry))) (changeGives a (tables (now («dir_hash» .entry)) (now («dir_table» .exit)) (now («file_hash» .exit)) (now («file_table» .exit))) (now (opens .entry)))) ⌝ }
 {
-    let answer = fs_meta::change::rename_file(
+    let answer = fs_step::change::rename_file(
         dir_hash,
         dir_table,
         file_hash,
@@ -145,7 +145,7 @@ pub extern "C" fn mukthiban_tested_tree_delete_dir(
     requires { ⌜ Ready (tables (now «dir_hash») (now «dir_table») (now «file_hash») (now «file_table»)) × (length (now «dir_table») / 40 ≤ length (now opens)) ⌝ }
     ensures { λ p. ⌜ ((a : Answer) × (p .answer ≡ numberOf a) × First (deleteDirRows (tables (now («dir_hash» .entry)) (now («dir_table» .entry)) (now («file_hash» .entry)) (now («file_table» .entry))) (now (opens .entry)) inode) (deleteDirDone (tables (now («dir_hash» .entry)) (now («dir_table» .entry)) (now («file_hash» .entry)) (now («file_table» .entry))) (now (opens .entry)) inode) (changeGives a (tables (now («dir_hash» .exit)) (now («dir_table» .exit)) (now («file_hash» .entry)) (now («file_table» .entry))) (now (opens .exit)))) ⌝ }
 {
-    let answer = fs_meta::change::delete_dir(
+    let answer = fs_step::change::delete_dir(
         dir_hash,
         dir_table,
         file_hash,
@@ -170,7 +170,7 @@ pub extern "C" fn mukthiban_tested_tree_delete_file(
     requires { ⌜ Ready (tables (now «dir_hash») (now «dir_table») (now «file_hash») (now «file_table»)) × (length (now «file_table») / 48 ≤ length (now opens)) ⌝ }
     ensures { λ p. ⌜ ((a : Answer) × (p .answer ≡ numberOf a) × First (deleteFileRows (tables (now («dir_hash» .entry)) (now («dir_table» .entry)) (now («file_hash» .entry)) (now («file_table» .entry))) (now (opens .entry)) inode) (deleteFileDone (tables (now («dir_hash» .entry)) (now («dir_table» .entry)) (now («file_hash» .entry)) (now («file_table» .entry))) (now (opens .entry)) inode) (changeGives a (tables (now («dir_hash» .entry)) (now («dir_table» .exit)) (now («file_hash» .exit)) (now («file_table» .exit))) (now (opens .exit)))) ⌝ }
 {
-    let answer = fs_meta::change::delete_file(
+    let answer = fs_step::change::delete_file(
         dir_hash,
         dir_table,
         file_hash,
