@@ -7,3 +7,5 @@ pub mod Calls
 pub mod Formats
 pub mod Looks
 pub mod Theorems
+pub mod Reach
+pub mod Space

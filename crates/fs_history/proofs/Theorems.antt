@@ -1,8 +1,16 @@
 -- The theorems of the entry tables over whole histories. Their statements name definitions of specs/ alone. Assumes nothing.
-use mathlib.Core.Path.{_≡_}
-use Prim.Native.Nat.{ℕ}
+use mathlib.Core.Path.{_≡_, refl}
+use mathlib.Core.List.{List}
+use Prim.Native.Nat.{ℕ, _≤_, _<_}
+use native.Mathlib.Omega.{arith}
+use lib.ListN.{length}
+use Rattle.order.specs.First.{First}
 use Rattle.order.specs.declared.Answer.{Answer}
 use Rattle.order.specs.declared.Answer.the-variants.{Done, BrokenTree}
+use Rattle.meta_tree.specs.Sizes.{rooms}
+use Rattle.meta_test.specs.Gate.{treeGate}
+use Rattle.meta_test.specs.Promise.{tested, testDone}
+use Rattle.meta_test.specs.declared.Tested.{Tested}
 use Rattle.fs_meta.specs.Tables.{dirs, files}
 use Rattle.fs_meta.specs.Calls.{Carry}
 use Rattle.fs_meta.specs.Format.{FormatPromise}
@@ -36,6 +44,7 @@ use Rattle.fs_history.specs.Call.{
   KeptBy,
 }
 use Rattle.fs_history.specs.Run.{Run, none, calls}
+use Rattle.fs_history.proofs.Rows.{of-first}
 use Rattle.fs_history.proofs.Good.{Good}
 use Rattle.fs_history.proofs.Calls as changes
 use Rattle.fs_history.proofs.Looks as looks
@@ -83,3 +92,19 @@ format-sound s t dm fm o L p e r = run-sound (state (o .tables) (s .dirOpens) (s
 -- never-broken: after such a history no public call answers BrokenTree, the test among them
 pub never-broken : (s t u : State) (answer : Answer) → Whole (s .tables) → Run s t → Call t answer u → answer ≡ BrokenTree → ⊥
 never-broken s t u answer w r c = let v = run-sound s t w r in good t (v .lent) c .unbroken (v .sound)
+
+-- test-accepts: and the test, lent a work list that is long enough, answers Done
+pub test-accepts : (s t : State) (work : List ℕ) (o : Tested × List ℕ) → Whole (s .tables) → Run s t
+    → rooms (t .tables .dirTable) (t .tables .fileTable) ≤ length work
+    → First (treeGate tested (t .tables .dirHash) (t .tables .dirTable) (t .tables .fileHash) (t .tables .fileTable) work)
+    (testDone (t .tables .dirTable) (t .tables .fileTable) work) o
+    → o .0 .answer ≡ Done
+test-accepts s t work o w r h =
+    let v : Whole (t .tables) = run-sound s t w r in
+    of-first (λ (x : Tested × List ℕ). x .0 .answer ≡ Done)
+    (treeGate tested (t .tables .dirHash) (t .tables .dirTable) (t .tables .fileHash) (t .tables .fileTable) work)
+    (testDone (t .tables .dirTable) (t .tables .fileTable) work) o (
+      λ m. absurd (v .fits m),
+      (λ m. absurd (v .inside m), (λ (k : length work < rooms (t .tables .dirTable) (t .tables .fileTable)). absurd (omega arith), (λ n. absurd (n (v .sound)), tt))),
+    )
+    (λ _. refl)

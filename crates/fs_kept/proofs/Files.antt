@@ -15,7 +15,7 @@ use Rattle.links.specs.Change.{pick, upd}
 use Rattle.meta_key.specs.Key.{nameKey}
 use Rattle.meta_key.specs.Hash.{hashOf}
 use Rattle.meta_table.specs.Field.{field, Write, write, wrote}
-use Rattle.meta_table.specs.View.{View, viewOf, hashAt, keyAt, dirView, fileView, parent, place, Live}
+use Rattle.meta_table.specs.View.{View, viewOf, hashAt, keyAt, dirView, fileView, parent, place, removedOf, Live}
 use Rattle.meta_table.specs.Steps.{taken, takeWrites, bucketBefore, childBefore, cutWrites, headWrites, giveWrites, copyWrites}
 use Rattle.meta_table.proofs.Field.{Has, Fit, reads, length-wrote}
 use Rattle.meta_table.proofs.Table.{Sound, link, linked, unlink, unlinked, give, gave, gave-live, take, took, took-live, rest, Space, not-zero}
@@ -25,7 +25,7 @@ use Rattle.meta_tree.proofs.Tree.{Tree}
 use Rattle.fs_meta.specs.Tables.{Tables, tables}
 use Rattle.fs_meta.specs.Steps.{cut, entered, unlinkedFile, linkedFile, givenFile, takenFile, carriedFile, deletedFile, renamedFile, madeFile}
 use Rattle.fs_kept.proofs.Tables.{bytes-wrote, field-lt, after, put-other, dirs-past, heads-after}
-use Rattle.fs_kept.proofs.Loose.{entry-fits, before-low, fit-append, fit-cut, fit-copy, tree-files}
+use Rattle.fs_kept.proofs.Loose.{entry-fits, before-low, fit-append, fit-cut, fit-copy, tree-files, removed-agree}
 
 -- four tables of bytes with fitting sizes
 pub record Fine (dh d fh f : List ℕ) : Type 0 where
@@ -208,38 +208,45 @@ module _ (dh d fh f : List ℕ) (Q : Fine dh d fh f) (RD RF : List ℕ) (T : Tre
   in-room : x < length (t1 .fileTable) / 48
   in-room = let a = loose .count-max in let b = loose .max-room in let c = still .1 in omega arith
 
+  abbrev G2 : View
+  G2 = fileView (t1 .dirTable) (t1 .fileHash) (wrote 48 (t1 .fileTable) (giveWrites 48 (field 48 (t1 .fileTable)) x))
+
+  give-fit : Fit 48 (length (t1 .fileTable)) (giveWrites 48 (field 48 (t1 .fileTable)) x)
+  give-fit =
+      let e = entry-fits 48 (t1 .fileTable) x in-room in
+      fit-append 48 (length (t1 .fileTable)) (copyWrites (48 / 4 - 1) 1 (field 48 (t1 .fileTable)) x) (write x 0 (field 48 (t1 .fileTable) 0 0) ∷ write 0 0 x ∷ [])
+      (fit-copy 48 (length (t1 .fileTable)) (48 / 4 - 1) 1 (field 48 (t1 .fileTable)) x e (omega arith) (λ g. field-lt 48 (t1 .fileTable) 0 g (fine .file-table)))
+      ((e, omega arith, field-lt 48 (t1 .fileTable) 0 0 (fine .file-table)), (((let i = in-room in omega arith), omega arith, (let i = in-room in let k = fine .file-few in omega arith)), tt))
+
+  gave-same : Agree (give G x) (fileView (t1 .dirTable) (t1 .fileHash) (wrote 48 (t1 .fileTable) (giveWrites 48 (field 48 (t1 .fileTable)) x)))
+  gave-same =
+      agree-trans (give G x)
+      (viewOf (length (t1 .fileHash) / 4) (length (t1 .fileTable) / 48) 0 (reads (giveWrites 48 (field 48 (t1 .fileTable)) x) (field 48 (t1 .fileTable))) (hashAt (t1 .fileHash)) (G .head))
+      (fileView (t1 .dirTable) (t1 .fileHash) (wrote 48 (t1 .fileTable) (giveWrites 48 (field 48 (t1 .fileTable)) x)))
+      (gave-agrees (length (t1 .fileHash) / 4) (length (t1 .fileTable) / 48) 0 (field 48 (t1 .fileTable)) (hashAt (t1 .fileHash)) (G .head) x (lx .0) 48 (omega arith))
+      (table-alike (length (t1 .fileHash) / 4) (length (t1 .fileTable) / 48) 0 (length (t1 .fileHash) / 4)
+      (length (wrote 48 (t1 .fileTable) (giveWrites 48 (field 48 (t1 .fileTable)) x)) / 48)
+      (reads (giveWrites 48 (field 48 (t1 .fileTable)) x) (field 48 (t1 .fileTable))) (field 48 (wrote 48 (t1 .fileTable) (giveWrites 48 (field 48 (t1 .fileTable)) x)))
+      (hashAt (t1 .fileHash)) (hashAt (t1 .fileHash)) (G .head) (G .head)
+      refl (ap (λ n. n / 48) (length-wrote 48 (giveWrites 48 (field 48 (t1 .fileTable)) x) (t1 .fileTable)))
+      (λ y g h. after 48 (t1 .fileTable) (giveWrites 48 (field 48 (t1 .fileTable)) x) give-fit y g (omega arith)) (λ b. refl) (λ q. refl))
+
   pub deleted-file-kept : Tree (dirView dh (deletedFile (tables dh d fh f) x .dirTable))
       (fileView (deletedFile (tables dh d fh f) x .dirTable) (deletedFile (tables dh d fh f) x .fileHash) (deletedFile (tables dh d fh f) x .fileTable)) RD (x ∷ RF)
   deleted-file-kept =
       tree-files (dirView dh d) (dirView dh (t1 .dirTable)) (fileView d fh f) G2 RD RF (x ∷ RF) T (unlinked-dirs dh d fh f Q RD RF T x lx) refl
       (sound-agree (give G x) G2 gave-same (x ∷ RF) 0 (Live (dirView dh d) RD) (Live (dirView dh d) RD) (λ p. (λ l. l, λ l. l)) (λ p l. l .0)
       (gave G (Live (dirView dh d) RD) RF x still loose))
-    where
-      ws : List Write
-      ws = giveWrites 48 (field 48 (t1 .fileTable)) x
 
-      G2 : View
-      G2 = fileView (t1 .dirTable) (t1 .fileHash) (wrote 48 (t1 .fileTable) (giveWrites 48 (field 48 (t1 .fileTable)) x))
+  -- one more entry is free
+  pub deleted-file-removed : removedOf G2 ≡ x ∷ RF
+  deleted-file-removed = removed-agree (give G x) G2 (Live (dirView dh d) RD) (x ∷ RF) (gave G (Live (dirView dh d) RD) RF x still loose) (gave-same .count) (gave-same .coll)
 
-      fit : Fit 48 (length (t1 .fileTable)) (giveWrites 48 (field 48 (t1 .fileTable)) x)
-      fit =
-          let e = entry-fits 48 (t1 .fileTable) x in-room in
-          fit-append 48 (length (t1 .fileTable)) (copyWrites (48 / 4 - 1) 1 (field 48 (t1 .fileTable)) x) (write x 0 (field 48 (t1 .fileTable) 0 0) ∷ write 0 0 x ∷ [])
-          (fit-copy 48 (length (t1 .fileTable)) (48 / 4 - 1) 1 (field 48 (t1 .fileTable)) x e (omega arith) (λ g. field-lt 48 (t1 .fileTable) 0 g (fine .file-table)))
-          ((e, omega arith, field-lt 48 (t1 .fileTable) 0 0 (fine .file-table)), (((let i = in-room in omega arith), omega arith, (let i = in-room in let k = fine .file-few in omega arith)), tt))
+  pub deleted-file-count : G2 .count ≡ fileView d fh f .count
+  deleted-file-count = gave-same .count ∙ same .count
 
-      gave-same : Agree (give G x) (fileView (t1 .dirTable) (t1 .fileHash) (wrote 48 (t1 .fileTable) (giveWrites 48 (field 48 (t1 .fileTable)) x)))
-      gave-same =
-          agree-trans (give G x)
-          (viewOf (length (t1 .fileHash) / 4) (length (t1 .fileTable) / 48) 0 (reads (giveWrites 48 (field 48 (t1 .fileTable)) x) (field 48 (t1 .fileTable))) (hashAt (t1 .fileHash)) (G .head))
-          (fileView (t1 .dirTable) (t1 .fileHash) (wrote 48 (t1 .fileTable) (giveWrites 48 (field 48 (t1 .fileTable)) x)))
-          (gave-agrees (length (t1 .fileHash) / 4) (length (t1 .fileTable) / 48) 0 (field 48 (t1 .fileTable)) (hashAt (t1 .fileHash)) (G .head) x (lx .0) 48 (omega arith))
-          (table-alike (length (t1 .fileHash) / 4) (length (t1 .fileTable) / 48) 0 (length (t1 .fileHash) / 4)
-          (length (wrote 48 (t1 .fileTable) (giveWrites 48 (field 48 (t1 .fileTable)) x)) / 48)
-          (reads (giveWrites 48 (field 48 (t1 .fileTable)) x) (field 48 (t1 .fileTable))) (field 48 (wrote 48 (t1 .fileTable) (giveWrites 48 (field 48 (t1 .fileTable)) x)))
-          (hashAt (t1 .fileHash)) (hashAt (t1 .fileHash)) (G .head) (G .head)
-          refl (ap (λ n. n / 48) (length-wrote 48 (giveWrites 48 (field 48 (t1 .fileTable)) x) (t1 .fileTable)))
-          (λ y g h. after 48 (t1 .fileTable) (giveWrites 48 (field 48 (t1 .fileTable)) x) fit y g (omega arith)) (λ b. refl) (λ q. refl))
+  pub deleted-file-maximum : G2 .maximum ≡ fileView d fh f .maximum
+  deleted-file-maximum = gave-same .maximum ∙ same .maximum
 
   module _ (p : ℕ) (lp : Live (dirView dh d) RD p) (name : List ℕ) (bn : Bytes name)
       (fresh : (y : ℕ) → Live (fileView d fh f) RF y → y ≢ x → fileView d fh f .key y ≢ nameKey p name) where

@@ -3,7 +3,7 @@
 use mathlib.Core.Path.{_≡_, refl, sym, ap, subst}
 use mathlib.Core.List.{List, [], _∷_}
 use mathlib.Core.Logic.{_⊎_, inl, inr, ⊎-elim, _≢_}
-use Prim.Native.Nat.{ℕ, zero, suc, _-_, _<_}
+use Prim.Native.Nat.{ℕ, zero, suc, _+_, _-_, _<_}
 use native.Mathlib.Omega.{arith}
 use lib.ListN.{length}
 use Rattle.words.proofs.Laws.{Bytes}
@@ -20,11 +20,11 @@ use Rattle.meta_tree.proofs.Equal.{tree-of, sound-of}
 use Rattle.fs_meta.specs.Tables.{Tables, dirs, files, Has, HasOther, above}
 use Rattle.fs_meta.specs.Steps.{madeDir, madeFile, deletedDir, deletedFile, renamedDir, renamedFile, carriedDir, carriedFile}
 use Rattle.fs_kept.proofs.Above.{way-up}
-use Rattle.fs_kept.proofs.Files.{Fine, deleted-file-kept, renamed-file-kept}
+use Rattle.fs_kept.proofs.Files.{Fine, deleted-file-kept, deleted-file-removed, deleted-file-count, deleted-file-maximum, renamed-file-kept}
 use Rattle.fs_kept.proofs.MakeFile.{carried-file-kept, made-file-kept}
 use Rattle.fs_kept.proofs.Dirs.{renamed-dir-kept, carried-dir-kept}
 use Rattle.fs_kept.proofs.MakeDir.{made-dir-kept}
-use Rattle.fs_kept.proofs.DeleteDir.{deleted-dir-kept}
+use Rattle.fs_kept.proofs.DeleteDir.{deleted-dir-kept, deleted-dir-removed, deleted-dir-count, deleted-dir-maximum}
 
 pub walk-zero : (next : ℕ → ℕ) (k h : ℕ) → h ≡ 0 → walk next k h ≡ []
 walk-zero next zero h e = refl
@@ -39,6 +39,9 @@ space v n =
     inr (⊎-elim (λ (z : v .maximum - v .count ≡ 0). absurd (n (omega arith))) (λ (z : v .maximum - v .count ≢ 0). omega arith) (same-or (v .maximum - v .count) 0)))
     (λ (e : v .coll 0 ≢ 0). inl e)
     (same-or (v .coll 0) 0)
+
+one-more : (v v′ : View) (x : ℕ) → v′ .count ≡ v .count → v′ .maximum ≡ v .maximum → removedOf v′ ≡ x ∷ removedOf v → freeOf v′ ≡ freeOf v + 1
+one-more v v′ x c m r = let l : length (removedOf v′) ≡ suc (length (removedOf v)) = ap length r in omega arith
 
 module _ (s : Tables) (Q : Fine (s .dirHash) (s .dirTable) (s .fileHash) (s .fileTable)) (S : Sound (dirs s) (files s)) where
   T : Tree (dirs s) (files s) (removedOf (dirs s)) (removedOf (files s))
@@ -96,3 +99,16 @@ module _ (s : Tables) (Q : Fine (s .dirHash) (s .dirTable) (s .fileHash) (s .fil
   kept-carry-file x bytes bb lx =
       sound-of (dirs (carriedFile s x bytes)) (files (carriedFile s x bytes)) (removedOf (dirs s)) (removedOf (files s))
       (carried-file-kept (s .dirHash) (s .dirTable) (s .fileHash) (s .fileTable) Q (removedOf (dirs s)) (removedOf (files s)) T x lx bytes bb)
+
+  -- an entry that is given up is one more that make can use; of a directory whether or not it has children
+  pub given-dir-free : (x : ℕ) → LiveIn (dirs s) x → (x ≡ 1 → ⊥) → freeOf (dirs (deletedDir s x)) ≡ freeOf (dirs s) + 1
+  given-dir-free x lx n1 =
+      one-more (dirs s) (dirs (deletedDir s x)) x (deleted-dir-count (s .dirHash) (s .dirTable) (s .fileHash) (s .fileTable) Q (removedOf (dirs s)) (removedOf (files s)) T x lx n1)
+      (deleted-dir-maximum (s .dirHash) (s .dirTable) (s .fileHash) (s .fileTable) Q (removedOf (dirs s)) (removedOf (files s)) T x lx n1)
+      (deleted-dir-removed (s .dirHash) (s .dirTable) (s .fileHash) (s .fileTable) Q (removedOf (dirs s)) (removedOf (files s)) T x lx n1)
+
+  pub given-file-free : (x : ℕ) → LiveIn (files s) x → freeOf (files (deletedFile s x)) ≡ freeOf (files s) + 1
+  given-file-free x lx =
+      one-more (files s) (files (deletedFile s x)) x (deleted-file-count (s .dirHash) (s .dirTable) (s .fileHash) (s .fileTable) Q (removedOf (dirs s)) (removedOf (files s)) T x lx)
+      (deleted-file-maximum (s .dirHash) (s .dirTable) (s .fileHash) (s .fileTable) Q (removedOf (dirs s)) (removedOf (files s)) T x lx)
+      (deleted-file-removed (s .dirHash) (s .dirTable) (s .fileHash) (s .fileTable) Q (removedOf (dirs s)) (removedOf (files s)) T x lx)

@@ -9,10 +9,10 @@ use native.Mathlib.Nat.{mul-le-mul-right, div-mul-le-self, suc-mul}
 use lib.ListN.{length, getD}
 use Rattle.links.specs.Links.{_∈_, Links, Holds}
 use Rattle.links.specs.Change.{walk, before}
-use Rattle.links.proofs.Laws.{kept, positive}
+use Rattle.links.proofs.Laws.{kept, positive, walked, fewer}
 use Rattle.links.proofs.Held.{before-is}
 use Rattle.meta_table.specs.Field.{Write, write}
-use Rattle.meta_table.specs.View.{View, parent, Live}
+use Rattle.meta_table.specs.View.{View, parent, removedOf, Live}
 use Rattle.meta_table.specs.Steps.{copyWrites, cutWrites, giveWrites}
 use Rattle.meta_table.proofs.Field.{Has, Fit}
 use Rattle.meta_table.proofs.Table.{Here, Sound, walk-is, not-zero}
@@ -47,6 +47,12 @@ fit-cut w n false p f v a b c = ((a, b, c), tt)
 pub fit-copy : (w n k f : ℕ) (m : ℕ → ℕ → ℕ) (x : ℕ) → x * w + w ≤ n → 4 * (f + k) ≤ w → ((g : ℕ) → m 0 g < 2 ^ 32) → Fit w n (copyWrites k f m x)
 fit-copy w n zero f m x a b c = tt
 fit-copy w n (suc k) f m x a b c = ((a, omega arith, c f), fit-copy w n k (suc f) m x a (omega arith) c)
+
+-- the removed list is what a walk finds, also of a table that has the same count and collision fields
+pub removed-agree : (v v′ : View) (Dir : ℕ → Type 0) (R : List ℕ) → Sound v Dir R 0 → v′ .count ≡ v .count → ((y : ℕ) → v′ .coll y ≡ v .coll y) → removedOf v′ ≡ R
+removed-agree v v′ Dir R S c e =
+    let h : length R < v .count = fewer (v .coll) (v .count) (v .coll 0) R (S .count-one) (S .removed) (S .removed-below) in
+    walked (v′ .coll) (v′ .count) (v′ .coll 0) R (subst (λ z. Links (v′ .coll) z R) (sym (e 0)) (kept (v .coll) (v′ .coll) (v .coll 0) R (λ y _. e y) (S .removed))) (omega arith)
 
 -- ---- the directories as they were to the rule, and other files
 
