@@ -37,6 +37,14 @@ pub fn holds(buf: &[u8], stored: &[u8]) -> bool {
     i == buf.len()
 }
 
+// Whether a table holds a part at an offset.
+pub fn holds_at(table: &[u8], offset: usize, part: &[u8]) -> bool {
+    if table.len() < offset {
+        return false;
+    }
+    holds(part, &table[offset..])
+}
+
 // The same for a list.
 pub fn holds_list(list: &[u32], stored: &[u8]) -> bool {
     let end = stored.len() / 4;
@@ -71,11 +79,35 @@ pub fn wide(word: u32) -> u64
 }
 
 // The third word of a file's header: how many records follow.
-pub fn third(head: &[u8]) -> u32 {
+fn third(head: &[u8]) -> u32 {
     if head.len() < 12 {
         return 0;
     }
     words::get_u32(head, 8)
+}
+
+// Reads the file's header, and says how many records follow.
+pub fn records() -> u32 {
+    let mut head = [0u8; 16];
+    let got = io::read_full(0, &mut head);
+    if got != 16 {
+        return 0;
+    }
+    third(&head)
+}
+
+// Writes a line that counts something.
+pub fn say(number: u32, what: &[u8]) {
+    io::print_decimal(1, wide(number));
+    io::write_all(1, what);
+}
+
+// One more where a record came out as it is stored.
+pub fn one_more(count: u32, same: bool) -> u32 {
+    if same {
+        return std::num::wrapping_add_u32(count, 1);
+    }
+    count
 }
 
 // A word of a record that is a length.

@@ -32,7 +32,7 @@ fn blocks() {
 
 #[test]
 fn tree() {
-    for bytes in records("oracle/stored/tree.bin", stored::TREE_MARK, stored::TREE_RECORD) {
+    for bytes in records("crates/stored_tree/stdin", stored::TREE_MARK, stored::TREE_RECORD) {
         let record = tree_record(&bytes);
         assert_eq!(tree_bytes(&record), bytes);
         for port in [&Stated as &dyn Port, &Library] {
