@@ -1,7 +1,7 @@
 //! Links the proved static library.
 //!
 //! It is `target/staticlib/libmukthiban.a` at the repository's root, written by `rt staticlib mukthiban` if it is not
-//! there. `MUKTHIBAN_LIB` may name another library with the same symbols, for development.
+//! there.
 
 use std::env;
 use std::fs;
@@ -10,14 +10,7 @@ use std::process::Command;
 
 fn main() {
     println!("cargo:rerun-if-changed=build.rs");
-    println!("cargo:rerun-if-env-changed=MUKTHIBAN_LIB");
-    println!("cargo:rustc-check-cfg=cfg(tested_fat)");
-    println!("cargo:rustc-check-cfg=cfg(tested_tree)");
-
-    let library = match env::var_os("MUKTHIBAN_LIB") {
-        Some(named) => PathBuf::from(named),
-        None => proved_library(),
-    };
+    let library = proved_library();
     println!("cargo:rerun-if-changed={}", library.display());
     let bytes = fs::read(&library).unwrap_or_else(|e| panic!("{}: {e}", library.display()));
 
@@ -25,14 +18,6 @@ fn main() {
     fs::write(out.join("libmukthiban.a"), &bytes).expect("OUT_DIR can be written");
     println!("cargo:rustc-link-search=native={}", out.display());
     println!("cargo:rustc-link-lib=static=mukthiban");
-
-    // The inner calls are used where the library exports them.
-    if holds(&bytes, b"mukthiban_tested_fat_create") {
-        println!("cargo:rustc-cfg=tested_fat");
-    }
-    if holds(&bytes, b"mukthiban_tested_tree_make_file") {
-        println!("cargo:rustc-cfg=tested_tree");
-    }
 }
 
 /// The repository's own library, proved and written now if it is not there.
@@ -53,11 +38,7 @@ fn prove(root: &Path) {
         Ok(s) => panic!("`rt staticlib mukthiban` at {} failed: {s}", root.display()),
         Err(e) => panic!(
             "target/staticlib/libmukthiban.a is not there and `rt` could not be started to write it ({e}); \
-             put the Rattle kit's bin folder on PATH, or name a library in MUKTHIBAN_LIB"
+             put the Rattle kit's bin folder on PATH"
         ),
     }
-}
-
-fn holds(bytes: &[u8], part: &[u8]) -> bool {
-    bytes.windows(part.len()).any(|w| w == part)
 }

@@ -478,7 +478,6 @@ extern "C" {
 // They answer what the plain call answers on such input, in its order, and change the same bytes, and they take no
 // work list: create 2 (count 0), 6; resize 5, 2 (count 0), 6; delete 5; open list 5, 8; read and write 5, 7; the tree
 // calls all that stands behind 9.
-#[cfg(tested_fat)]
 extern "C" {
     pub fn mukthiban_tested_fat_open_list(
         table: *const u8,
@@ -523,7 +522,6 @@ extern "C" {
     ) -> Plain;
 }
 
-#[cfg(tested_tree)]
 extern "C" {
     pub fn mukthiban_tested_tree_lookup_dir(
         dir_hash: *const u8,

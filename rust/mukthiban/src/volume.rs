@@ -85,8 +85,7 @@ impl std::error::Error for NotSound {}
 ///   read; [`Volume::into_parts`] gives them away and ends the volume.
 ///
 /// The counts that a volume keeps beside its bytes (free blocks, the blocks of each file) decide nothing: they are
-/// counted when it is opened, held against what the test answered, and carried on with each call. Where the library
-/// has no inner exports, the plain calls are used, with the same answers.
+/// counted when it is opened, held against what the test answered, and carried on with each call.
 ///
 /// ```
 /// use mukthiban::{Kind, Refusal, Shape, Volume, ROOT};
@@ -113,7 +112,6 @@ impl std::error::Error for NotSound {}
 #[derive(Clone, Debug)]
 pub struct Volume {
     parts: Parts,
-    work: Vec<u32>,
     dir_opens: Vec<u32>,
     file_opens: Vec<u32>,
     /// Blocks in the free chain.
@@ -137,7 +135,7 @@ impl Volume {
             Ok(tested) => {
                 let counts = count_files(&parts.fat, tested);
                 let (dir_opens, file_opens) = (vec![0; dirs], vec![0; files]);
-                Ok(Volume { parts, work, dir_opens, file_opens, free: tested.free, counts })
+                Ok(Volume { parts, dir_opens, file_opens, free: tested.free, counts })
             }
             Err(refusal) => Err(NotSound { refusal, parts: Box::new(parts) }),
         }
@@ -218,7 +216,7 @@ impl Volume {
     /// Makes a file of `block_count` blocks and answers its first block. No data byte changes.
     pub fn create(&mut self, block_count: usize) -> Result<usize, Refusal> {
         // SAFETY: here and below, the tables are sound and the counts right, as the type's documentation says.
-        let r = unsafe { inner::create(&mut self.parts, &mut self.work, block_count) };
+        let r = unsafe { inner::create(&mut self.parts, block_count) };
         judge(r.answer)?;
         self.free -= block_count;
         self.counts[r.first_block] = block_count as u32;
@@ -227,7 +225,7 @@ impl Volume {
 
     /// Grows or shrinks a file. Its first block stays.
     pub fn resize(&mut self, first_block: usize, block_count: usize) -> Result<(), Refusal> {
-        let r = unsafe { inner::resize(&mut self.parts, &mut self.work, first_block, block_count) };
+        let r = unsafe { inner::resize(&mut self.parts, first_block, block_count) };
         judge(r.answer)?;
         self.free = self.free + self.counts[first_block] as usize - block_count;
         self.counts[first_block] = block_count as u32;
@@ -236,7 +234,7 @@ impl Volume {
 
     /// Gives all blocks of a file back.
     pub fn delete(&mut self, first_block: usize) -> Result<(), Refusal> {
-        let r = unsafe { inner::delete(&mut self.parts, &mut self.work, first_block) };
+        let r = unsafe { inner::delete(&mut self.parts, first_block) };
         judge(r.answer)?;
         self.free += self.counts[first_block] as usize;
         self.counts[first_block] = 0;
@@ -244,52 +242,42 @@ impl Volume {
     }
 
     /// The blocks of a file, in chain order.
-    pub fn open_list(&mut self, first_block: usize) -> Result<Vec<u32>, Refusal> {
+    pub fn open_list(&self, first_block: usize) -> Result<Vec<u32>, Refusal> {
         let mut list = vec![0; self.block_count(first_block).unwrap_or(0)];
-        let r = unsafe { inner::open_list(&self.parts, &mut self.work, first_block, &mut list) };
+        let r = unsafe { inner::open_list(&self.parts, first_block, &mut list) };
         judge(r.answer)?;
         list.truncate(r.count);
         Ok(list)
     }
 
     /// Reads `buf.len()` bytes of a file from `pos` on.
-    pub fn read(&mut self, first_block: usize, pos: usize, buf: &mut [u8]) -> Result<(), Refusal> {
-        judge(unsafe { inner::read(&self.parts, &mut self.work, first_block, pos, buf) }.answer)
+    pub fn read(&self, first_block: usize, pos: usize, buf: &mut [u8]) -> Result<(), Refusal> {
+        judge(unsafe { inner::read(&self.parts, first_block, pos, buf) }.answer)
     }
 
     /// Writes `buf` to a file from `pos` on.
     pub fn write(&mut self, first_block: usize, pos: usize, buf: &[u8]) -> Result<(), Refusal> {
-        judge(unsafe { inner::write(&mut self.parts, &mut self.work, first_block, pos, buf) }.answer)
+        judge(unsafe { inner::write(&mut self.parts, first_block, pos, buf) }.answer)
     }
 }
 
 /// The tree.
 impl Volume {
     /// Finds a directory by parent and name.
-    pub fn lookup_dir(&mut self, parent: u32, name: &Name) -> Result<Found, Missed> {
-        tree::found(unsafe {
-            on_tree!(
-                mukthiban_tested_tree_lookup_dir, mukthiban_tree_lookup_dir, read self.parts, self.work,
-                parent, name,
-            )
-        })
+    pub fn lookup_dir(&self, parent: u32, name: &Name) -> Result<Found, Missed> {
+        tree::found(unsafe { on_tree!(mukthiban_tested_tree_lookup_dir, read self.parts, parent, name) })
     }
 
     /// Finds a file by parent and name.
-    pub fn lookup_file(&mut self, parent: u32, name: &Name) -> Result<Found, Missed> {
-        tree::found(unsafe {
-            on_tree!(
-                mukthiban_tested_tree_lookup_file, mukthiban_tree_lookup_file, read self.parts, self.work,
-                parent, name,
-            )
-        })
+    pub fn lookup_file(&self, parent: u32, name: &Name) -> Result<Found, Missed> {
+        tree::found(unsafe { on_tree!(mukthiban_tested_tree_lookup_file, read self.parts, parent, name) })
     }
 
     /// Makes a directory, opened once.
     pub fn make_dir(&mut self, parent: u32, name: &Name, carried: &[u8; 4]) -> Result<u32, Refusal> {
         tree::made(unsafe {
             on_tree!(
-                mukthiban_tested_tree_make_dir, mukthiban_tree_make_dir, change self.parts, self.work,
+                mukthiban_tested_tree_make_dir, change self.parts,
                 self.dir_opens.as_mut_ptr(), self.dir_opens.len(), parent, name, carried,
             )
         })
@@ -299,7 +287,7 @@ impl Volume {
     pub fn make_file(&mut self, parent: u32, name: &Name, carried: &[u8; 20]) -> Result<u32, Refusal> {
         tree::made(unsafe {
             on_tree!(
-                mukthiban_tested_tree_make_file, mukthiban_tree_make_file, change self.parts, self.work,
+                mukthiban_tested_tree_make_file, change self.parts,
                 self.file_opens.as_mut_ptr(), self.file_opens.len(), parent, name, carried,
             )
         })
@@ -309,7 +297,7 @@ impl Volume {
     pub fn rename_dir(&mut self, inode: u32, parent: u32, name: &Name) -> Result<(), Refusal> {
         let r = unsafe {
             on_tree!(
-                mukthiban_tested_tree_rename_dir, mukthiban_tree_rename_dir, change self.parts, self.work,
+                mukthiban_tested_tree_rename_dir, change self.parts,
                 self.dir_opens.as_ptr(), self.dir_opens.len(), inode, parent, name,
             )
         };
@@ -320,7 +308,7 @@ impl Volume {
     pub fn rename_file(&mut self, inode: u32, parent: u32, name: &Name) -> Result<(), Refusal> {
         let r = unsafe {
             on_tree!(
-                mukthiban_tested_tree_rename_file, mukthiban_tree_rename_file, change self.parts, self.work,
+                mukthiban_tested_tree_rename_file, change self.parts,
                 self.file_opens.as_ptr(), self.file_opens.len(), inode, parent, name,
             )
         };
@@ -331,7 +319,7 @@ impl Volume {
     pub fn delete_dir(&mut self, inode: u32) -> Result<(), Refusal> {
         let r = unsafe {
             on_tree!(
-                mukthiban_tested_tree_delete_dir, mukthiban_tree_delete_dir, change self.parts, self.work,
+                mukthiban_tested_tree_delete_dir, change self.parts,
                 self.dir_opens.as_mut_ptr(), self.dir_opens.len(), inode,
             )
         };
@@ -342,7 +330,7 @@ impl Volume {
     pub fn delete_file(&mut self, inode: u32) -> Result<(), Refusal> {
         let r = unsafe {
             on_tree!(
-                mukthiban_tested_tree_delete_file, mukthiban_tree_delete_file, change self.parts, self.work,
+                mukthiban_tested_tree_delete_file, change self.parts,
                 self.file_opens.as_mut_ptr(), self.file_opens.len(), inode,
             )
         };
@@ -350,42 +338,31 @@ impl Volume {
     }
 
     /// The directories in a directory, in list order.
-    pub fn list_dirs(&mut self, inode: u32) -> Result<Vec<u32>, Refusal> {
+    pub fn list_dirs(&self, inode: u32) -> Result<Vec<u32>, Refusal> {
         whole_list(|list| {
             tree::listed(unsafe {
-                on_tree!(
-                    mukthiban_tested_tree_list_dirs, mukthiban_tree_list_dirs, read self.parts, self.work,
-                    inode, list.as_mut_ptr(), list.len(),
-                )
+                on_tree!(mukthiban_tested_tree_list_dirs, read self.parts, inode, list.as_mut_ptr(), list.len())
             })
         })
     }
 
     /// The files in a directory, in list order.
-    pub fn list_files(&mut self, inode: u32) -> Result<Vec<u32>, Refusal> {
+    pub fn list_files(&self, inode: u32) -> Result<Vec<u32>, Refusal> {
         whole_list(|list| {
             tree::listed(unsafe {
-                on_tree!(
-                    mukthiban_tested_tree_list_files, mukthiban_tree_list_files, read self.parts, self.work,
-                    inode, list.as_mut_ptr(), list.len(),
-                )
+                on_tree!(mukthiban_tested_tree_list_files, read self.parts, inode, list.as_mut_ptr(), list.len())
             })
         })
     }
 
     /// Entries in all and entries still free, of both tables.
-    pub fn stat(&mut self) -> Result<Stat, Refusal> {
-        tree::stated(unsafe { on_tree!(mukthiban_tested_tree_stat, mukthiban_tree_stat, read self.parts, self.work,) })
+    pub fn stat(&self) -> Result<Stat, Refusal> {
+        tree::stated(unsafe { on_tree!(mukthiban_tested_tree_stat, read self.parts) })
     }
 
     /// The name of a live inode.
-    pub fn name(&mut self, kind: Kind, inode: u32) -> Result<&Name, Refusal> {
-        let r = unsafe {
-            on_tree!(
-                mukthiban_tested_tree_name, mukthiban_tree_name, read self.parts, self.work,
-                kind as u32, inode,
-            )
-        };
+    pub fn name(&self, kind: Kind, inode: u32) -> Result<&Name, Refusal> {
+        let r = unsafe { on_tree!(mukthiban_tested_tree_name, read self.parts, kind as u32, inode) };
         judge(r.answer)?;
         let table = match kind {
             Kind::Dir => &self.parts.dir_table,
@@ -395,50 +372,30 @@ impl Volume {
     }
 
     /// A directory's 4 carried bytes.
-    pub fn carried_dir(&mut self, inode: u32) -> Result<[u8; 4], Refusal> {
+    pub fn carried_dir(&self, inode: u32) -> Result<[u8; 4], Refusal> {
         let mut carried = [0; 4];
-        let r = unsafe {
-            on_tree!(
-                mukthiban_tested_tree_carried_dir, mukthiban_tree_carried_dir, read self.parts, self.work,
-                inode, &mut carried,
-            )
-        };
+        let r = unsafe { on_tree!(mukthiban_tested_tree_carried_dir, read self.parts, inode, &mut carried) };
         judge(r.answer)?;
         Ok(carried)
     }
 
     /// A file's 20 carried bytes.
-    pub fn carried_file(&mut self, inode: u32) -> Result<[u8; 20], Refusal> {
+    pub fn carried_file(&self, inode: u32) -> Result<[u8; 20], Refusal> {
         let mut carried = [0; 20];
-        let r = unsafe {
-            on_tree!(
-                mukthiban_tested_tree_carried_file, mukthiban_tree_carried_file, read self.parts, self.work,
-                inode, &mut carried,
-            )
-        };
+        let r = unsafe { on_tree!(mukthiban_tested_tree_carried_file, read self.parts, inode, &mut carried) };
         judge(r.answer)?;
         Ok(carried)
     }
 
     /// Sets a directory's 4 carried bytes.
     pub fn set_carried_dir(&mut self, inode: u32, carried: &[u8; 4]) -> Result<(), Refusal> {
-        let r = unsafe {
-            on_tree!(
-                mukthiban_tested_tree_set_carried_dir, mukthiban_tree_set_carried_dir, change self.parts, self.work,
-                inode, carried,
-            )
-        };
+        let r = unsafe { on_tree!(mukthiban_tested_tree_set_carried_dir, change self.parts, inode, carried) };
         judge(r.answer)
     }
 
     /// Sets a file's 20 carried bytes.
     pub fn set_carried_file(&mut self, inode: u32, carried: &[u8; 20]) -> Result<(), Refusal> {
-        let r = unsafe {
-            on_tree!(
-                mukthiban_tested_tree_set_carried_file, mukthiban_tree_set_carried_file, change self.parts, self.work,
-                inode, carried,
-            )
-        };
+        let r = unsafe { on_tree!(mukthiban_tested_tree_set_carried_file, change self.parts, inode, carried) };
         judge(r.answer)
     }
 
@@ -446,7 +403,7 @@ impl Volume {
     pub fn open_dir(&mut self, inode: u32) -> Result<(), Refusal> {
         let r = unsafe {
             on_tree!(
-                mukthiban_tested_tree_open_dir, mukthiban_tree_open_dir, read self.parts, self.work,
+                mukthiban_tested_tree_open_dir, read self.parts,
                 self.dir_opens.as_mut_ptr(), self.dir_opens.len(), inode,
             )
         };
@@ -457,7 +414,7 @@ impl Volume {
     pub fn open_file(&mut self, inode: u32) -> Result<(), Refusal> {
         let r = unsafe {
             on_tree!(
-                mukthiban_tested_tree_open_file, mukthiban_tree_open_file, read self.parts, self.work,
+                mukthiban_tested_tree_open_file, read self.parts,
                 self.file_opens.as_mut_ptr(), self.file_opens.len(), inode,
             )
         };
@@ -468,7 +425,7 @@ impl Volume {
     pub fn close_dir(&mut self, inode: u32) -> Result<(), Refusal> {
         let r = unsafe {
             on_tree!(
-                mukthiban_tested_tree_close_dir, mukthiban_tree_close_dir, read self.parts, self.work,
+                mukthiban_tested_tree_close_dir, read self.parts,
                 self.dir_opens.as_mut_ptr(), self.dir_opens.len(), inode,
             )
         };
@@ -479,7 +436,7 @@ impl Volume {
     pub fn close_file(&mut self, inode: u32) -> Result<(), Refusal> {
         let r = unsafe {
             on_tree!(
-                mukthiban_tested_tree_close_file, mukthiban_tree_close_file, read self.parts, self.work,
+                mukthiban_tested_tree_close_file, read self.parts,
                 self.file_opens.as_mut_ptr(), self.file_opens.len(), inode,
             )
         };
