@@ -1,5 +1,5 @@
-pub mod Rows
 pub mod Stable
+pub mod Rows
 pub mod Sizes
 pub mod Good
 pub mod Steps

@@ -1,14 +1,12 @@
 -- The calls that change neither tables nor open counts, from their promises. Assumes nothing.
-use mathlib.Core.Path.{_≡_}
 use mathlib.Core.List.{List, [], _∷_}
-use mathlib.Core.Logic.{inl, inr}
 use Prim.Native.Nat.{ℕ, _<_}
 use native.Mathlib.Omega.{arith}
 use lib.ListN.{length, replicate}
 use Rattle.order.specs.First.{row, First}
 use Rattle.order.specs.Beside.{Beside}
 use Rattle.order.specs.declared.Answer.{Answer}
-use Rattle.order.specs.declared.Answer.the-variants.{Done, SizeMismatch, InvalidValue, WorkTooShort, ListTooShort, BrokenTree, NotFound}
+use Rattle.order.specs.declared.Answer.the-variants.{Done, SizeMismatch, InvalidValue, WorkTooShort, ListTooShort, NotFound}
 use Rattle.meta_key.specs.Key.{nameKey}
 use Rattle.meta_table.specs.View.{View, childrenOf, LiveIn}
 use Rattle.meta_test.specs.Gate.{treeGate}
@@ -20,12 +18,12 @@ use Rattle.fs_meta.specs.Calls as calls
 use Rattle.fs_meta.specs.Public.{LookupPromise, ListPromise, StatPromise, CarriedDirPromise, CarriedFilePromise}
 use Rattle.fs_meta.specs.declared.Kind.{Kind}
 use Rattle.fs_name.specs.Name.{NameAnswerPromise, kindView}
-use Rattle.fs_history.specs.Whole.{Lent, Whole, SameSizes}
-use Rattle.fs_history.specs.Call.{State, state}
+use Rattle.fs_history.specs.Whole.{Lent, Whole}
+use Rattle.fs_history.specs.Call.{State}
 use Rattle.fs_history.proofs.Rows.{of-first}
 use Rattle.fs_history.proofs.Stable.{sound-stable}
-use Rattle.fs_history.proofs.Sizes.{Passed, whole-step, after-wrote}
-use Rattle.fs_history.proofs.Good.{Good, Refusal, good-refused, good-broken, good-done, good-call, good-tests}
+use Rattle.fs_history.proofs.Sizes.{whole-step, after-wrote}
+use Rattle.fs_history.proofs.Good.{Good, good-refused, good-broken, good-done, good-call, good-tests}
 use Rattle.fs_history.proofs.Calls.{not-found}
 
 module _ (s : State) (L : Lent (s .tables)) (work : List ℕ) where
@@ -36,8 +34,8 @@ module _ (s : State) (L : Lent (s .tables)) (work : List ℕ) where
   short = length work < rooms (t .dirTable) (t .fileTable)
 
   -- Done, and nothing changed
-  looked : Passed t → Good s Done s
-  looked P = good-done s s (whole-step t P L t (after-wrote t [] [] [] []) (P .sound))
+  looked : Whole t → Good s Done s
+  looked w = good-done s s (whole-step t w t (after-wrote t [] [] [] []) (w .sound))
 
   pub good-test : (o : Tested × List ℕ)
       → First (treeGate tested (t .dirHash) (t .dirTable) (t .fileHash) (t .fileTable) work) (testDone (t .dirTable) (t .fileTable) work) o
@@ -51,39 +49,39 @@ module _ (s : State) (L : Lent (s .tables)) (work : List ℕ) where
           (λ _. good-refused s WorkTooShort (omega arith, λ e. omega arith), (λ n. good-broken s n, tt)),
         ),
       )
-      (λ n. looked (record { fits = n .0; inside = n .1 .0; sound = sound-stable (dirs t) (files t) (n .1 .1 .1 .0) }))
+      (λ n. looked (record { lent = L; fits = n .0; inside = n .1 .0; sound = sound-stable (dirs t) (files t) (n .1 .1 .1 .0) }))
 
   pub good-lookup : (v : View) (p : ℕ) (name : List ℕ) (o : Beside calls.Lookup) → LookupPromise t v work p name o → Good s (o .given .answer) s
   good-lookup v p name o =
-      good-call s (λ (x : calls.Lookup). x .answer) (λ _. s) (λ a. calls.lookupGives a 0 0) (λ a g. g) short work (calls.lookupRows v (nameKey p name))
+      good-call s L (λ (x : calls.Lookup). x .answer) (λ _. s) (λ a. calls.lookupGives a 0 0) (λ a g. g) short work (calls.lookupRows v (nameKey p name))
       (calls.lookupDone v (nameKey p name)) o
       (λ _. good-refused s NotFound not-found, tt)
-      (λ P n. looked P)
+      (λ w n. looked w)
 
   pub good-list : (v : View) (x : ℕ) (list : List ℕ) (o : Beside calls.Listing) → ListPromise t v work x list o → Good s (o .given .answer) s
   good-list v x list o =
-      good-tests s (λ (x : calls.Listing). x .answer) (λ _. s) (λ a. calls.listGives a 0 list) (λ a g. g) short work
+      good-tests s L (λ (x : calls.Listing). x .answer) (λ _. s) (λ a. calls.listGives a 0 list) (λ a g. g) short work
       (row (LiveIn (dirs t) x → ⊥) NotFound ∷ row (length list < length (childrenOf v x)) ListTooShort ∷ []) (calls.listDone v x list) o
       (not-found, ((omega arith, λ e. omega arith), tt))
-      (λ P n. looked P)
+      (λ w n. looked w)
 
   pub good-stat : (o : Beside calls.Stat) → StatPromise t work o → Good s (o .given .answer) s
   good-stat o =
-      good-tests s (λ (x : calls.Stat). x .answer) (λ _. s) (λ a. calls.statGives a 0 0 0 0) (λ a g. g) short work [] (calls.statDone t) o tt (λ P n. looked P)
+      good-tests s L (λ (x : calls.Stat). x .answer) (λ _. s) (λ a. calls.statGives a 0 0 0 0) (λ a g. g) short work [] (calls.statDone t) o tt (λ w n. looked w)
 
   pub good-name : (kind : Kind) (x : ℕ) (o : Beside Answer) → NameAnswerPromise t work kind x o → Good s (o .given) s
   good-name kind x o =
-      good-tests s (λ (a : Answer). a) (λ _. s) (λ a. a) (λ a g. g) short work (row (LiveIn (kindView kind t) x → ⊥) NotFound ∷ []) Done o (not-found, tt)
-      (λ P n. looked P)
+      good-tests s L (λ (a : Answer). a) (λ _. s) (λ a. a) (λ a g. g) short work (row (LiveIn (kindView kind t) x → ⊥) NotFound ∷ []) Done o (not-found, tt)
+      (λ w n. looked w)
 
   pub good-carried-dir : (x : ℕ) (o : Beside calls.Shown) → CarriedDirPromise t work x o → Good s (o .given .answer) s
   good-carried-dir x o =
-      good-tests s (λ (x : calls.Shown). x .answer) (λ _. s) (λ a. calls.shownGives a (replicate 4 0)) (λ a g. g) short work
+      good-tests s L (λ (x : calls.Shown). x .answer) (λ _. s) (λ a. calls.shownGives a (replicate 4 0)) (λ a g. g) short work
       (row (LiveIn (dirs t) x → ⊥) NotFound ∷ []) (calls.dirCarriedDone t x) o (not-found, tt)
-      (λ P n. looked P)
+      (λ w n. looked w)
 
   pub good-carried-file : (x : ℕ) (o : Beside calls.Shown) → CarriedFilePromise t work x o → Good s (o .given .answer) s
   good-carried-file x o =
-      good-tests s (λ (x : calls.Shown). x .answer) (λ _. s) (λ a. calls.shownGives a (replicate 20 0)) (λ a g. g) short work
+      good-tests s L (λ (x : calls.Shown). x .answer) (λ _. s) (λ a. calls.shownGives a (replicate 20 0)) (λ a g. g) short work
       (row (LiveIn (files t) x → ⊥) NotFound ∷ []) (calls.fileCarriedDone t x) o (not-found, tt)
-      (λ P n. looked P)
+      (λ w n. looked w)

@@ -1,7 +1,7 @@
 -- Why directories stay reachable: a rename keeps every way up to the root where it does not go below itself, and else makes a ring. Assumes nothing.
 use mathlib.Core.Path.{_≡_, refl, sym, ap, _∙_, subst}
 use mathlib.Core.List.{List, [], _∷_}
-use mathlib.Core.Logic.{_⊎_, inl, inr, ⊎-elim, _≢_}
+use mathlib.Core.Logic.{inl, inr, ⊎-elim, _≢_}
 use Prim.Native.Nat.{ℕ, _<_}
 use native.Mathlib.Omega.{arith}
 use Rattle.links.specs.Links.{_∈_, Links}
@@ -11,7 +11,7 @@ use Rattle.meta_key.specs.Key.{nameKey}
 use Rattle.meta_table.specs.View.{View, parent, removedOf, LiveIn}
 use Rattle.meta_table.proofs.Table.{link, unlink}
 use Rattle.meta_table.proofs.Agree.{Agree}
-use Rattle.meta_tree.specs.Sound.{Sound, up, Reaches}
+use Rattle.meta_tree.specs.Sound.{up, Reaches}
 use Rattle.meta_tree.proofs.Equal.{tree-of}
 use Rattle.fs_meta.specs.Tables.{Tables, dirs, files, above}
 use Rattle.fs_meta.specs.Steps.{renamedDir}
@@ -20,7 +20,7 @@ use Rattle.fs_kept.proofs.Dirs.{renamed-dir-agrees}
 use Rattle.fs_kept.proofs.Kept.{kept-rename-dir}
 use Rattle.fs_history.specs.Whole.{AreBytes, Whole}
 use Rattle.fs_history.specs.MayRename.{MayRename}
-use Rattle.fs_history.proofs.Sizes.{are-bytes, Passed, fine}
+use Rattle.fs_history.proofs.Sizes.{are-bytes, fine}
 
 -- ---- the ring
 
@@ -49,18 +49,15 @@ module _ (u u′ : ℕ → ℕ) (x : ℕ) (eo : (y : ℕ) → 0 < y → y ≢ x 
 -- ---- the theorems
 
 module _ (s : Tables) (w : Whole s) (x p : ℕ) (name : List ℕ) (bn : AreBytes name) where
-  P : Passed s
-  P = record { fits = w .fits; inside = w .inside; sound = w .sound }
-
   -- stays-reachable: a directory that may be renamed leaves every directory reaching the root
   pub stays-reachable : MayRename s x p name → (y : ℕ) → LiveIn (dirs (renamedDir s x p name)) y → Reaches (dirs (renamedDir s x p name)) y
   stays-reachable m =
-      kept-rename-dir s (fine s P (w .lent)) (w .sound) x p name (are-bytes name bn) (m .subject) (m .not-root) (m .parent) (m .not-into-itself) (m .free-key) .reach
+      kept-rename-dir s (fine s w) (w .sound) x p name (are-bytes name bn) (m .subject) (m .not-root) (m .parent) (m .not-into-itself) (m .free-key) .reach
 
   module _ (lx : LiveIn (dirs s) x) (n1 : x ≡ 1 → ⊥) (lp : LiveIn (dirs s) p) where
     same : Agree (link (unlink (dirs s) x) x (nameKey p name)) (dirs (renamedDir s x p name))
     same =
-        renamed-dir-agrees (s .dirHash) (s .dirTable) (s .fileHash) (s .fileTable) (fine s P (w .lent)) (removedOf (dirs s)) (removedOf (files s))
+        renamed-dir-agrees (s .dirHash) (s .dirTable) (s .fileHash) (s .fileTable) (fine s w) (removedOf (dirs s)) (removedOf (files s))
         (tree-of (dirs s) (files s) refl refl (w .sound)) x lx n1 p lp name (are-bytes name bn)
 
     -- ring-below-itself: without the row IntoItself it would not: a directory that goes to itself or below itself no longer reaches the root

@@ -1,10 +1,10 @@
 -- Writes keep bytes and sizes; and what sizes that fit say. Assumes nothing.
-use mathlib.Core.Path.{_≡_, refl, sym, ap, _∙_, subst}
-use mathlib.Core.List.{List, []}
-use mathlib.Core.Logic.{_⊎_, inl, inr, ⊎-elim}
-use Prim.Native.Nat.{ℕ, _/_, _%_, _≤_, _<_}
+use mathlib.Core.Path.{_≡_, _∙_, subst}
+use mathlib.Core.List.{List}
+use mathlib.Core.Logic.{_⊎_, inl, inr}
+use Prim.Native.Nat.{ℕ, _/_, _%_, _<_}
 use native.Mathlib.Nat.{lt-of-not-le}
-use lib.ListN.{length, getD}
+use lib.ListN.{length}
 use Rattle.words.proofs.Laws.{Bytes}
 use Rattle.meta_table.specs.Field.{Write, wrote}
 use Rattle.meta_table.proofs.Field.{length-wrote}
@@ -14,7 +14,7 @@ use Rattle.fs_meta.specs.Tables.{Tables, tables, dirs, files}
 use Rattle.fs_kept.proofs.Tables.{bytes-wrote}
 use Rattle.fs_kept.proofs.Files.{Fine}
 use Rattle.fs_history.specs.Whole.{AreBytes, Lent, Whole, SameSizes}
-use Rattle.fs_history.proofs.Stable.{le-stable, sound-stable}
+use Rattle.fs_history.proofs.Stable.{le-stable}
 
 pub are-bytes : (t : List ℕ) → AreBytes t → Bytes t
 are-bytes t g = record { byte = g }
@@ -62,12 +62,6 @@ four P s s′ e p =
     (subst (λ n. P (length (s .dirHash)) n (length (s′ .fileHash)) (length (s′ .fileTable))) (e .dir-table)
     (subst (λ n. P n (length (s′ .dirTable)) (length (s′ .fileHash)) (length (s′ .fileTable))) (e .dir-hash) p)))
 
--- the tables that a call works on once sizes, work list and soundness have passed
-pub record Passed (s : Tables) : Type 0 where
-  pub fits : Misfit (s .dirHash) (s .dirTable) (s .fileHash) (s .fileTable) → ⊥
-  pub inside : Outside (s .dirHash) (s .dirTable) (s .fileHash) (s .fileTable) → ⊥
-  pub sound : Sound (dirs s) (files s)
-
 -- tables after writes, once they are sound
 pub whole-after : (s : Tables) → (Misfit (s .dirHash) (s .dirTable) (s .fileHash) (s .fileTable) → ⊥)
     → (Outside (s .dirHash) (s .dirTable) (s .fileHash) (s .fileTable) → ⊥) → Lent s → (s′ : Tables) → After s s′ → Sound (dirs s′) (files s′)
@@ -82,18 +76,18 @@ whole-after s fits inside L s′ a S = (
   a .sizes,
 )
 
-module _ (s : Tables) (P : Passed s) (L : Lent s) where
+module _ (s : Tables) (w : Whole s) where
   pub whole-step : (s′ : Tables) → After s s′ → Sound (dirs s′) (files s′) → Whole s′ × SameSizes s s′
-  whole-step = whole-after s (P .fits) (P .inside) L
+  whole-step = whole-after s (w .fits) (w .inside) (w .lent)
 
   pub fine : Fine (s .dirHash) (s .dirTable) (s .fileHash) (s .fileTable)
   fine = record {
-    dir-hash = are-bytes (s .dirHash) (L .dir-hash);
-    dir-table = are-bytes (s .dirTable) (L .dir-table);
-    file-hash = are-bytes (s .fileHash) (L .file-hash);
-    file-table = are-bytes (s .fileTable) (L .file-table);
-    dir-few = le-stable (length (s .dirTable) / 40) 65536 (λ k. P .inside (inr (inl (inr (lt-of-not-le k)))));
-    file-few = le-stable (length (s .fileTable) / 48) 65536 (λ k. P .inside (inr (inr (inr (inr (lt-of-not-le k))))));
-    dir-some = le-stable 1 (length (s .dirHash) / 4) (λ k. P .inside (inl (inl (lt-of-not-le k))));
-    file-some = le-stable 1 (length (s .fileHash) / 4) (λ k. P .inside (inr (inr (inl (inl (lt-of-not-le k))))));
+    dir-hash = are-bytes (s .dirHash) (w .lent .dir-hash);
+    dir-table = are-bytes (s .dirTable) (w .lent .dir-table);
+    file-hash = are-bytes (s .fileHash) (w .lent .file-hash);
+    file-table = are-bytes (s .fileTable) (w .lent .file-table);
+    dir-few = le-stable (length (s .dirTable) / 40) 65536 (λ k. w .inside (inr (inl (inr (lt-of-not-le k)))));
+    file-few = le-stable (length (s .fileTable) / 48) 65536 (λ k. w .inside (inr (inr (inr (inr (lt-of-not-le k))))));
+    dir-some = le-stable 1 (length (s .dirHash) / 4) (λ k. w .inside (inl (inl (lt-of-not-le k))));
+    file-some = le-stable 1 (length (s .fileHash) / 4) (λ k. w .inside (inr (inr (inl (inl (lt-of-not-le k))))));
   }

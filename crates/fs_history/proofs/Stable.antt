@@ -1,17 +1,17 @@
 -- What the rows ask of the tables holds where it is not denied: a row that does not apply says the rest. Assumes nothing.
-use mathlib.Core.Path.{_≡_, refl, sym, ap, ap₂, _∙_, subst}
+use mathlib.Core.Path.{_≡_, refl, sym, ap₂, subst}
 use mathlib.Core.List.{List, [], _∷_}
-use mathlib.Core.Logic.{_⊎_, inl, inr, ⊎-elim, _≢_, _↔_}
-use Prim.Native.Nat.{ℕ, zero, suc, _+_, _≤_, _<_}
+use mathlib.Core.Logic.{_⊎_, inl, inr, ⊎-elim, _≢_}
+use Prim.Native.Nat.{ℕ, suc, _≤_, _<_}
 use native.Mathlib.Nat.{lt-of-not-le}
 use native.Mathlib.Omega.{arith}
 use lib.ListN.{length}
-use Rattle.links.specs.Links.{_∈_, Distinct, Links, Holds}
+use Rattle.links.specs.Links.{_∈_, Links, Holds}
 use Rattle.links.specs.Change.{walk}
 use Rattle.links.proofs.Laws.{distinct, walked, fewer}
 use Rattle.links.proofs.Held.{same-or}
-use Rattle.meta_table.specs.View.{View, parent, place, removedOf, LiveIn}
-use Rattle.meta_tree.specs.Sound.{Table, Sound, up, Reaches}
+use Rattle.meta_table.specs.View.{View, place, removedOf, LiveIn}
+use Rattle.meta_tree.specs.Sound.{Table, Sound, up}
 use Rattle.fs_kept.proofs.Above.{way-up}
 
 -- not denied

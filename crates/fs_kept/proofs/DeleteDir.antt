@@ -1,17 +1,16 @@
 -- Deleting a directory that has no children keeps the tree. Assumes nothing.
 use mathlib.Core.Path.{_≡_, refl, sym, ap, _∙_, subst}
-use mathlib.Core.List.{List, [], _∷_, _++_}
-use mathlib.Core.Logic.{_⊎_, inl, inr, ⊎-elim, _≢_, _↔_}
-use Prim.Native.Nat.{ℕ, zero, suc, _+_, _-_, _*_, _/_, _%_, _^_, _≤_, _<_}
+use mathlib.Core.List.{List, [], _∷_}
+use mathlib.Core.Logic.{_≢_}
+use Prim.Native.Nat.{ℕ, _-_, _/_, _<_}
 use native.Mathlib.Omega.{arith}
-use lib.Dec.{eqb}
-use lib.ListN.{length, getD}
-use Rattle.links.specs.Links.{_∈_, Links}
-use Rattle.links.specs.Change.{pick, upd}
+use lib.ListN.{length}
+use Rattle.links.specs.Links.{_∈_}
+use Rattle.links.specs.Change.{upd}
 use Rattle.links.proofs.Laws.{kept, positive}
-use Rattle.links.proofs.Held.{upd-same, upd-other}
+use Rattle.links.proofs.Held.{upd-other}
 use Rattle.meta_table.specs.Field.{field, Write, write, wrote}
-use Rattle.meta_table.specs.View.{View, viewOf, hashAt, dirView, fileView, parent, place, removedOf, Live}
+use Rattle.meta_table.specs.View.{View, viewOf, hashAt, dirView, fileView, parent, removedOf, Live}
 use Rattle.meta_table.specs.Steps.{giveWrites, copyWrites}
 use Rattle.meta_table.proofs.Field.{Has, Fit, reads, length-wrote}
 use Rattle.meta_table.proofs.Table.{Sound, unlink, unlinked, unlinked-next, give, gave, gave-live, not-zero}
@@ -20,10 +19,10 @@ use Rattle.meta_table.proofs.Steps.{gave-field, gave-agrees}
 use Rattle.meta_tree.specs.Sound.{up}
 use Rattle.meta_tree.proofs.Tree.{Tree, heads, fewer-dirs, childless, not-above, root-up}
 use Rattle.fs_meta.specs.Tables.{Tables, tables}
-use Rattle.fs_meta.specs.Steps.{unlinkedDir, givenDir, deletedDir}
+use Rattle.fs_meta.specs.Steps.{unlinkedDir}
 use Rattle.fs_kept.proofs.Tables.{field-lt, after}
 use Rattle.fs_kept.proofs.Loose.{entry-fits, fit-append, fit-copy, removed-agree}
-use Rattle.fs_kept.proofs.Files.{Fine, dir-low}
+use Rattle.fs_kept.proofs.Files.{Fine}
 use Rattle.fs_kept.proofs.Dirs.{unlinked-dir, unlinked-heads, unlinked-dir-fine, bucket-some, dir-parent}
 
 module _ (dh d fh f : List ℕ) (Q : Fine dh d fh f) (RD RF : List ℕ) (T : Tree (dirView dh d) (fileView d fh f) RD RF) (x : ℕ) (lx : Live (dirView dh d) RD x) (n1 : x ≢ 1) where

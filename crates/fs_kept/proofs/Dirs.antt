@@ -1,35 +1,33 @@
 -- The steps on directories keep the tree: rename, make and carried bytes. Assumes nothing.
 use mathlib.Core.Path.{_≡_, refl, sym, ap, _∙_, subst}
 use mathlib.Core.List.{List, [], _∷_, _++_}
-use mathlib.Core.Logic.{_⊎_, inl, inr, ⊎-elim, _≢_, _↔_}
-use mathlib.Core.Bool.{Bool, true, false, _&&_}
-use Prim.Native.Nat.{ℕ, zero, suc, _+_, _-_, _*_, _/_, _%_, _^_, _≤_, _<_}
+use mathlib.Core.Logic.{_≢_}
+use mathlib.Core.Bool.{Bool, true, false}
+use Prim.Native.Nat.{ℕ, _+_, _*_, _/_, _^_, _≤_, _<_}
 use native.Mathlib.Omega.{arith}
 use native.Mathlib.Nat.{mod-lt}
 use lib.Dec.{eqb}
-use lib.ListN.{length, getD}
+use lib.ListN.{length}
 use Rattle.words.specs.Word.{word}
 use Rattle.words.proofs.Laws.{Bytes, word-lt}
-use Rattle.links.specs.Links.{_∈_, Links, Holds}
+use Rattle.links.specs.Links.{_∈_, Links}
 use Rattle.links.specs.Change.{pick, upd}
-use Rattle.links.proofs.Laws.{kept, positive}
 use Rattle.meta_key.specs.Key.{nameKey}
 use Rattle.meta_key.specs.Hash.{hashOf}
-use Rattle.meta_table.specs.Field.{field, Write, write, wrote}
-use Rattle.meta_table.specs.View.{View, viewOf, hashAt, keyAt, dirView, fileView, parent, place, Live}
-use Rattle.meta_table.specs.Steps.{taken, takeWrites, bucketBefore, childBefore, cutWrites, headWrites}
+use Rattle.meta_table.specs.Field.{field, Write, write}
+use Rattle.meta_table.specs.View.{View, viewOf, hashAt, dirView, fileView, parent, place, Live}
+use Rattle.meta_table.specs.Steps.{bucketBefore, childBefore, cutWrites, headWrites}
 use Rattle.meta_table.proofs.Field.{Has, Fit, reads, putAt, length-wrote}
-use Rattle.meta_table.proofs.Table.{Sound, link, unlink, take, took, took-live, rest, Space, Took, not-zero}
-use Rattle.meta_table.proofs.Agree.{Agree, agree-refl, agree-trans, link-agree, table-alike, live-agree, sound-agree}
+use Rattle.meta_table.proofs.Table.{link, unlink, not-zero}
+use Rattle.meta_table.proofs.Agree.{Agree, agree-trans, link-agree, table-alike, sound-agree}
 use Rattle.meta_table.proofs.Steps.{reads-append, unlink-agrees, link-writes}
 use Rattle.meta_tree.specs.Sound.{up}
-use Rattle.meta_tree.proofs.Tree.{Tree, heads, makeDir, makeDirFiles, renamed-dir, made-dir}
+use Rattle.meta_tree.proofs.Tree.{Tree, renamed-dir}
 use Rattle.fs_meta.specs.Tables.{Tables, tables}
-use Rattle.fs_meta.specs.Steps.{cut, entered, unlinkedDir, linkedDir, takenDir, childless, carriedDir, renamedDir, madeDir}
-use Rattle.fs_kept.proofs.Tables.{bytes-wrote, field-lt, after, put-other, dirs-past, heads-after}
+use Rattle.fs_meta.specs.Steps.{cut, entered, unlinkedDir, linkedDir, carriedDir, renamedDir}
+use Rattle.fs_kept.proofs.Tables.{field-lt, after, put-other, dirs-past, heads-after}
 use Rattle.fs_kept.proofs.Loose.{entry-fits, before-low, fit-append, fit-cut, tree-files}
 use Rattle.fs_kept.proofs.Files.{Fine, fine-wrote, dir-low}
-use Rattle.fs_kept.proofs.MakeFile.{took-agrees}
 
 -- both tables as they were to the rule
 pub tree-agree : (D D′ F F′ : View) (RD RF : List ℕ) → Tree D F RD RF → Agree D D′ → Agree F F′ → Tree D′ F′ RD RF

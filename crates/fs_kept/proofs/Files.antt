@@ -1,30 +1,29 @@
 -- The steps on files keep the tree. Assumes nothing.
 use mathlib.Core.Path.{_≡_, refl, sym, ap, _∙_, subst}
-use mathlib.Core.List.{List, [], _∷_, _++_}
-use mathlib.Core.Logic.{_⊎_, inl, inr, ⊎-elim, _≢_, _↔_}
+use mathlib.Core.List.{List, [], _∷_}
+use mathlib.Core.Logic.{_≢_}
 use mathlib.Core.Bool.{Bool, true, false}
-use Prim.Native.Nat.{ℕ, zero, suc, _+_, _-_, _*_, _/_, _%_, _^_, _≤_, _<_}
+use Prim.Native.Nat.{ℕ, _-_, _/_, _^_, _≤_, _<_}
 use native.Mathlib.Omega.{arith}
 use native.Mathlib.Nat.{mod-lt}
 use lib.Dec.{eqb}
-use lib.ListN.{length, getD}
+use lib.ListN.{length}
 use Rattle.words.specs.Word.{word}
 use Rattle.words.proofs.Laws.{Bytes, word-lt}
-use Rattle.links.specs.Links.{_∈_, Links, Holds}
 use Rattle.links.specs.Change.{pick, upd}
 use Rattle.meta_key.specs.Key.{nameKey}
 use Rattle.meta_key.specs.Hash.{hashOf}
 use Rattle.meta_table.specs.Field.{field, Write, write, wrote}
-use Rattle.meta_table.specs.View.{View, viewOf, hashAt, keyAt, dirView, fileView, parent, place, removedOf, Live}
-use Rattle.meta_table.specs.Steps.{taken, takeWrites, bucketBefore, childBefore, cutWrites, headWrites, giveWrites, copyWrites}
-use Rattle.meta_table.proofs.Field.{Has, Fit, reads, length-wrote}
-use Rattle.meta_table.proofs.Table.{Sound, link, linked, unlink, unlinked, give, gave, gave-live, take, took, took-live, rest, Space, not-zero}
+use Rattle.meta_table.specs.View.{View, viewOf, hashAt, dirView, fileView, parent, place, removedOf, Live}
+use Rattle.meta_table.specs.Steps.{bucketBefore, childBefore, cutWrites, headWrites, giveWrites, copyWrites}
+use Rattle.meta_table.proofs.Field.{Fit, reads, length-wrote}
+use Rattle.meta_table.proofs.Table.{Sound, link, linked, unlink, unlinked, give, gave, not-zero}
 use Rattle.meta_table.proofs.Agree.{Agree, agree-refl, agree-trans, table-alike, live-agree, sound-agree}
 use Rattle.meta_table.proofs.Steps.{unlink-agrees, link-writes, gave-agrees}
 use Rattle.meta_tree.proofs.Tree.{Tree}
 use Rattle.fs_meta.specs.Tables.{Tables, tables}
-use Rattle.fs_meta.specs.Steps.{cut, entered, unlinkedFile, linkedFile, givenFile, takenFile, carriedFile, deletedFile, renamedFile, madeFile}
-use Rattle.fs_kept.proofs.Tables.{bytes-wrote, field-lt, after, put-other, dirs-past, heads-after}
+use Rattle.fs_meta.specs.Steps.{cut, entered, unlinkedFile, linkedFile, deletedFile, renamedFile}
+use Rattle.fs_kept.proofs.Tables.{bytes-wrote, field-lt, after, dirs-past, heads-after}
 use Rattle.fs_kept.proofs.Loose.{entry-fits, before-low, fit-append, fit-cut, fit-copy, tree-files, removed-agree}
 
 -- four tables of bytes with fitting sizes

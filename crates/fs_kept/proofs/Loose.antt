@@ -1,23 +1,23 @@
 -- Which entries the steps touch, that their writes fit, and what a change of the files leaves of the tree. Assumes nothing.
-use mathlib.Core.Path.{_≡_, refl, sym, ap, _∙_, subst}
+use mathlib.Core.Path.{_≡_, sym, ap, _∙_, subst}
 use mathlib.Core.List.{List, [], _∷_, _++_}
-use mathlib.Core.Logic.{_⊎_, inl, inr, ⊎-elim, _≢_, _↔_}
+use mathlib.Core.Logic.{⊎-elim}
 use mathlib.Core.Bool.{Bool, true, false}
-use Prim.Native.Nat.{ℕ, zero, suc, _+_, _-_, _*_, _/_, _%_, _^_, _≤_, _<_}
+use Prim.Native.Nat.{ℕ, zero, suc, _+_, _*_, _/_, _^_, _≤_, _<_}
 use native.Mathlib.Omega.{arith}
 use native.Mathlib.Nat.{mul-le-mul-right, div-mul-le-self, suc-mul}
-use lib.ListN.{length, getD}
+use lib.ListN.{length}
 use Rattle.links.specs.Links.{_∈_, Links, Holds}
 use Rattle.links.specs.Change.{walk, before}
 use Rattle.links.proofs.Laws.{kept, positive, walked, fewer}
 use Rattle.links.proofs.Held.{before-is}
-use Rattle.meta_table.specs.Field.{Write, write}
+use Rattle.meta_table.specs.Field.{Write}
 use Rattle.meta_table.specs.View.{View, parent, removedOf, Live}
-use Rattle.meta_table.specs.Steps.{copyWrites, cutWrites, giveWrites}
+use Rattle.meta_table.specs.Steps.{copyWrites, cutWrites}
 use Rattle.meta_table.proofs.Field.{Has, Fit}
-use Rattle.meta_table.proofs.Table.{Here, Sound, walk-is, not-zero}
+use Rattle.meta_table.proofs.Table.{Here, Sound, walk-is}
 use Rattle.meta_table.proofs.Agree.{Agree, live-agree, sound-agree}
-use Rattle.meta_tree.specs.Sound.{up, Reaches}
+use Rattle.meta_tree.specs.Sound.{up}
 use Rattle.meta_tree.proofs.Tree.{Tree}
 
 -- an entry that the room has lies in the table

@@ -1,12 +1,12 @@
 -- Making a directory keeps the tree. Assumes nothing.
 use mathlib.Core.Path.{_≡_, refl, sym, ap, _∙_, subst}
-use mathlib.Core.List.{List, [], _∷_, _++_}
-use mathlib.Core.Logic.{_⊎_, inl, inr, ⊎-elim, _≢_, _↔_}
-use mathlib.Core.Bool.{Bool, true, false, _&&_}
-use Prim.Native.Nat.{ℕ, zero, suc, _+_, _-_, _*_, _/_, _%_, _^_, _≤_, _<_}
+use mathlib.Core.List.{List, [], _∷_}
+use mathlib.Core.Logic.{_≢_}
+use mathlib.Core.Bool.{Bool, true, false}
+use Prim.Native.Nat.{ℕ, _+_, _/_, _^_, _≤_, _<_}
 use native.Mathlib.Omega.{arith}
 use lib.Dec.{eqb}
-use lib.ListN.{length, getD}
+use lib.ListN.{length}
 use Rattle.words.specs.Word.{word}
 use Rattle.words.proofs.Laws.{Bytes, word-lt}
 use Rattle.links.specs.Change.{pick, upd}
@@ -14,12 +14,12 @@ use Rattle.meta_key.specs.Key.{nameKey}
 use Rattle.meta_table.specs.Field.{field, Write, write, wrote}
 use Rattle.meta_table.specs.View.{View, viewOf, hashAt, dirView, fileView, Live}
 use Rattle.meta_table.specs.Steps.{taken, takeWrites}
-use Rattle.meta_table.proofs.Field.{Has, Fit, reads, putAt, length-wrote}
-use Rattle.meta_table.proofs.Table.{Sound, link, take, took, took-live, rest, Space, Took, not-zero}
-use Rattle.meta_table.proofs.Agree.{Agree, agree-refl, agree-trans, link-agree, table-alike}
+use Rattle.meta_table.proofs.Field.{Has, Fit, putAt, length-wrote}
+use Rattle.meta_table.proofs.Table.{link, take, took, took-live, rest, Space, Took}
+use Rattle.meta_table.proofs.Agree.{Agree, agree-trans, link-agree, table-alike}
 use Rattle.meta_tree.proofs.Tree.{Tree, heads, makeDir, makeDirFiles, made-dir}
 use Rattle.fs_meta.specs.Tables.{Tables, tables}
-use Rattle.fs_meta.specs.Steps.{linkedDir, takenDir, childless, carriedDir, madeDir}
+use Rattle.fs_meta.specs.Steps.{linkedDir, madeDir}
 use Rattle.fs_kept.proofs.Tables.{field-lt, after, put-other, dirs-past}
 use Rattle.fs_kept.proofs.Loose.{entry-fits}
 use Rattle.fs_kept.proofs.Files.{Fine, fine-wrote, dir-low}

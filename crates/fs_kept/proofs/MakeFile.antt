@@ -1,28 +1,28 @@
 -- Making a file and setting carried bytes keep the tree. Assumes nothing.
 use mathlib.Core.Path.{_≡_, refl, sym, ap, _∙_, subst}
-use mathlib.Core.List.{List, [], _∷_, _++_}
-use mathlib.Core.Logic.{_⊎_, inl, inr, ⊎-elim, _≢_, _↔_}
-use mathlib.Core.Bool.{Bool, true, false, _&&_}
-use Prim.Native.Nat.{ℕ, zero, suc, _+_, _-_, _*_, _/_, _%_, _^_, _≤_, _<_}
+use mathlib.Core.List.{List, [], _∷_}
+use mathlib.Core.Logic.{⊎-elim, _≢_}
+use mathlib.Core.Bool.{Bool, true, false}
+use Prim.Native.Nat.{ℕ, _+_, _/_, _^_, _≤_, _<_}
 use native.Mathlib.Omega.{arith}
 use lib.Dec.{eqb}
 use borrow.Author.Tests.{ne-eqb}
-use lib.ListN.{length, getD}
+use lib.ListN.{length}
 use Rattle.words.specs.Word.{word}
 use Rattle.words.proofs.Laws.{Bytes, word-lt}
-use Rattle.links.specs.Change.{pick, upd}
+use Rattle.links.specs.Change.{pick}
 use Rattle.meta_key.specs.Key.{nameKey}
 use Rattle.meta_table.specs.Field.{field, Write, write, wrote}
-use Rattle.meta_table.specs.View.{View, viewOf, hashAt, keyAt, dirView, fileView, parent, place, Live}
+use Rattle.meta_table.specs.View.{View, viewOf, hashAt, dirView, fileView, Live}
 use Rattle.meta_table.specs.Steps.{taken, takeWrites}
 use Rattle.meta_table.proofs.Field.{Has, Fit, putAt, reads, length-wrote}
 use Rattle.meta_table.proofs.Table.{Sound, link, linked, take, took, took-live, rest, Space, Took, not-zero}
-use Rattle.meta_table.proofs.Agree.{Agree, agree-refl, agree-trans, table-alike, live-agree, sound-agree}
+use Rattle.meta_table.proofs.Agree.{Agree, agree-refl, table-alike, live-agree, sound-agree}
 use Rattle.meta_table.proofs.Steps.{takeT}
 use Rattle.meta_tree.proofs.Tree.{Tree}
 use Rattle.fs_meta.specs.Tables.{Tables, tables}
-use Rattle.fs_meta.specs.Steps.{linkedFile, takenFile, carriedDir, carriedFile, madeFile}
-use Rattle.fs_kept.proofs.Tables.{bytes-wrote, field-lt, after, put-other, dirs-past}
+use Rattle.fs_meta.specs.Steps.{linkedFile, takenFile, carriedFile, madeFile}
+use Rattle.fs_kept.proofs.Tables.{field-lt, after, put-other}
 use Rattle.fs_kept.proofs.Loose.{entry-fits, tree-files}
 use Rattle.fs_kept.proofs.Files.{Fine, fine-wrote, file-low, dir-low, linked-dirs, linked-files}
 

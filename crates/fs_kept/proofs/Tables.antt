@@ -1,18 +1,17 @@
 -- Writes to the tables' bytes, as their views see them. Assumes nothing.
-use mathlib.Core.Path.{_≡_, refl, sym, ap, _∙_, subst}
-use mathlib.Core.List.{List, [], _∷_, _++_}
-use mathlib.Core.Logic.{_⊎_, inl, inr, ⊎-elim, _≢_}
+use mathlib.Core.Path.{_≡_, refl, ap, _∙_}
+use mathlib.Core.List.{List, [], _∷_}
+use mathlib.Core.Logic.{_≢_}
 use mathlib.Core.Bool.{Bool, true, false, _&&_}
-use Prim.Native.Nat.{ℕ, zero, suc, _+_, _-_, _*_, _/_, _%_, _^_, _≤_, _<_}
+use Prim.Native.Nat.{ℕ, _+_, _*_, _/_, _^_, _≤_, _<_}
 use native.Mathlib.Omega.{arith}
 use lib.Dec.{eqb}
 use borrow.Author.Tests.{ne-eqb, eq-eqb}
-use lib.ListN.{length, getD}
-use Rattle.words.specs.Word.{word}
+use lib.ListN.{length}
 use Rattle.words.proofs.Laws.{Bytes, word-lt, bytes-putWord}
 use Rattle.links.specs.Change.{pick, upd}
 use Rattle.meta_table.specs.Field.{field, Write, write, wrote}
-use Rattle.meta_table.specs.View.{View, viewOf, hashAt, dirView, fileView}
+use Rattle.meta_table.specs.View.{hashAt, dirView}
 use Rattle.meta_table.proofs.Field.{Has, Fit, putAt, reads, field-wrote, length-wrote}
 use Rattle.meta_table.proofs.Agree.{Agree, table-alike}
 use Rattle.meta_table.specs.Steps.{headWrites}
