@@ -2,6 +2,7 @@
 
 pub mod blocks;
 pub mod tree;
+pub mod whole;
 
 use std::time::{Duration, Instant};
 
