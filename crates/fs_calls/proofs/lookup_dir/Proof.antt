@@ -1,22 +1,12 @@
-use Rattle.fs_meta.specs.Tables.{tables, dirs, files}
-use Rattle.fs_meta.proofs.Public.{ready, long-enough, shut, through}
-use Prim.Native.Nat.{_<_}
-use lib.ListN.{length}
-use Rattle.meta_tree.specs.Sizes.{rooms}
+use Rattle.fs_meta.specs.Tables.{tables, dirs}
+use Rattle.fs_meta.proofs.Public.{ready, shut, through}
 use Rattle.fs_meta.specs.Calls.{lookupGives, lookupRows, lookupDone}
 use Rattle.fs_meta.proofs.Lists.{dir-single}
-use mathlib.Core.Path.{subst}
-use Rattle.order.specs.First.{First}
 use Rattle.meta_key.specs.Key.{nameKey}
 use Rattle.fs_meta.proofs.Lookups.{with-key}
 use borrow.Author.Needs.{needs}
 use Rattle.fs_calls.proofs.lookup_dir.Statement.{statement}
 use Rattle.fs_calls.proofs.lookup_dir.Tie as tie
-use Rattle.fs_calls.proofs.lookup_dir.Reads as reads
-use Rattle.fs_calls.proofs.lookup_dir.Lts as lts
-use Rattle.fs_meta.proofs.look.lookup.Reads as lookup-reads
-use Rattle.meta_key.proofs.SaveExtKey.new.Reads as new-reads
-use Rattle.meta_test.proofs.gate.Reads as gate-reads
 
 gate-requires : tie.Need-gate-requires
 gate-requires c κs = search needs
@@ -31,19 +21,38 @@ new-requires : tie.Need-new-requires
 new-requires c κs = search needs
 
 lookup-requires : tie.Need-lookup-requires
-lookup-requires c κs = dir-single (tables (c .before .before .before .before .before .before .before .before .before .before .before .before .args .dir-hash .now) (c .before .before .before .before .before .before .before .before .before .before .before .before .args .dir-table .now) (c .before .before .before .before .before .before .before .before .before .before .before .before .args .file-hash .now) (c .before .before .before .before .before .before .before .before .before .before .before .before .args .file-table .now)) (ready (tables (c .before .before .before .before .before .before .before .before .before .before .before .before .args .dir-hash .now) (c .before .before .before .before .before .before .before .before .before .before .before .before .args .dir-table .now) (c .before .before .before .before .before .before .before .before .before .before .before .before .args .file-hash .now) (c .before .before .before .before .before .before .before .before .before .before .before .before .args .file-table .now)) (length (c .before .before .before .before .before .before .before .before .before .before .before .before .args .work .now) < rooms (c .before .before .before .before .before .before .before .before .before .before .before .before .args .dir-table .now) (c .before .before .before .before .before .before .before .before .before .before .before .before .args .file-table .now)) _ _ _ (c .before .before .before .before .before .gate .ensures) (c .before .enum-told .given .1))
+lookup-requires c κs =
+    let args = c .before .before .before .before .before .before .before .before .before .before .before .before .args in
+    let s = tables (args .dir-hash .now) (args .dir-table .now) (args .file-hash .now) (args .file-table .now) in
+    let gated = c .before .before .before .before .before .gate in
+    dir-single s (ready s _ _ _ _ (gated .ensures) (c .before .enum-told .given .1))
 
 same-length : tie.Need-same-length
 same-length c = search needs
 
 returns : tie.Need-returns
-returns c = shut (λ a. lookupGives a 0 0) (tables (c .before .before .before .before .before .before .before .before .before .before .before .before .args .dir-hash .now) (c .before .before .before .before .before .before .before .before .before .before .before .before .args .dir-table .now) (c .before .before .before .before .before .before .before .before .before .before .before .before .args .file-hash .now) (c .before .before .before .before .before .before .before .before .before .before .before .before .args .file-table .now)) (length (c .before .before .before .before .before .before .before .before .before .before .before .before .args .work .now) < rooms (c .before .before .before .before .before .before .before .before .before .before .before .before .args .dir-table .now) (c .before .before .before .before .before .before .before .before .before .before .before .before .args .file-table .now)) _ _ (lookupRows (dirs (tables (c .before .before .before .before .before .before .before .before .before .before .before .before .args .dir-hash .now) (c .before .before .before .before .before .before .before .before .before .before .before .before .args .dir-table .now) (c .before .before .before .before .before .before .before .before .before .before .before .before .args .file-hash .now) (c .before .before .before .before .before .before .before .before .before .before .before .before .args .file-table .now))) (nameKey (c .before .before .before .before .before .before .before .before .before .before .before .before .args .parent) (c .before .before .before .before .before .before .before .before .before .before .before .before .args .name .now))) (lookupDone (dirs (tables (c .before .before .before .before .before .before .before .before .before .before .before .before .args .dir-hash .now) (c .before .before .before .before .before .before .before .before .before .before .before .before .args .dir-table .now) (c .before .before .before .before .before .before .before .before .before .before .before .before .args .file-hash .now) (c .before .before .before .before .before .before .before .before .before .before .before .before .args .file-table .now))) (nameKey (c .before .before .before .before .before .before .before .before .before .before .before .before .args .parent) (c .before .before .before .before .before .before .before .before .before .before .before .before .args .name .now))) _ (c .before .before .before .before .before .gate .ensures) _ (c .before .gated .given .1)
+returns c =
+    let args = c .before .before .before .before .before .before .before .before .before .before .before .before .args in
+    let s = tables (args .dir-hash .now) (args .dir-table .now) (args .file-hash .now) (args .file-table .now) in
+    let gated = c .before .before .before .before .before .gate in
+    shut (λ a. lookupGives a 0 0) s _ _ _
+    (lookupRows (dirs s) (nameKey (args .parent) (args .name .now)))
+    (lookupDone (dirs s) (nameKey (args .parent) (args .name .now))) _
+    (gated .ensures) _ (c .before .gated .given .1)
 
 same-length-2 : tie.Need-same-length-2
 same-length-2 c = search needs
 
 returns-2 : tie.Need-returns-2
-returns-2 c = through (λ a. lookupGives a 0 0) (tables (c .before .before .before .before .before .before .before .before .before .before .before .before .before .args .dir-hash .now) (c .before .before .before .before .before .before .before .before .before .before .before .before .before .args .dir-table .now) (c .before .before .before .before .before .before .before .before .before .before .before .before .before .args .file-hash .now) (c .before .before .before .before .before .before .before .before .before .before .before .before .before .args .file-table .now)) (length (c .before .before .before .before .before .before .before .before .before .before .before .before .before .args .work .now) < rooms (c .before .before .before .before .before .before .before .before .before .before .before .before .before .args .dir-table .now) (c .before .before .before .before .before .before .before .before .before .before .before .before .before .args .file-table .now)) _ _ (lookupRows (dirs (tables (c .before .before .before .before .before .before .before .before .before .before .before .before .before .args .dir-hash .now) (c .before .before .before .before .before .before .before .before .before .before .before .before .before .args .dir-table .now) (c .before .before .before .before .before .before .before .before .before .before .before .before .before .args .file-hash .now) (c .before .before .before .before .before .before .before .before .before .before .before .before .before .args .file-table .now))) (nameKey (c .before .before .before .before .before .before .before .before .before .before .before .before .before .args .parent) (c .before .before .before .before .before .before .before .before .before .before .before .before .before .args .name .now))) (lookupDone (dirs (tables (c .before .before .before .before .before .before .before .before .before .before .before .before .before .args .dir-hash .now) (c .before .before .before .before .before .before .before .before .before .before .before .before .before .args .dir-table .now) (c .before .before .before .before .before .before .before .before .before .before .before .before .before .args .file-hash .now) (c .before .before .before .before .before .before .before .before .before .before .before .before .before .args .file-table .now))) (nameKey (c .before .before .before .before .before .before .before .before .before .before .before .before .before .args .parent) (c .before .before .before .before .before .before .before .before .before .before .before .before .before .args .name .now))) _ (c .before .before .before .before .before .before .gate .ensures) _ (c .before .before .enum-told .given .1) (with-key (dirs (tables (c .before .before .before .before .before .before .before .before .before .before .before .before .before .args .dir-hash .now) (c .before .before .before .before .before .before .before .before .before .before .before .before .before .args .dir-table .now) (c .before .before .before .before .before .before .before .before .before .before .before .before .before .args .file-hash .now) (c .before .before .before .before .before .before .before .before .before .before .before .before .before .args .file-table .now))) (c .before .new .ensures) (c .lookup .ensures))
+returns-2 c =
+    let args = c .before .before .before .before .before .before .before .before .before .before .before .before .before .args in
+    let s = tables (args .dir-hash .now) (args .dir-table .now) (args .file-hash .now) (args .file-table .now) in
+    let gated = c .before .before .before .before .before .before .gate in
+    through (λ a. lookupGives a 0 0) s _ _ _
+    (lookupRows (dirs s) (nameKey (args .parent) (args .name .now)))
+    (lookupDone (dirs s) (nameKey (args .parent) (args .name .now))) _
+    (gated .ensures) _ (c .before .before .enum-told .given .1)
+    (with-key (dirs s) (c .before .new .ensures) (c .lookup .ensures))
 
 pub lookup-dir-spec : {M : Type 1} → statement M
 lookup-dir-spec =

@@ -1,18 +1,11 @@
-use Rattle.fs_meta.specs.Tables.{tables, dirs, files}
-use Rattle.fs_meta.proofs.Public.{ready, long-enough, shut, through}
-use Prim.Native.Nat.{_<_}
-use lib.ListN.{length}
-use Rattle.meta_tree.specs.Sizes.{rooms}
+use Rattle.fs_meta.specs.Tables.{tables, dirs}
+use Rattle.fs_meta.proofs.Public.{ready, shut, through}
 use Rattle.fs_meta.specs.Calls.{carryGives, carryRows, carryDirDone}
 use Rattle.fs_meta.proofs.Lists.{dir-single}
 use Rattle.fs_meta.proofs.Opens.{set-dir}
 use borrow.Author.Needs.{needs}
 use Rattle.fs_calls.proofs.set_carried_dir.Statement.{statement}
 use Rattle.fs_calls.proofs.set_carried_dir.Tie as tie
-use Rattle.fs_calls.proofs.set_carried_dir.Reads as reads
-use Rattle.fs_calls.proofs.set_carried_dir.Lts as lts
-use Rattle.fs_meta.proofs.carry.set_carried_dir.Reads as set-carried-dir-reads
-use Rattle.meta_test.proofs.gate.Reads as gate-reads
 
 gate-requires : tie.Need-gate-requires
 gate-requires c κs = search needs
@@ -24,7 +17,11 @@ enum-told : tie.Need-enum-told
 enum-told c = search needs
 
 set-carried-dir-requires : tie.Need-set-carried-dir-requires
-set-carried-dir-requires c κs = dir-single (tables (c .before .before .before .before .before .before .before .before .before .before .before .before .before .args .dir-hash .now) (c .before .before .before .before .before .before .before .before .before .before .before .before .before .args .dir-table .now) (c .before .before .before .before .before .before .before .before .before .before .before .before .before .args .file-hash .now) (c .before .before .before .before .before .before .before .before .before .before .before .before .before .args .file-table .now)) (ready (tables (c .before .before .before .before .before .before .before .before .before .before .before .before .before .args .dir-hash .now) (c .before .before .before .before .before .before .before .before .before .before .before .before .before .args .dir-table .now) (c .before .before .before .before .before .before .before .before .before .before .before .before .before .args .file-hash .now) (c .before .before .before .before .before .before .before .before .before .before .before .before .before .args .file-table .now)) (length (c .before .before .before .before .before .before .before .before .before .before .before .before .before .args .work .now) < rooms (c .before .before .before .before .before .before .before .before .before .before .before .before .before .args .dir-table .now) (c .before .before .before .before .before .before .before .before .before .before .before .before .before .args .file-table .now)) _ _ _ (c .before .before .before .before .before .gate .ensures) (c .before .enum-told .given .1))
+set-carried-dir-requires c κs =
+    let args = c .before .before .before .before .before .before .before .before .before .before .before .before .before .args in
+    let s = tables (args .dir-hash .now) (args .dir-table .now) (args .file-hash .now) (args .file-table .now) in
+    let gated = c .before .before .before .before .before .gate in
+    dir-single s (ready s _ _ _ _ (gated .ensures) (c .before .enum-told .given .1))
 
 same-length : tie.Need-same-length
 same-length c = search needs
@@ -33,7 +30,14 @@ same-length-2 : tie.Need-same-length-2
 same-length-2 c = search needs
 
 returns : tie.Need-returns
-returns c = shut (λ a. carryGives a (tables (c .before .before .before .before .before .before .before .before .before .before .before .before .before .args .dir-hash .now) (c .before .before .before .before .before .before .before .before .before .before .before .before .before .args .dir-table .now) (c .before .before .before .before .before .before .before .before .before .before .before .before .before .args .file-hash .now) (c .before .before .before .before .before .before .before .before .before .before .before .before .before .args .file-table .now))) (tables (c .before .before .before .before .before .before .before .before .before .before .before .before .before .args .dir-hash .now) (c .before .before .before .before .before .before .before .before .before .before .before .before .before .args .dir-table .now) (c .before .before .before .before .before .before .before .before .before .before .before .before .before .args .file-hash .now) (c .before .before .before .before .before .before .before .before .before .before .before .before .before .args .file-table .now)) (length (c .before .before .before .before .before .before .before .before .before .before .before .before .before .args .work .now) < rooms (c .before .before .before .before .before .before .before .before .before .before .before .before .before .args .dir-table .now) (c .before .before .before .before .before .before .before .before .before .before .before .before .before .args .file-table .now)) _ _ (carryRows (tables (c .before .before .before .before .before .before .before .before .before .before .before .before .before .args .dir-hash .now) (c .before .before .before .before .before .before .before .before .before .before .before .before .before .args .dir-table .now) (c .before .before .before .before .before .before .before .before .before .before .before .before .before .args .file-hash .now) (c .before .before .before .before .before .before .before .before .before .before .before .before .before .args .file-table .now)) (dirs (tables (c .before .before .before .before .before .before .before .before .before .before .before .before .before .args .dir-hash .now) (c .before .before .before .before .before .before .before .before .before .before .before .before .before .args .dir-table .now) (c .before .before .before .before .before .before .before .before .before .before .before .before .before .args .file-hash .now) (c .before .before .before .before .before .before .before .before .before .before .before .before .before .args .file-table .now))) (c .before .before .before .before .before .before .before .before .before .before .before .before .before .args .inode)) (carryDirDone (tables (c .before .before .before .before .before .before .before .before .before .before .before .before .before .args .dir-hash .now) (c .before .before .before .before .before .before .before .before .before .before .before .before .before .args .dir-table .now) (c .before .before .before .before .before .before .before .before .before .before .before .before .before .args .file-hash .now) (c .before .before .before .before .before .before .before .before .before .before .before .before .before .args .file-table .now)) (c .before .before .before .before .before .before .before .before .before .before .before .before .before .args .inode) (c .before .before .before .before .before .before .before .before .before .before .before .before .before .args .padding)) _ (c .before .before .before .before .before .gate .ensures) _ (c .before .gated .given .1)
+returns c =
+    let args = c .before .before .before .before .before .before .before .before .before .before .before .before .before .args in
+    let s = tables (args .dir-hash .now) (args .dir-table .now) (args .file-hash .now) (args .file-table .now) in
+    let gated = c .before .before .before .before .before .gate in
+    shut (λ a. carryGives a s) s _ _ _
+    (carryRows s (dirs s) (args .inode))
+    (carryDirDone s (args .inode) (args .padding)) _
+    (gated .ensures) _ (c .before .gated .given .1)
 
 same-length-3 : tie.Need-same-length-3
 same-length-3 c = search needs
@@ -42,7 +46,15 @@ same-length-4 : tie.Need-same-length-4
 same-length-4 c = search needs
 
 returns-2 : tie.Need-returns-2
-returns-2 c = through (λ a. carryGives a (tables (c .before .before .before .before .before .before .before .before .before .before .before .before .before .before .before .before .args .dir-hash .now) (c .before .before .before .before .before .before .before .before .before .before .before .before .before .before .before .before .args .dir-table .now) (c .before .before .before .before .before .before .before .before .before .before .before .before .before .before .before .before .args .file-hash .now) (c .before .before .before .before .before .before .before .before .before .before .before .before .before .before .before .before .args .file-table .now))) (tables (c .before .before .before .before .before .before .before .before .before .before .before .before .before .before .before .before .args .dir-hash .now) (c .before .before .before .before .before .before .before .before .before .before .before .before .before .before .before .before .args .dir-table .now) (c .before .before .before .before .before .before .before .before .before .before .before .before .before .before .before .before .args .file-hash .now) (c .before .before .before .before .before .before .before .before .before .before .before .before .before .before .before .before .args .file-table .now)) (length (c .before .before .before .before .before .before .before .before .before .before .before .before .before .before .before .before .args .work .now) < rooms (c .before .before .before .before .before .before .before .before .before .before .before .before .before .before .before .before .args .dir-table .now) (c .before .before .before .before .before .before .before .before .before .before .before .before .before .before .before .before .args .file-table .now)) _ _ (carryRows (tables (c .before .before .before .before .before .before .before .before .before .before .before .before .before .before .before .before .args .dir-hash .now) (c .before .before .before .before .before .before .before .before .before .before .before .before .before .before .before .before .args .dir-table .now) (c .before .before .before .before .before .before .before .before .before .before .before .before .before .before .before .before .args .file-hash .now) (c .before .before .before .before .before .before .before .before .before .before .before .before .before .before .before .before .args .file-table .now)) (dirs (tables (c .before .before .before .before .before .before .before .before .before .before .before .before .before .before .before .before .args .dir-hash .now) (c .before .before .before .before .before .before .before .before .before .before .before .before .before .before .before .before .args .dir-table .now) (c .before .before .before .before .before .before .before .before .before .before .before .before .before .before .before .before .args .file-hash .now) (c .before .before .before .before .before .before .before .before .before .before .before .before .before .before .before .before .args .file-table .now))) (c .before .before .before .before .before .before .before .before .before .before .before .before .before .before .before .before .args .inode)) (carryDirDone (tables (c .before .before .before .before .before .before .before .before .before .before .before .before .before .before .before .before .args .dir-hash .now) (c .before .before .before .before .before .before .before .before .before .before .before .before .before .before .before .before .args .dir-table .now) (c .before .before .before .before .before .before .before .before .before .before .before .before .before .before .before .before .args .file-hash .now) (c .before .before .before .before .before .before .before .before .before .before .before .before .before .before .before .before .args .file-table .now)) (c .before .before .before .before .before .before .before .before .before .before .before .before .before .before .before .before .args .inode) (c .before .before .before .before .before .before .before .before .before .before .before .before .before .before .before .before .args .padding)) _ (c .before .before .before .before .before .before .before .before .gate .ensures) _ (c .before .before .before .before .enum-told .given .1) (set-dir (tables (c .before .before .before .before .before .before .before .before .before .before .before .before .before .before .before .before .args .dir-hash .now) (c .before .before .before .before .before .before .before .before .before .before .before .before .before .before .before .before .args .dir-table .now) (c .before .before .before .before .before .before .before .before .before .before .before .before .before .before .before .before .args .file-hash .now) (c .before .before .before .before .before .before .before .before .before .before .before .before .before .before .before .before .args .file-table .now)) (c .before .before .before .before .before .before .before .before .before .before .before .before .before .before .before .before .args .inode) _ _ _ (c .before .before .set-carried-dir .ensures))
+returns-2 c =
+    let args = c .before .before .before .before .before .before .before .before .before .before .before .before .before .before .before .before .args in
+    let s = tables (args .dir-hash .now) (args .dir-table .now) (args .file-hash .now) (args .file-table .now) in
+    let gated = c .before .before .before .before .before .before .before .before .gate in
+    through (λ a. carryGives a s) s _ _ _
+    (carryRows s (dirs s) (args .inode))
+    (carryDirDone s (args .inode) (args .padding)) _
+    (gated .ensures) _ (c .before .before .before .before .enum-told .given .1)
+    (set-dir s (args .inode) _ _ _ (c .before .before .set-carried-dir .ensures))
 
 pub set-carried-dir-spec : {M : Type 1} → statement M
 set-carried-dir-spec =

@@ -1,17 +1,10 @@
-use Rattle.fs_meta.specs.Tables.{tables, dirs, files}
-use Rattle.fs_meta.proofs.Public.{ready, long-enough, shut, through}
-use Prim.Native.Nat.{_<_}
-use lib.ListN.{length}
-use Rattle.meta_tree.specs.Sizes.{rooms}
+use Rattle.fs_meta.specs.Tables.{tables}
+use Rattle.fs_meta.proofs.Public.{ready, shut, through}
 use Rattle.fs_meta.specs.Calls.{statGives, statDone}
 use mathlib.Core.List.{[]}
 use borrow.Author.Needs.{needs}
 use Rattle.fs_calls.proofs.stat.Statement.{statement}
 use Rattle.fs_calls.proofs.stat.Tie as tie
-use Rattle.fs_calls.proofs.stat.Reads as reads
-use Rattle.fs_calls.proofs.stat.Lts as lts
-use Rattle.fs_meta.proofs.look.stat.Reads as stat-reads
-use Rattle.meta_test.proofs.gate.Reads as gate-reads
 
 gate-requires : tie.Need-gate-requires
 gate-requires c κs = search needs
@@ -23,19 +16,38 @@ enum-told : tie.Need-enum-told
 enum-told c = search needs
 
 stat-requires : tie.Need-stat-requires
-stat-requires c κs = (ready (tables (c .before .before .before .before .before .before .before .before .before .before .before .args .dir-hash .now) (c .before .before .before .before .before .before .before .before .before .before .before .args .dir-table .now) (c .before .before .before .before .before .before .before .before .before .before .before .args .file-hash .now) (c .before .before .before .before .before .before .before .before .before .before .before .args .file-table .now)) (length (c .before .before .before .before .before .before .before .before .before .before .before .args .work .now) < rooms (c .before .before .before .before .before .before .before .before .before .before .before .args .dir-table .now) (c .before .before .before .before .before .before .before .before .before .before .before .args .file-table .now)) _ _ _ (c .before .before .before .before .gate .ensures) (c .enum-told .given .1))
+stat-requires c κs =
+    let args = c .before .before .before .before .before .before .before .before .before .before .before .args in
+    let s = tables (args .dir-hash .now) (args .dir-table .now) (args .file-hash .now) (args .file-table .now) in
+    let gated = c .before .before .before .before .gate in
+    (ready s _ _ _ _ (gated .ensures) (c .enum-told .given .1))
 
 same-length : tie.Need-same-length
 same-length c = search needs
 
 returns : tie.Need-returns
-returns c = shut (λ a. statGives a 0 0 0 0) (tables (c .before .before .before .before .before .before .before .before .before .before .before .before .args .dir-hash .now) (c .before .before .before .before .before .before .before .before .before .before .before .before .args .dir-table .now) (c .before .before .before .before .before .before .before .before .before .before .before .before .args .file-hash .now) (c .before .before .before .before .before .before .before .before .before .before .before .before .args .file-table .now)) (length (c .before .before .before .before .before .before .before .before .before .before .before .before .args .work .now) < rooms (c .before .before .before .before .before .before .before .before .before .before .before .before .args .dir-table .now) (c .before .before .before .before .before .before .before .before .before .before .before .before .args .file-table .now)) _ _ [] (statDone (tables (c .before .before .before .before .before .before .before .before .before .before .before .before .args .dir-hash .now) (c .before .before .before .before .before .before .before .before .before .before .before .before .args .dir-table .now) (c .before .before .before .before .before .before .before .before .before .before .before .before .args .file-hash .now) (c .before .before .before .before .before .before .before .before .before .before .before .before .args .file-table .now))) _ (c .before .before .before .before .before .gate .ensures) _ (c .before .gated .given .1)
+returns c =
+    let args = c .before .before .before .before .before .before .before .before .before .before .before .before .args in
+    let s = tables (args .dir-hash .now) (args .dir-table .now) (args .file-hash .now) (args .file-table .now) in
+    let gated = c .before .before .before .before .before .gate in
+    shut (λ a. statGives a 0 0 0 0) s _ _ _
+    []
+    (statDone s) _
+    (gated .ensures) _ (c .before .gated .given .1)
 
 same-length-2 : tie.Need-same-length-2
 same-length-2 c = search needs
 
 returns-2 : tie.Need-returns-2
-returns-2 c = through (λ a. statGives a 0 0 0 0) (tables (c .before .before .before .before .before .before .before .before .before .before .before .before .args .dir-hash .now) (c .before .before .before .before .before .before .before .before .before .before .before .before .args .dir-table .now) (c .before .before .before .before .before .before .before .before .before .before .before .before .args .file-hash .now) (c .before .before .before .before .before .before .before .before .before .before .before .before .args .file-table .now)) (length (c .before .before .before .before .before .before .before .before .before .before .before .before .args .work .now) < rooms (c .before .before .before .before .before .before .before .before .before .before .before .before .args .dir-table .now) (c .before .before .before .before .before .before .before .before .before .before .before .before .args .file-table .now)) _ _ [] (statDone (tables (c .before .before .before .before .before .before .before .before .before .before .before .before .args .dir-hash .now) (c .before .before .before .before .before .before .before .before .before .before .before .before .args .dir-table .now) (c .before .before .before .before .before .before .before .before .before .before .before .before .args .file-hash .now) (c .before .before .before .before .before .before .before .before .before .before .before .before .args .file-table .now))) _ (c .before .before .before .before .before .gate .ensures) _ (c .before .enum-told .given .1) (c .stat .ensures)
+returns-2 c =
+    let args = c .before .before .before .before .before .before .before .before .before .before .before .before .args in
+    let s = tables (args .dir-hash .now) (args .dir-table .now) (args .file-hash .now) (args .file-table .now) in
+    let gated = c .before .before .before .before .before .gate in
+    through (λ a. statGives a 0 0 0 0) s _ _ _
+    []
+    (statDone s) _
+    (gated .ensures) _ (c .before .enum-told .given .1)
+    (c .stat .ensures)
 
 pub stat-spec : {M : Type 1} → statement M
 stat-spec =

@@ -1,78 +1,65 @@
-use mathlib.Core.Path.{_≡_, refl, sym, ap, _∙_}
-use mathlib.Core.List.{List, [], _∷_, _++_}
-use Prim.Native.Nat.{ℕ, _+_, _-_, _*_, _/_, _≤_, _<_}
-use native.Mathlib.Omega.{arith}
-use lib.ListN.{length}
-use borrow.Author.Tests.{eq-eqb, ne-eqb}
-use mathlib.Core.Logic.{_⊎_}
-use Rattle.meta_key.specs.Key.{nameKey}
-use Rattle.meta_tree.specs.Sizes.{rooms}
-use Rattle.fs_meta.specs.Tables.{tables, dirs, files}
-use Rattle.fs_meta.specs.Calls.{makeGives, changeGives, makeRows, makeDirDone, makeFileDone, renameDirRows, renameDirDone, renameFileRows, renameFileDone, deleteDirRows, deleteDirDone, deleteFileRows, deleteFileDone}
+use Rattle.fs_meta.specs.Tables.{tables}
+use Rattle.fs_meta.specs.Calls.{changeGives, renameDirRows, renameDirDone}
 use Rattle.fs_meta.proofs.Public.{shut, through, ready, long-enough}
 use Rattle.fs_changes.proofs.Room.{enough}
 use borrow.Author.Needs.{needs}
 use Rattle.fs_changes.proofs.rename_dir.Statement.{statement}
 use Rattle.fs_changes.proofs.rename_dir.Tie as tie
-use Rattle.fs_changes.proofs.rename_dir.Reads as reads
-use Rattle.fs_changes.proofs.rename_dir.Lts as lts
-use Rattle.fs_step.proofs.change.rename_dir.Reads as rename-dir-reads
-use Rattle.meta_test.proofs.open_gate.Reads as open-gate-reads
 
--- src/lib.rt:104:9
 open-gate-requires : tie.Need-open-gate-requires
 open-gate-requires c κs = search needs
 
--- src/lib.rt:114:26
 enum-known-gated : tie.Need-enum-known-gated
 enum-known-gated c = search needs
 
--- src/lib.rt:116:13
 enum-told : tie.Need-enum-told
 enum-told c = search needs
 
--- src/lib.rt:115:24
 rename-dir-requires : tie.Need-rename-dir-requires
-rename-dir-requires c κs = (
-  ready (tables (c .before .before .before .before .before .before .before .before .before .before .before .before .before .before .before .before .args .dir-hash .now) (c .before .before .before .before .before .before .before .before .before .before .before .before .before .before .before .before .args .dir-table .now) (c .before .before .before .before .before .before .before .before .before .before .before .before .before .before .before .before .args .file-hash .now) (c .before .before .before .before .before .before .before .before .before .before .before .before .before .before .before .before .args .file-table .now)) ((length (c .before .before .before .before .before .before .before .before .before .before .before .before .before .before .before .before .args .work .now) < rooms (c .before .before .before .before .before .before .before .before .before .before .before .before .before .before .before .before .args .dir-table .now) (c .before .before .before .before .before .before .before .before .before .before .before .before .before .before .before .before .args .file-table .now)) ⊎ (length (c .before .before .before .before .before .before .before .before .before .before .before .before .before .before .before .before .args .opens .now) < length (c .before .before .before .before .before .before .before .before .before .before .before .before .before .before .before .before .args .dir-table .now) / 40)) (c .before .before .before .before .before .before .before .before .before .before .before .before .before .before .before .before .args .work .now) _ (c .before .before .before .before .before .before .open-gate .result) (c .before .before .before .before .before .before .open-gate .ensures) (c .before .before .enum-told .given .1),
-  enough (length (c .before .before .before .before .before .before .before .before .before .before .before .before .before .before .before .before .args .opens .now)) (length (c .before .before .before .before .before .before .before .before .before .before .before .before .before .before .before .before .args .dir-table .now) / 40) (long-enough (tables (c .before .before .before .before .before .before .before .before .before .before .before .before .before .before .before .before .args .dir-hash .now) (c .before .before .before .before .before .before .before .before .before .before .before .before .before .before .before .before .args .dir-table .now) (c .before .before .before .before .before .before .before .before .before .before .before .before .before .before .before .before .args .file-hash .now) (c .before .before .before .before .before .before .before .before .before .before .before .before .before .before .before .before .args .file-table .now)) ((length (c .before .before .before .before .before .before .before .before .before .before .before .before .before .before .before .before .args .work .now) < rooms (c .before .before .before .before .before .before .before .before .before .before .before .before .before .before .before .before .args .dir-table .now) (c .before .before .before .before .before .before .before .before .before .before .before .before .before .before .before .before .args .file-table .now)) ⊎ (length (c .before .before .before .before .before .before .before .before .before .before .before .before .before .before .before .before .args .opens .now) < length (c .before .before .before .before .before .before .before .before .before .before .before .before .before .before .before .before .args .dir-table .now) / 40)) (c .before .before .before .before .before .before .before .before .before .before .before .before .before .before .before .before .args .work .now) _ (c .before .before .before .before .before .before .open-gate .result) (c .before .before .before .before .before .before .open-gate .ensures) (c .before .before .enum-told .given .1)),
-)
+rename-dir-requires c κs =
+    let args = c .before .before .before .before .before .before .before .before .before .before .before .before .before .before .before .before .args in
+    let s = tables (args .dir-hash .now) (args .dir-table .now) (args .file-hash .now) (args .file-table .now) in
+    let gated = c .before .before .before .before .before .before .open-gate in
+    (ready s _ _ _ _ (gated .ensures) (c .before .before .enum-told .given .1), enough _ _ (long-enough s _ _ _ _ (gated .ensures) (c .before .before .enum-told .given .1)))
 
--- src/lib.rt:91:1
 same-length : tie.Need-same-length
 same-length c = search needs
 
--- src/lib.rt:91:1
 same-length-2 : tie.Need-same-length-2
 same-length-2 c = search needs
 
--- src/lib.rt:91:1
 same-length-3 : tie.Need-same-length-3
 same-length-3 c = search needs
 
--- src/lib.rt:91:1
 returns : tie.Need-returns
 returns c =
-    shut (λ a. changeGives a (tables (c .before .before .before .before .before .before .before .before .before .before .before .before .before .before .before .args .dir-hash .now) (c .before .before .before .before .before .before .before .before .before .before .before .before .before .before .before .args .dir-table .now) (c .before .before .before .before .before .before .before .before .before .before .before .before .before .before .before .args .file-hash .now) (c .before .before .before .before .before .before .before .before .before .before .before .before .before .before .before .args .file-table .now)) (c .before .before .before .before .before .before .before .before .before .before .before .before .before .before .before .args .opens .now)) (tables (c .before .before .before .before .before .before .before .before .before .before .before .before .before .before .before .args .dir-hash .now) (c .before .before .before .before .before .before .before .before .before .before .before .before .before .before .before .args .dir-table .now) (c .before .before .before .before .before .before .before .before .before .before .before .before .before .before .before .args .file-hash .now) (c .before .before .before .before .before .before .before .before .before .before .before .before .before .before .before .args .file-table .now)) ((length (c .before .before .before .before .before .before .before .before .before .before .before .before .before .before .before .args .work .now) < rooms (c .before .before .before .before .before .before .before .before .before .before .before .before .before .before .before .args .dir-table .now) (c .before .before .before .before .before .before .before .before .before .before .before .before .before .before .before .args .file-table .now)) ⊎ (length (c .before .before .before .before .before .before .before .before .before .before .before .before .before .before .before .args .opens .now) < length (c .before .before .before .before .before .before .before .before .before .before .before .before .before .before .before .args .dir-table .now) / 40)) (c .before .before .before .before .before .before .before .before .before .before .before .before .before .before .before .args .work .now) _ (renameDirRows (tables (c .before .before .before .before .before .before .before .before .before .before .before .before .before .before .before .args .dir-hash .now) (c .before .before .before .before .before .before .before .before .before .before .before .before .before .before .before .args .dir-table .now) (c .before .before .before .before .before .before .before .before .before .before .before .before .before .before .before .args .file-hash .now) (c .before .before .before .before .before .before .before .before .before .before .before .before .before .before .before .args .file-table .now)) (c .before .before .before .before .before .before .before .before .before .before .before .before .before .before .before .args .opens .now) (c .before .before .before .before .before .before .before .before .before .before .before .before .before .before .before .args .inode) (c .before .before .before .before .before .before .before .before .before .before .before .before .before .before .before .args .parent) (c .before .before .before .before .before .before .before .before .before .before .before .before .before .before .before .args .name .now)) (renameDirDone (tables (c .before .before .before .before .before .before .before .before .before .before .before .before .before .before .before .args .dir-hash .now) (c .before .before .before .before .before .before .before .before .before .before .before .before .before .before .before .args .dir-table .now) (c .before .before .before .before .before .before .before .before .before .before .before .before .before .before .before .args .file-hash .now) (c .before .before .before .before .before .before .before .before .before .before .before .before .before .before .before .args .file-table .now)) (c .before .before .before .before .before .before .before .before .before .before .before .before .before .before .before .args .opens .now) (c .before .before .before .before .before .before .before .before .before .before .before .before .before .before .before .args .inode) (c .before .before .before .before .before .before .before .before .before .before .before .before .before .before .before .args .parent) (c .before .before .before .before .before .before .before .before .before .before .before .before .before .before .before .args .name .now))
-    (c .before .before .before .before .before .open-gate .result) (c .before .before .before .before .before .open-gate .ensures) _ (c .before .gated .given .1)
+    let args = c .before .before .before .before .before .before .before .before .before .before .before .before .before .before .before .args in
+    let s = tables (args .dir-hash .now) (args .dir-table .now) (args .file-hash .now) (args .file-table .now) in
+    let gated = c .before .before .before .before .before .open-gate in
+    shut (λ a. changeGives a s (args .opens .now)) s _ _ _
+    (renameDirRows s (args .opens .now) (args .inode) (args .parent) (args .name .now))
+    (renameDirDone s (args .opens .now) (args .inode) (args .parent) (args .name .now)) _
+    (gated .ensures) _ (c .before .gated .given .1)
 
--- src/lib.rt:91:1
 same-length-4 : tie.Need-same-length-4
 same-length-4 c = search needs
 
--- src/lib.rt:91:1
 same-length-5 : tie.Need-same-length-5
 same-length-5 c = search needs
 
--- src/lib.rt:91:1
 same-length-6 : tie.Need-same-length-6
 same-length-6 c = search needs
 
--- src/lib.rt:91:1
 returns-2 : tie.Need-returns-2
 returns-2 c =
-    through (λ a. changeGives a (tables (c .before .before .before .before .before .before .before .before .before .before .before .before .before .before .before .before .before .before .before .before .before .args .dir-hash .now) (c .before .before .before .before .before .before .before .before .before .before .before .before .before .before .before .before .before .before .before .before .before .args .dir-table .now) (c .before .before .before .before .before .before .before .before .before .before .before .before .before .before .before .before .before .before .before .before .before .args .file-hash .now) (c .before .before .before .before .before .before .before .before .before .before .before .before .before .before .before .before .before .before .before .before .before .args .file-table .now)) (c .before .before .before .before .before .before .before .before .before .before .before .before .before .before .before .before .before .before .before .before .before .args .opens .now)) (tables (c .before .before .before .before .before .before .before .before .before .before .before .before .before .before .before .before .before .before .before .before .before .args .dir-hash .now) (c .before .before .before .before .before .before .before .before .before .before .before .before .before .before .before .before .before .before .before .before .before .args .dir-table .now) (c .before .before .before .before .before .before .before .before .before .before .before .before .before .before .before .before .before .before .before .before .before .args .file-hash .now) (c .before .before .before .before .before .before .before .before .before .before .before .before .before .before .before .before .before .before .before .before .before .args .file-table .now)) ((length (c .before .before .before .before .before .before .before .before .before .before .before .before .before .before .before .before .before .before .before .before .before .args .work .now) < rooms (c .before .before .before .before .before .before .before .before .before .before .before .before .before .before .before .before .before .before .before .before .before .args .dir-table .now) (c .before .before .before .before .before .before .before .before .before .before .before .before .before .before .before .before .before .before .before .before .before .args .file-table .now)) ⊎ (length (c .before .before .before .before .before .before .before .before .before .before .before .before .before .before .before .before .before .before .before .before .before .args .opens .now) < length (c .before .before .before .before .before .before .before .before .before .before .before .before .before .before .before .before .before .before .before .before .before .args .dir-table .now) / 40)) (c .before .before .before .before .before .before .before .before .before .before .before .before .before .before .before .before .before .before .before .before .before .args .work .now) _ (renameDirRows (tables (c .before .before .before .before .before .before .before .before .before .before .before .before .before .before .before .before .before .before .before .before .before .args .dir-hash .now) (c .before .before .before .before .before .before .before .before .before .before .before .before .before .before .before .before .before .before .before .before .before .args .dir-table .now) (c .before .before .before .before .before .before .before .before .before .before .before .before .before .before .before .before .before .before .before .before .before .args .file-hash .now) (c .before .before .before .before .before .before .before .before .before .before .before .before .before .before .before .before .before .before .before .before .before .args .file-table .now)) (c .before .before .before .before .before .before .before .before .before .before .before .before .before .before .before .before .before .before .before .before .before .args .opens .now) (c .before .before .before .before .before .before .before .before .before .before .before .before .before .before .before .before .before .before .before .before .before .args .inode) (c .before .before .before .before .before .before .before .before .before .before .before .before .before .before .before .before .before .before .before .before .before .args .parent) (c .before .before .before .before .before .before .before .before .before .before .before .before .before .before .before .before .before .before .before .before .before .args .name .now)) (renameDirDone (tables (c .before .before .before .before .before .before .before .before .before .before .before .before .before .before .before .before .before .before .before .before .before .args .dir-hash .now) (c .before .before .before .before .before .before .before .before .before .before .before .before .before .before .before .before .before .before .before .before .before .args .dir-table .now) (c .before .before .before .before .before .before .before .before .before .before .before .before .before .before .before .before .before .before .before .before .before .args .file-hash .now) (c .before .before .before .before .before .before .before .before .before .before .before .before .before .before .before .before .before .before .before .before .before .args .file-table .now)) (c .before .before .before .before .before .before .before .before .before .before .before .before .before .before .before .before .before .before .before .before .before .args .opens .now) (c .before .before .before .before .before .before .before .before .before .before .before .before .before .before .before .before .before .before .before .before .before .args .inode) (c .before .before .before .before .before .before .before .before .before .before .before .before .before .before .before .before .before .before .before .before .before .args .parent) (c .before .before .before .before .before .before .before .before .before .before .before .before .before .before .before .before .before .before .before .before .before .args .name .now))
-    (c .before .before .before .before .before .before .before .before .before .before .before .open-gate .result) (c .before .before .before .before .before .before .before .before .before .before .before .open-gate .ensures) _ (c .before .before .before .before .before .before .before .enum-told .given .1) (c .before .before .before .before .rename-dir .ensures)
+    let args = c .before .before .before .before .before .before .before .before .before .before .before .before .before .before .before .before .before .before .before .before .before .args in
+    let s = tables (args .dir-hash .now) (args .dir-table .now) (args .file-hash .now) (args .file-table .now) in
+    let gated = c .before .before .before .before .before .before .before .before .before .before .before .open-gate in
+    through (λ a. changeGives a s (args .opens .now)) s _ _ _
+    (renameDirRows s (args .opens .now) (args .inode) (args .parent) (args .name .now))
+    (renameDirDone s (args .opens .now) (args .inode) (args .parent) (args .name .now)) _
+    (gated .ensures) _ (c .before .before .before .before .before .before .before .enum-told .given .1)
+    (c .before .before .before .before .rename-dir .ensures)
 
 pub rename-dir-spec : {M : Type 1} → statement M
 rename-dir-spec =

@@ -1,68 +1,47 @@
 -- `outside` meets its contract. Assumes nothing.
-use mathlib.Core.Path.{_≡_, refl, sym, ap, _∙_, subst}
-use mathlib.Core.List.{List, _++_, append-nil}
 use mathlib.Core.Logic.{inl, inr, ⊎-elim}
-use Prim.Native.Nat.{ℕ, _+_, _-_, _*_, _/_, _%_, _≤_, _<_}
 use native.Mathlib.Omega.{arith}
-use borrow.Author.Tests.{not-true, not-false}
-use lib.ListN.{length, getD, set, take, drop, replicate, length-set}
 use Rattle.meta_test.proofs.Cases.{told-true, told-false, tells-not}
 use borrow.Author.Needs.{needs}
 use Rattle.fs_format.proofs.outside.Statement.{statement}
 use Rattle.fs_format.proofs.outside.Tie as tie
-use Rattle.fs_format.proofs.outside.Reads as reads
-use Rattle.fs_format.proofs.outside.Lts as lts
-use Rattle.meta_test.proofs.beyond.Reads as beyond-reads
 
--- src/lib.rt:60:8
 beyond-requires : tie.Need-beyond-requires
 beyond-requires c κs = search needs
 
--- src/lib.rt:61:9
 returns : tie.Need-returns
 returns c = told-true (inl (inl (c .before .beyond .ensures .yes (c .if1 .taken))))
 
--- src/lib.rt:63:8
 beyond-requires-2 : tie.Need-beyond-requires-2
 beyond-requires-2 c κs = search needs
 
--- src/lib.rt:64:9
 returns-2 : tie.Need-returns-2
 returns-2 c = told-true (inl (inr (inl (c .before .beyond2 .ensures .yes (c .if2 .taken)))))
 
--- src/lib.rt:66:8
 beyond-requires-3 : tie.Need-beyond-requires-3
 beyond-requires-3 c κs = search needs
 
--- src/lib.rt:67:9
 returns-3 : tie.Need-returns-3
 returns-3 c = told-true (inl (inr (inr (inl (c .before .beyond3 .ensures .yes (c .if3 .taken))))))
 
--- src/lib.rt:69:8
 beyond-requires-4 : tie.Need-beyond-requires-4
 beyond-requires-4 c κs = search needs
 
--- src/lib.rt:70:9
 returns-4 : tie.Need-returns-4
 returns-4 c = told-true (inl (inr (inr (inr (c .before .beyond4 .ensures .yes (c .if4 .taken))))))
 
--- src/lib.rt:73:9
 returns-5 : tie.Need-returns-5
 returns-5 c = told-true (inr (inl (c .if5 .taken)))
 
--- src/lib.rt:76:9
 returns-6 : tie.Need-returns-6
 returns-6 c = told-true (inr (inr (inl (c .if6 .taken))))
 
--- src/lib.rt:78:8
 beyond-requires-5 : tie.Need-beyond-requires-5
 beyond-requires-5 c κs = search needs
 
--- src/lib.rt:79:9
 returns-7 : tie.Need-returns-7
 returns-7 c = told-true (inr (inr (inr (c .before .beyond5 .ensures .yes (c .if7 .taken)))))
 
--- src/lib.rt:50:1
 returns-8 : tie.Need-returns-8
 returns-8 c =
     told-false

@@ -1,30 +1,18 @@
 -- `answer_in` meets its contract. Assumes nothing.
-use mathlib.Core.Path.{_≡_, refl, sym, ap, _∙_, subst}
+use mathlib.Core.Path.{refl}
 use mathlib.Core.Logic.{inl, inr}
-use native.Mathlib.Omega.{arith}
 use borrow.Author.Tests.{not-true, not-false}
 use Rattle.meta_test.proofs.Cases.{tells-not}
-use Rattle.fs_meta.proofs.Opens.{live-fits}
-use Rattle.fs_meta.proofs.Lists.{dir-single, file-single}
-use Rattle.fs_meta.specs.Tables.{tables}
-use Rattle.fs_name.proofs.Cases.{ready-of, answer-shut, answer-open, name-shut, name-open}
-use Rattle.fs_meta.specs.declared.Kind.the-variants.{Directory, File}
 use borrow.Author.Needs.{needs}
 use Rattle.fs_name.proofs.answer_in.Statement.{statement}
 use Rattle.fs_name.proofs.answer_in.Tie as tie
-use Rattle.fs_name.proofs.answer_in.Reads as reads
-use Rattle.fs_name.proofs.answer_in.Lts as lts
-use Rattle.fs_meta.proofs.look.live.Reads as live-reads
 
--- src/lib.rt:26:9
 live-requires : tie.Need-live-requires
 live-requires c κs = search needs
 
--- src/lib.rt:27:9
 returns : tie.Need-returns
 returns c = inl (tells-not (c .before .live .ensures) (not-true _ (c .if1 .taken)), refl)
 
--- src/lib.rt:22:1
 returns-2 : tie.Need-returns-2
 returns-2 c = inr (λ n. n (c .before .live .ensures .yes (not-false _ (c .if1 .left))), refl)
 

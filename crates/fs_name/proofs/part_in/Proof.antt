@@ -1,39 +1,26 @@
 -- `part_in` meets its contract. Assumes nothing.
-use mathlib.Core.Path.{_≡_, refl, sym, ap, _∙_, subst}
+use mathlib.Core.Path.{refl}
 use mathlib.Core.Logic.{inl, inr}
 use native.Mathlib.Omega.{arith}
 use borrow.Author.Tests.{not-true, not-false}
 use Rattle.meta_test.proofs.Cases.{tells-not}
 use Rattle.fs_meta.proofs.Opens.{live-fits}
-use Rattle.fs_meta.proofs.Lists.{dir-single, file-single}
-use Rattle.fs_meta.specs.Tables.{tables}
-use Rattle.fs_name.proofs.Cases.{ready-of, answer-shut, answer-open, name-shut, name-open}
-use Rattle.fs_meta.specs.declared.Kind.the-variants.{Directory, File}
 use borrow.Author.Needs.{needs}
 use Rattle.fs_name.proofs.part_in.Statement.{statement}
 use Rattle.fs_name.proofs.part_in.Tie as tie
-use Rattle.fs_name.proofs.part_in.Reads as reads
-use Rattle.fs_name.proofs.part_in.Lts as lts
-use Rattle.fs_meta.proofs.carry.name_part.Reads as name-part-reads
-use Rattle.fs_meta.proofs.look.live.Reads as live-reads
 
--- src/lib.rt:41:9
 live-requires : tie.Need-live-requires
 live-requires c κs = search needs
 
--- src/lib.rt:42:9
 slice-aggregate-result : tie.Need-slice-aggregate-result
 slice-aggregate-result c = search needs
 
--- src/lib.rt:42:9
 returns : tie.Need-returns
 returns c = inl (tells-not (c .before .before .live .ensures) (not-true _ (c .before .if1 .taken)), refl)
 
--- src/lib.rt:44:5
 name-part-requires : tie.Need-name-part-requires
 name-part-requires c κs = (live-fits (c .before .before .before .before .pre) (c .before .before .before .before .args .x) (c .before .before .before .before .args .x) (c .before .live .ensures) (not-false _ (c .if1 .left)) refl, (let h = c .before .before .before .before .pre .wide in omega arith))
 
--- src/lib.rt:37:1
 returns-2 : tie.Need-returns-2
 returns-2 c = inr (λ n. n (c .before .before .live .ensures .yes (not-false _ (c .before .if1 .left))), c .name-part .ensures)
 

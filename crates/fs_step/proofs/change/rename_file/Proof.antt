@@ -1,77 +1,69 @@
-use mathlib.Core.Path.{_≡_, refl, sym, ap, _∙_}
-use mathlib.Core.List.{List, [], _∷_, _++_}
-use Prim.Native.Nat.{ℕ, _+_, _-_, _*_, _/_, _≤_, _<_}
-use native.Mathlib.Omega.{arith}
-use lib.ListN.{length}
-use borrow.Author.Tests.{eq-eqb, ne-eqb}
-use borrow.Author.Tests.{not-true, not-false}
-use Rattle.meta_key.specs.Key.{nameKey}
 use Rattle.fs_meta.specs.Tables.{tables, dirs, files}
-use Rattle.fs_meta.specs.Calls.{heldTests, deleteTests, deleteDirTests, renameDirTests, renameFileTests, makeTests, changeGives, deleteFileDone, deleteDirDone, renameFileDone, renameDirDone}
-use Rattle.fs_meta.specs.Ready.{alone, hashed}
-use Rattle.fs_step.proofs.Judges.{refused-still, passed}
-use Rattle.fs_step.proofs.Changes.{call-refused, call-done, rename-file-asks, link-file-asks, same-files, same-file-hash, same-file-dirs, renamed-file}
+use Rattle.fs_meta.specs.Calls.{renameFileTests, changeGives, renameFileDone}
+use Rattle.fs_step.proofs.Judges.{passed}
+use Rattle.fs_step.proofs.Changes.{call-refused, call-done, rename-file-asks, link-file-asks, renamed-file}
 use borrow.Author.Needs.{needs}
 use Rattle.fs_step.proofs.change.rename_file.Statement.{statement}
 use Rattle.fs_step.proofs.change.rename_file.Tie as tie
-use Rattle.fs_step.proofs.change.rename_file.Reads as reads
-use Rattle.fs_step.proofs.change.rename_file.Lts as lts
-use Rattle.fs_step.proofs.judge.judge_rename_file.Reads as judge-rename-file-reads
-use Rattle.fs_step.proofs.step.link_file.Reads as link-file-reads
-use Rattle.fs_step.proofs.step.unlink_file.Reads as unlink-file-reads
 
--- src/change.rt:91:9
 judge-rename-file-requires : tie.Need-judge-rename-file-requires
 judge-rename-file-requires c κs = search needs
 
--- src/change.rt:93:27
 enum-known-judged : tie.Need-enum-known-judged
 enum-known-judged c = search needs
 
--- src/change.rt:95:25
 enum-told : tie.Need-enum-told
 enum-told c = search needs
 
--- src/change.rt:95:13
 unlink-file-requires : tie.Need-unlink-file-requires
-unlink-file-requires c κs = rename-file-asks (tables (c .before .before .before .before .before .before .before .before .before .before .before .before .before .before .args .dir-hash .now) (c .before .before .before .before .before .before .before .before .before .before .before .before .before .before .args .dirs .now) (c .before .before .before .before .before .before .before .before .before .before .before .before .before .before .args .hash .now) (c .before .before .before .before .before .before .before .before .before .before .before .before .before .before .args .files .now)) (c .before .before .before .before .before .before .before .before .before .before .before .before .before .before .pre .0) (c .before .before .before .before .before .before .before .before .before .before .before .before .before .before .args .opens .now) (c .before .before .before .before .before .before .before .before .before .before .before .before .before .before .args .x) (c .before .before .before .before .before .before .before .before .before .before .before .before .before .before .args .parent) (c .before .before .before .before .before .before .before .before .before .before .before .before .before .before .args .name .now) (passed (renameFileTests (tables (c .before .before .before .before .before .before .before .before .before .before .before .before .before .before .args .dir-hash .now) (c .before .before .before .before .before .before .before .before .before .before .before .before .before .before .args .dirs .now) (c .before .before .before .before .before .before .before .before .before .before .before .before .before .before .args .hash .now) (c .before .before .before .before .before .before .before .before .before .before .before .before .before .before .args .files .now)) (c .before .before .before .before .before .before .before .before .before .before .before .before .before .before .args .opens .now) (c .before .before .before .before .before .before .before .before .before .before .before .before .before .before .args .x) (c .before .before .before .before .before .before .before .before .before .before .before .before .before .before .args .parent) (c .before .before .before .before .before .before .before .before .before .before .before .before .before .before .args .name .now)) _ (c .before .before .before .before .before .judge-rename-file .ensures) (c .before .before .before .enum-told .given .1))
+unlink-file-requires c κs =
+    let args = c .before .before .before .before .before .before .before .before .before .before .before .before .before .before .args in
+    let at-pre = c .before .before .before .before .before .before .before .before .before .before .before .before .before .before .pre in
+    let at-judge-rename-file = c .before .before .before .before .before .judge-rename-file in
+    rename-file-asks (tables (args .dir-hash .now) (args .dirs .now) (args .hash .now) (args .files .now)) (at-pre .0) (args .opens .now) (args .x) (args .parent) (args .name .now) (passed (renameFileTests (tables (args .dir-hash .now) (args .dirs .now) (args .hash .now) (args .files .now)) (args .opens .now) (args .x) (args .parent) (args .name .now)) _ (at-judge-rename-file .ensures) (c .before .before .before .enum-told .given .1))
 
--- src/change.rt:96:13
 link-file-requires : tie.Need-link-file-requires
-link-file-requires c κs = link-file-asks (tables (c .before .before .before .before .before .before .before .before .before .before .before .before .before .before .before .before .before .before .before .before .before .before .before .before .args .dir-hash .now) (c .before .before .before .before .before .before .before .before .before .before .before .before .before .before .before .before .before .before .before .before .before .before .before .before .args .dirs .now) (c .before .before .before .before .before .before .before .before .before .before .before .before .before .before .before .before .before .before .before .before .before .before .before .before .args .hash .now) (c .before .before .before .before .before .before .before .before .before .before .before .before .before .before .before .before .before .before .before .before .before .before .before .before .args .files .now)) (c .before .before .before .before .before .before .before .before .before .before .before .before .before .before .before .before .before .before .before .before .before .before .before .before .pre .0) (c .before .before .before .before .before .before .before .before .before .before .before .before .before .before .before .before .before .before .before .before .before .before .before .before .args .opens .now) (c .before .before .before .before .before .before .before .before .before .before .before .before .before .before .before .before .before .before .before .before .before .before .before .before .args .x) (c .before .before .before .before .before .before .before .before .before .before .before .before .before .before .before .before .before .before .before .before .before .before .before .before .args .parent) (c .before .before .before .before .before .before .before .before .before .before .before .before .before .before .before .before .before .before .before .before .before .before .before .before .args .name .now) (passed (renameFileTests (tables (c .before .before .before .before .before .before .before .before .before .before .before .before .before .before .before .before .before .before .before .before .before .before .before .before .args .dir-hash .now) (c .before .before .before .before .before .before .before .before .before .before .before .before .before .before .before .before .before .before .before .before .before .before .before .before .args .dirs .now) (c .before .before .before .before .before .before .before .before .before .before .before .before .before .before .before .before .before .before .before .before .before .before .before .before .args .hash .now) (c .before .before .before .before .before .before .before .before .before .before .before .before .before .before .before .before .before .before .before .before .before .before .before .before .args .files .now)) (c .before .before .before .before .before .before .before .before .before .before .before .before .before .before .before .before .before .before .before .before .before .before .before .before .args .opens .now) (c .before .before .before .before .before .before .before .before .before .before .before .before .before .before .before .before .before .before .before .before .before .before .before .before .args .x) (c .before .before .before .before .before .before .before .before .before .before .before .before .before .before .before .before .before .before .before .before .before .before .before .before .args .parent) (c .before .before .before .before .before .before .before .before .before .before .before .before .before .before .before .before .before .before .before .before .before .before .before .before .args .name .now)) _ (c .before .before .before .before .before .before .before .before .before .before .before .before .before .before .before .judge-rename-file .ensures) (c .before .before .before .before .before .before .before .before .before .before .before .before .before .enum-told .given .1)) (c .before .before .before .before .before .before .before .before .before .unlink-file .ensures .0) (c .before .before .before .before .before .before .before .before .before .unlink-file .ensures .1) (c .before .before .before .before .before .before .before .before .before .unlink-file .ensures .2)
+link-file-requires c κs =
+    let args = c .before .before .before .before .before .before .before .before .before .before .before .before .before .before .before .before .before .before .before .before .before .before .before .before .args in
+    let at-pre = c .before .before .before .before .before .before .before .before .before .before .before .before .before .before .before .before .before .before .before .before .before .before .before .before .pre in
+    let at-judge-rename-file = c .before .before .before .before .before .before .before .before .before .before .before .before .before .before .before .judge-rename-file in
+    let at-enum-told = c .before .before .before .before .before .before .before .before .before .before .before .before .before .enum-told in
+    let at-unlink-file = c .before .before .before .before .before .before .before .before .before .unlink-file in
+    link-file-asks (tables (args .dir-hash .now) (args .dirs .now) (args .hash .now) (args .files .now)) (at-pre .0) (args .opens .now) (args .x) (args .parent) (args .name .now) (passed (renameFileTests (tables (args .dir-hash .now) (args .dirs .now) (args .hash .now) (args .files .now)) (args .opens .now) (args .x) (args .parent) (args .name .now)) _ (at-judge-rename-file .ensures) (at-enum-told .given .1)) (at-unlink-file .ensures .0) (at-unlink-file .ensures .1) (at-unlink-file .ensures .2)
 
--- src/change.rt:76:1
 same-length : tie.Need-same-length
 same-length c = search needs
 
--- src/change.rt:76:1
 same-length-2 : tie.Need-same-length-2
 same-length-2 c = search needs
 
--- src/change.rt:76:1
 same-length-3 : tie.Need-same-length-3
 same-length-3 c = search needs
 
--- src/change.rt:76:1
 returns : tie.Need-returns
-returns c = call-refused (λ a. changeGives a (tables (c .before .before .before .before .before .before .before .before .before .before .before .before .args .dir-hash .now) (c .before .before .before .before .before .before .before .before .before .before .before .before .args .dirs .now) (c .before .before .before .before .before .before .before .before .before .before .before .before .args .hash .now) (c .before .before .before .before .before .before .before .before .before .before .before .before .args .files .now)) (c .before .before .before .before .before .before .before .before .before .before .before .before .args .opens .now)) (renameFileDone (tables (c .before .before .before .before .before .before .before .before .before .before .before .before .args .dir-hash .now) (c .before .before .before .before .before .before .before .before .before .before .before .before .args .dirs .now) (c .before .before .before .before .before .before .before .before .before .before .before .before .args .hash .now) (c .before .before .before .before .before .before .before .before .before .before .before .before .args .files .now)) (c .before .before .before .before .before .before .before .before .before .before .before .before .args .opens .now) (c .before .before .before .before .before .before .before .before .before .before .before .before .args .x) (c .before .before .before .before .before .before .before .before .before .before .before .before .args .parent) (c .before .before .before .before .before .before .before .before .before .before .before .before .args .name .now)) (renameFileTests (tables (c .before .before .before .before .before .before .before .before .before .before .before .before .args .dir-hash .now) (c .before .before .before .before .before .before .before .before .before .before .before .before .args .dirs .now) (c .before .before .before .before .before .before .before .before .before .before .before .before .args .hash .now) (c .before .before .before .before .before .before .before .before .before .before .before .before .args .files .now)) (c .before .before .before .before .before .before .before .before .before .before .before .before .args .opens .now) (c .before .before .before .before .before .before .before .before .before .before .before .before .args .x) (c .before .before .before .before .before .before .before .before .before .before .before .before .args .parent) (c .before .before .before .before .before .before .before .before .before .before .before .before .args .name .now)) (c .before .before .before .judge-rename-file .result) _ (c .before .before .before .judge-rename-file .ensures) (c .before .judged .given .1)
+returns c =
+    let args = c .before .before .before .before .before .before .before .before .before .before .before .before .args in
+    let at-judge-rename-file = c .before .before .before .judge-rename-file in
+    call-refused (λ a. changeGives a (tables (args .dir-hash .now) (args .dirs .now) (args .hash .now) (args .files .now)) (args .opens .now)) (renameFileDone (tables (args .dir-hash .now) (args .dirs .now) (args .hash .now) (args .files .now)) (args .opens .now) (args .x) (args .parent) (args .name .now)) (renameFileTests (tables (args .dir-hash .now) (args .dirs .now) (args .hash .now) (args .files .now)) (args .opens .now) (args .x) (args .parent) (args .name .now)) (at-judge-rename-file .result) _ (at-judge-rename-file .ensures) (c .before .judged .given .1)
 
--- src/change.rt:76:1
 same-length-4 : tie.Need-same-length-4
 same-length-4 c = search needs
 
--- src/change.rt:76:1
 same-length-5 : tie.Need-same-length-5
 same-length-5 c = search needs
 
--- src/change.rt:76:1
 same-length-6 : tie.Need-same-length-6
 same-length-6 c = search needs
 
--- src/change.rt:76:1
 returns-2 : tie.Need-returns-2
-returns-2 c = call-done (λ a. changeGives a (tables (c .before .before .before .before .before .before .before .before .before .before .before .before .before .before .before .before .before .before .before .before .before .before .before .before .before .before .before .before .before .before .before .args .dir-hash .now) (c .before .before .before .before .before .before .before .before .before .before .before .before .before .before .before .before .before .before .before .before .before .before .before .before .before .before .before .before .before .before .before .args .dirs .now) (c .before .before .before .before .before .before .before .before .before .before .before .before .before .before .before .before .before .before .before .before .before .before .before .before .before .before .before .before .before .before .before .args .hash .now) (c .before .before .before .before .before .before .before .before .before .before .before .before .before .before .before .before .before .before .before .before .before .before .before .before .before .before .before .before .before .before .before .args .files .now)) (c .before .before .before .before .before .before .before .before .before .before .before .before .before .before .before .before .before .before .before .before .before .before .before .before .before .before .before .before .before .before .before .args .opens .now)) (renameFileDone (tables (c .before .before .before .before .before .before .before .before .before .before .before .before .before .before .before .before .before .before .before .before .before .before .before .before .before .before .before .before .before .before .before .args .dir-hash .now) (c .before .before .before .before .before .before .before .before .before .before .before .before .before .before .before .before .before .before .before .before .before .before .before .before .before .before .before .before .before .before .before .args .dirs .now) (c .before .before .before .before .before .before .before .before .before .before .before .before .before .before .before .before .before .before .before .before .before .before .before .before .before .before .before .before .before .before .before .args .hash .now) (c .before .before .before .before .before .before .before .before .before .before .before .before .before .before .before .before .before .before .before .before .before .before .before .before .before .before .before .before .before .before .before .args .files .now)) (c .before .before .before .before .before .before .before .before .before .before .before .before .before .before .before .before .before .before .before .before .before .before .before .before .before .before .before .before .before .before .before .args .opens .now) (c .before .before .before .before .before .before .before .before .before .before .before .before .before .before .before .before .before .before .before .before .before .before .before .before .before .before .before .before .before .before .before .args .x) (c .before .before .before .before .before .before .before .before .before .before .before .before .before .before .before .before .before .before .before .before .before .before .before .before .before .before .before .before .before .before .before .args .parent) (c .before .before .before .before .before .before .before .before .before .before .before .before .before .before .before .before .before .before .before .before .before .before .before .before .before .before .before .before .before .before .before .args .name .now)) _ (renameFileTests (tables (c .before .before .before .before .before .before .before .before .before .before .before .before .before .before .before .before .before .before .before .before .before .before .before .before .before .before .before .before .before .before .before .args .dir-hash .now) (c .before .before .before .before .before .before .before .before .before .before .before .before .before .before .before .before .before .before .before .before .before .before .before .before .before .before .before .before .before .before .before .args .dirs .now) (c .before .before .before .before .before .before .before .before .before .before .before .before .before .before .before .before .before .before .before .before .before .before .before .before .before .before .before .before .before .before .before .args .hash .now) (c .before .before .before .before .before .before .before .before .before .before .before .before .before .before .before .before .before .before .before .before .before .before .before .before .before .before .before .before .before .before .before .args .files .now)) (c .before .before .before .before .before .before .before .before .before .before .before .before .before .before .before .before .before .before .before .before .before .before .before .before .before .before .before .before .before .before .before .args .opens .now) (c .before .before .before .before .before .before .before .before .before .before .before .before .before .before .before .before .before .before .before .before .before .before .before .before .before .before .before .before .before .before .before .args .x) (c .before .before .before .before .before .before .before .before .before .before .before .before .before .before .before .before .before .before .before .before .before .before .before .before .before .before .before .before .before .before .before .args .parent) (c .before .before .before .before .before .before .before .before .before .before .before .before .before .before .before .before .before .before .before .before .before .before .before .before .before .before .before .before .before .before .before .args .name .now)) (passed (renameFileTests (tables (c .before .before .before .before .before .before .before .before .before .before .before .before .before .before .before .before .before .before .before .before .before .before .before .before .before .before .before .before .before .before .before .args .dir-hash .now) (c .before .before .before .before .before .before .before .before .before .before .before .before .before .before .before .before .before .before .before .before .before .before .before .before .before .before .before .before .before .before .before .args .dirs .now) (c .before .before .before .before .before .before .before .before .before .before .before .before .before .before .before .before .before .before .before .before .before .before .before .before .before .before .before .before .before .before .before .args .hash .now) (c .before .before .before .before .before .before .before .before .before .before .before .before .before .before .before .before .before .before .before .before .before .before .before .before .before .before .before .before .before .before .before .args .files .now)) (c .before .before .before .before .before .before .before .before .before .before .before .before .before .before .before .before .before .before .before .before .before .before .before .before .before .before .before .before .before .before .before .args .opens .now) (c .before .before .before .before .before .before .before .before .before .before .before .before .before .before .before .before .before .before .before .before .before .before .before .before .before .before .before .before .before .before .before .args .x) (c .before .before .before .before .before .before .before .before .before .before .before .before .before .before .before .before .before .before .before .before .before .before .before .before .before .before .before .before .before .before .before .args .parent) (c .before .before .before .before .before .before .before .before .before .before .before .before .before .before .before .before .before .before .before .before .before .before .before .before .before .before .before .before .before .before .before .args .name .now)) _ (c .before .before .before .before .before .before .before .before .before .before .before .before .before .before .before .before .before .before .before .before .before .before .judge-rename-file .ensures) (c .before .before .before .before .before .before .before .before .before .before .before .before .before .before .before .before .before .before .before .before .enum-told .given .1))
-    (renamed-file (c .before .before .before .before .before .before .before .before .before .before .before .before .before .before .before .before .before .before .before .before .before .before .before .before .before .before .before .before .before .before .before .args .dir-hash .now) (c .before .before .before .before .before .before .before .before .before .before .before .before .before .before .before .before .before .before .before .before .before .before .before .before .before .before .before .before .before .before .before .args .dirs .now) (c .before .before .before .before .before .before .before .before .before .before .before .before .before .before .before .before .before .before .before .before .before .before .before .before .before .before .before .before .before .before .before .args .hash .now) (c .before .before .before .before .before .before .before .before .before .before .before .before .before .before .before .before .before .before .before .before .before .before .before .before .before .before .before .before .before .before .before .args .files .now) _ _ _ _ _ _ (c .before .before .before .before .before .before .before .before .before .before .before .before .before .before .before .before .before .before .before .before .before .before .before .before .before .before .before .before .before .before .before .args .opens .now) (c .before .before .before .before .before .before .before .before .before .before .before .before .before .before .before .before .before .before .before .before .before .before .before .before .before .before .before .before .before .before .before .args .x) (c .before .before .before .before .before .before .before .before .before .before .before .before .before .before .before .before .before .before .before .before .before .before .before .before .before .before .before .before .before .before .before .args .parent) (c .before .before .before .before .before .before .before .before .before .before .before .before .before .before .before .before .before .before .before .before .before .before .before .before .before .before .before .before .before .before .before .args .name .now) (c .before .before .before .before .before .before .before .before .before .before .before .before .before .before .before .before .unlink-file .ensures .0) (c .before .before .before .before .before .before .before .before .before .before .before .before .before .before .before .before .unlink-file .ensures .1) (c .before .before .before .before .before .before .before .before .before .before .before .before .before .before .before .before .unlink-file .ensures .2) (c .before .before .before .before .before .before .link-file .ensures .0) (c .before .before .before .before .before .before .link-file .ensures .1) (c .before .before .before .before .before .before .link-file .ensures .2))
+returns-2 c =
+    let args = c .before .before .before .before .before .before .before .before .before .before .before .before .before .before .before .before .before .before .before .before .before .before .before .before .before .before .before .before .before .before .before .args in
+    let at-judge-rename-file = c .before .before .before .before .before .before .before .before .before .before .before .before .before .before .before .before .before .before .before .before .before .before .judge-rename-file in
+    let at-enum-told = c .before .before .before .before .before .before .before .before .before .before .before .before .before .before .before .before .before .before .before .before .enum-told in
+    let at-unlink-file = c .before .before .before .before .before .before .before .before .before .before .before .before .before .before .before .before .unlink-file in
+    let at-link-file = c .before .before .before .before .before .before .link-file in
+    call-done (λ a. changeGives a (tables (args .dir-hash .now) (args .dirs .now) (args .hash .now) (args .files .now)) (args .opens .now)) (renameFileDone (tables (args .dir-hash .now) (args .dirs .now) (args .hash .now) (args .files .now)) (args .opens .now) (args .x) (args .parent) (args .name .now)) _ (renameFileTests (tables (args .dir-hash .now) (args .dirs .now) (args .hash .now) (args .files .now)) (args .opens .now) (args .x) (args .parent) (args .name .now)) (passed (renameFileTests (tables (args .dir-hash .now) (args .dirs .now) (args .hash .now) (args .files .now)) (args .opens .now) (args .x) (args .parent) (args .name .now)) _ (at-judge-rename-file .ensures) (at-enum-told .given .1))
+    (renamed-file (args .dir-hash .now) (args .dirs .now) (args .hash .now) (args .files .now) _ _ _ _ _ _ (args .opens .now) (args .x) (args .parent) (args .name .now) (at-unlink-file .ensures .0) (at-unlink-file .ensures .1) (at-unlink-file .ensures .2) (at-link-file .ensures .0) (at-link-file .ensures .1) (at-link-file .ensures .2))
 
 pub rename-file-spec : {M : Type 1} → statement M
 rename-file-spec =

@@ -1,88 +1,79 @@
-use mathlib.Core.Path.{_≡_, refl, sym, ap, _∙_}
-use mathlib.Core.List.{List, [], _∷_, _++_}
-use Prim.Native.Nat.{ℕ, _+_, _-_, _*_, _/_, _≤_, _<_}
-use native.Mathlib.Omega.{arith}
-use lib.ListN.{length}
-use borrow.Author.Tests.{eq-eqb, ne-eqb}
 use Rattle.meta_key.specs.Key.{nameKey}
 use Rattle.fs_meta.specs.Tables.{tables, dirs, files}
-use Rattle.fs_meta.specs.Calls.{makeTests, makeGives, makeFileDone, makeDirDone}
+use Rattle.fs_meta.specs.Calls.{makeTests, makeGives, makeFileDone}
 use Rattle.fs_step.proofs.Judges.{passed}
 use Rattle.fs_step.proofs.Changes.{call-refused, call-done}
 use Rattle.fs_step.proofs.Makes.{new-file-asks, new-file-opens, gave-file}
 use borrow.Author.Needs.{needs}
 use Rattle.fs_step.proofs.make.make_file.Statement.{statement}
 use Rattle.fs_step.proofs.make.make_file.Tie as tie
-use Rattle.fs_step.proofs.make.make_file.Reads as reads
-use Rattle.fs_step.proofs.make.make_file.Lts as lts
-use Rattle.fs_step.proofs.judge.judge_make.Reads as judge-make-reads
-use Rattle.fs_step.proofs.make.new_file.Reads as new-file-reads
-use Rattle.meta_table.proofs.index.Reads as index-reads
 
--- src/make.rt:98:9
 judge-make-requires : tie.Need-judge-make-requires
 judge-make-requires c κs = search needs
 
--- src/make.rt:108:27
 enum-known-judged : tie.Need-enum-known-judged
 enum-known-judged c = search needs
 
--- src/make.rt:110:30
 enum-told : tie.Need-enum-told
 enum-told c = search needs
 
--- src/make.rt:110:17
 new-file-requires : tie.Need-new-file-requires
-new-file-requires c κs = new-file-asks (tables (c .before .before .before .before .before .before .before .before .before .before .before .before .before .before .args .dir-hash .now) (c .before .before .before .before .before .before .before .before .before .before .before .before .before .before .args .dirs .now) (c .before .before .before .before .before .before .before .before .before .before .before .before .before .before .args .hash .now) (c .before .before .before .before .before .before .before .before .before .before .before .before .before .before .args .files .now)) (c .before .before .before .before .before .before .before .before .before .before .before .before .before .before .pre .0) (c .before .before .before .before .before .before .before .before .before .before .before .before .before .before .args .parent) (nameKey (c .before .before .before .before .before .before .before .before .before .before .before .before .before .before .args .parent) (c .before .before .before .before .before .before .before .before .before .before .before .before .before .before .args .name .now)) (passed (makeTests (tables (c .before .before .before .before .before .before .before .before .before .before .before .before .before .before .args .dir-hash .now) (c .before .before .before .before .before .before .before .before .before .before .before .before .before .before .args .dirs .now) (c .before .before .before .before .before .before .before .before .before .before .before .before .before .before .args .hash .now) (c .before .before .before .before .before .before .before .before .before .before .before .before .before .before .args .files .now)) (files (tables (c .before .before .before .before .before .before .before .before .before .before .before .before .before .before .args .dir-hash .now) (c .before .before .before .before .before .before .before .before .before .before .before .before .before .before .args .dirs .now) (c .before .before .before .before .before .before .before .before .before .before .before .before .before .before .args .hash .now) (c .before .before .before .before .before .before .before .before .before .before .before .before .before .before .args .files .now))) (c .before .before .before .before .before .before .before .before .before .before .before .before .before .before .args .parent) (nameKey (c .before .before .before .before .before .before .before .before .before .before .before .before .before .before .args .parent) (c .before .before .before .before .before .before .before .before .before .before .before .before .before .before .args .name .now))) _ (c .before .before .before .before .before .judge-make .ensures) (c .before .before .before .enum-told .given .1))
+new-file-requires c κs =
+    let args = c .before .before .before .before .before .before .before .before .before .before .before .before .before .before .args in
+    let at-pre = c .before .before .before .before .before .before .before .before .before .before .before .before .before .before .pre in
+    let at-judge-make = c .before .before .before .before .before .judge-make in
+    new-file-asks (tables (args .dir-hash .now) (args .dirs .now) (args .hash .now) (args .files .now)) (at-pre .0) (args .parent) (nameKey (args .parent) (args .name .now)) (passed (makeTests (tables (args .dir-hash .now) (args .dirs .now) (args .hash .now) (args .files .now)) (files (tables (args .dir-hash .now) (args .dirs .now) (args .hash .now) (args .files .now))) (args .parent) (nameKey (args .parent) (args .name .now))) _ (at-judge-make .ensures) (c .before .before .before .enum-told .given .1))
 
--- src/make.rt:111:19
 index-requires : tie.Need-index-requires
 index-requires c κs = search needs
 
--- src/make.rt:111:13
 mul-opens : tie.Need-mul-opens
 mul-opens c = search needs
 
--- src/make.rt:111:13
 slice-write-opens : tie.Need-slice-write-opens
-slice-write-opens c = new-file-opens (tables (c .before .before .before .before .before .before .before .before .before .before .before .before .before .before .before .before .before .before .before .before .before .before .args .dir-hash .now) (c .before .before .before .before .before .before .before .before .before .before .before .before .before .before .before .before .before .before .before .before .before .before .args .dirs .now) (c .before .before .before .before .before .before .before .before .before .before .before .before .before .before .before .before .before .before .before .before .before .before .args .hash .now) (c .before .before .before .before .before .before .before .before .before .before .before .before .before .before .before .before .before .before .before .before .before .before .args .files .now)) (c .before .before .before .before .before .before .before .before .before .before .before .before .before .before .before .before .before .before .before .before .before .before .pre .0) (c .before .before .before .before .before .before .before .before .before .before .before .before .before .before .before .before .before .before .before .before .before .before .args .parent) (nameKey (c .before .before .before .before .before .before .before .before .before .before .before .before .before .before .before .before .before .before .before .before .before .before .args .parent) (c .before .before .before .before .before .before .before .before .before .before .before .before .before .before .before .before .before .before .before .before .before .before .args .name .now)) (passed (makeTests (tables (c .before .before .before .before .before .before .before .before .before .before .before .before .before .before .before .before .before .before .before .before .before .before .args .dir-hash .now) (c .before .before .before .before .before .before .before .before .before .before .before .before .before .before .before .before .before .before .before .before .before .before .args .dirs .now) (c .before .before .before .before .before .before .before .before .before .before .before .before .before .before .before .before .before .before .before .before .before .before .args .hash .now) (c .before .before .before .before .before .before .before .before .before .before .before .before .before .before .before .before .before .before .before .before .before .before .args .files .now)) (files (tables (c .before .before .before .before .before .before .before .before .before .before .before .before .before .before .before .before .before .before .before .before .before .before .args .dir-hash .now) (c .before .before .before .before .before .before .before .before .before .before .before .before .before .before .before .before .before .before .before .before .before .before .args .dirs .now) (c .before .before .before .before .before .before .before .before .before .before .before .before .before .before .before .before .before .before .before .before .before .before .args .hash .now) (c .before .before .before .before .before .before .before .before .before .before .before .before .before .before .before .before .before .before .before .before .before .before .args .files .now))) (c .before .before .before .before .before .before .before .before .before .before .before .before .before .before .before .before .before .before .before .before .before .before .args .parent) (nameKey (c .before .before .before .before .before .before .before .before .before .before .before .before .before .before .before .before .before .before .before .before .before .before .args .parent) (c .before .before .before .before .before .before .before .before .before .before .before .before .before .before .before .before .before .before .before .before .before .before .args .name .now))) _ (c .before .before .before .before .before .before .before .before .before .before .before .before .before .judge-make .ensures) (c .before .before .before .before .before .before .before .before .before .before .before .enum-told .given .1)) (c .before .before .before .before .before .before .before .before .before .before .before .before .before .before .before .before .before .before .before .before .before .before .args .opens .now) (c .before .before .before .before .before .before .before .before .before .before .before .before .before .before .before .before .before .before .before .before .before .before .pre .1) (c .before .before .before .before .before .before .before .new-file .result) (c .index .result) (c .before .before .before .before .before .before .before .new-file .ensures .0) (c .index .ensures)
+slice-write-opens c =
+    let args = c .before .before .before .before .before .before .before .before .before .before .before .before .before .before .before .before .before .before .before .before .before .before .args in
+    let at-pre = c .before .before .before .before .before .before .before .before .before .before .before .before .before .before .before .before .before .before .before .before .before .before .pre in
+    let at-judge-make = c .before .before .before .before .before .before .before .before .before .before .before .before .before .judge-make in
+    let at-enum-told = c .before .before .before .before .before .before .before .before .before .before .before .enum-told in
+    let at-new-file = c .before .before .before .before .before .before .before .new-file in
+    new-file-opens (tables (args .dir-hash .now) (args .dirs .now) (args .hash .now) (args .files .now)) (at-pre .0) (args .parent) (nameKey (args .parent) (args .name .now)) (passed (makeTests (tables (args .dir-hash .now) (args .dirs .now) (args .hash .now) (args .files .now)) (files (tables (args .dir-hash .now) (args .dirs .now) (args .hash .now) (args .files .now))) (args .parent) (nameKey (args .parent) (args .name .now))) _ (at-judge-make .ensures) (at-enum-told .given .1)) (args .opens .now) (at-pre .1) (at-new-file .result) (c .index .result) (at-new-file .ensures .0) (c .index .ensures)
 
--- src/make.rt:83:1
 same-length : tie.Need-same-length
 same-length c = search needs
 
--- src/make.rt:83:1
 same-length-2 : tie.Need-same-length-2
 same-length-2 c = search needs
 
--- src/make.rt:83:1
 same-length-3 : tie.Need-same-length-3
 same-length-3 c = search needs
 
--- src/make.rt:83:1
 returns : tie.Need-returns
-returns c = call-refused (λ a. makeGives a 0 (tables (c .before .before .before .before .before .before .before .before .before .before .before .before .args .dir-hash .now) (c .before .before .before .before .before .before .before .before .before .before .before .before .args .dirs .now) (c .before .before .before .before .before .before .before .before .before .before .before .before .args .hash .now) (c .before .before .before .before .before .before .before .before .before .before .before .before .args .files .now)) (c .before .before .before .before .before .before .before .before .before .before .before .before .args .opens .now)) (makeFileDone (tables (c .before .before .before .before .before .before .before .before .before .before .before .before .args .dir-hash .now) (c .before .before .before .before .before .before .before .before .before .before .before .before .args .dirs .now) (c .before .before .before .before .before .before .before .before .before .before .before .before .args .hash .now) (c .before .before .before .before .before .before .before .before .before .before .before .before .args .files .now)) (c .before .before .before .before .before .before .before .before .before .before .before .before .args .opens .now) (c .before .before .before .before .before .before .before .before .before .before .before .before .args .parent) (c .before .before .before .before .before .before .before .before .before .before .before .before .args .name .now) (c .before .before .before .before .before .before .before .before .before .before .before .before .args .carried .now)) (makeTests (tables (c .before .before .before .before .before .before .before .before .before .before .before .before .args .dir-hash .now) (c .before .before .before .before .before .before .before .before .before .before .before .before .args .dirs .now) (c .before .before .before .before .before .before .before .before .before .before .before .before .args .hash .now) (c .before .before .before .before .before .before .before .before .before .before .before .before .args .files .now)) (files (tables (c .before .before .before .before .before .before .before .before .before .before .before .before .args .dir-hash .now) (c .before .before .before .before .before .before .before .before .before .before .before .before .args .dirs .now) (c .before .before .before .before .before .before .before .before .before .before .before .before .args .hash .now) (c .before .before .before .before .before .before .before .before .before .before .before .before .args .files .now))) (c .before .before .before .before .before .before .before .before .before .before .before .before .args .parent) (nameKey (c .before .before .before .before .before .before .before .before .before .before .before .before .args .parent) (c .before .before .before .before .before .before .before .before .before .before .before .before .args .name .now))) (c .before .before .before .judge-make .result) _ (c .before .before .before .judge-make .ensures) (c .before .judged .given .1)
+returns c =
+    let args = c .before .before .before .before .before .before .before .before .before .before .before .before .args in
+    let at-judge-make = c .before .before .before .judge-make in
+    call-refused (λ a. makeGives a 0 (tables (args .dir-hash .now) (args .dirs .now) (args .hash .now) (args .files .now)) (args .opens .now)) (makeFileDone (tables (args .dir-hash .now) (args .dirs .now) (args .hash .now) (args .files .now)) (args .opens .now) (args .parent) (args .name .now) (args .carried .now)) (makeTests (tables (args .dir-hash .now) (args .dirs .now) (args .hash .now) (args .files .now)) (files (tables (args .dir-hash .now) (args .dirs .now) (args .hash .now) (args .files .now))) (args .parent) (nameKey (args .parent) (args .name .now))) (at-judge-make .result) _ (at-judge-make .ensures) (c .before .judged .given .1)
 
--- src/make.rt:83:1
 same-length-4 : tie.Need-same-length-4
 same-length-4 c = search needs
 
--- src/make.rt:83:1
 same-length-5 : tie.Need-same-length-5
 same-length-5 c = search needs
 
--- src/make.rt:83:1
 same-length-6 : tie.Need-same-length-6
 same-length-6 c = search needs
 
--- src/make.rt:83:1
 same-length-7 : tie.Need-same-length-7
 same-length-7 c = search needs
 
--- src/make.rt:83:1
 returns-2 : tie.Need-returns-2
-returns-2 c = call-done (λ a. makeGives a 0 (tables (c .before .before .before .before .before .before .before .before .before .before .before .before .before .before .before .before .before .before .before .before .before .before .args .dir-hash .now) (c .before .before .before .before .before .before .before .before .before .before .before .before .before .before .before .before .before .before .before .before .before .before .args .dirs .now) (c .before .before .before .before .before .before .before .before .before .before .before .before .before .before .before .before .before .before .before .before .before .before .args .hash .now) (c .before .before .before .before .before .before .before .before .before .before .before .before .before .before .before .before .before .before .before .before .before .before .args .files .now)) (c .before .before .before .before .before .before .before .before .before .before .before .before .before .before .before .before .before .before .before .before .before .before .args .opens .now)) (makeFileDone (tables (c .before .before .before .before .before .before .before .before .before .before .before .before .before .before .before .before .before .before .before .before .before .before .args .dir-hash .now) (c .before .before .before .before .before .before .before .before .before .before .before .before .before .before .before .before .before .before .before .before .before .before .args .dirs .now) (c .before .before .before .before .before .before .before .before .before .before .before .before .before .before .before .before .before .before .before .before .before .before .args .hash .now) (c .before .before .before .before .before .before .before .before .before .before .before .before .before .before .before .before .before .before .before .before .before .before .args .files .now)) (c .before .before .before .before .before .before .before .before .before .before .before .before .before .before .before .before .before .before .before .before .before .before .args .opens .now) (c .before .before .before .before .before .before .before .before .before .before .before .before .before .before .before .before .before .before .before .before .before .before .args .parent) (c .before .before .before .before .before .before .before .before .before .before .before .before .before .before .before .before .before .before .before .before .before .before .args .name .now) (c .before .before .before .before .before .before .before .before .before .before .before .before .before .before .before .before .before .before .before .before .before .before .args .carried .now)) _ (makeTests (tables (c .before .before .before .before .before .before .before .before .before .before .before .before .before .before .before .before .before .before .before .before .before .before .args .dir-hash .now) (c .before .before .before .before .before .before .before .before .before .before .before .before .before .before .before .before .before .before .before .before .before .before .args .dirs .now) (c .before .before .before .before .before .before .before .before .before .before .before .before .before .before .before .before .before .before .before .before .before .before .args .hash .now) (c .before .before .before .before .before .before .before .before .before .before .before .before .before .before .before .before .before .before .before .before .before .before .args .files .now)) (files (tables (c .before .before .before .before .before .before .before .before .before .before .before .before .before .before .before .before .before .before .before .before .before .before .args .dir-hash .now) (c .before .before .before .before .before .before .before .before .before .before .before .before .before .before .before .before .before .before .before .before .before .before .args .dirs .now) (c .before .before .before .before .before .before .before .before .before .before .before .before .before .before .before .before .before .before .before .before .before .before .args .hash .now) (c .before .before .before .before .before .before .before .before .before .before .before .before .before .before .before .before .before .before .before .before .before .before .args .files .now))) (c .before .before .before .before .before .before .before .before .before .before .before .before .before .before .before .before .before .before .before .before .before .before .args .parent) (nameKey (c .before .before .before .before .before .before .before .before .before .before .before .before .before .before .before .before .before .before .before .before .before .before .args .parent) (c .before .before .before .before .before .before .before .before .before .before .before .before .before .before .before .before .before .before .before .before .before .before .args .name .now))) (passed (makeTests (tables (c .before .before .before .before .before .before .before .before .before .before .before .before .before .before .before .before .before .before .before .before .before .before .args .dir-hash .now) (c .before .before .before .before .before .before .before .before .before .before .before .before .before .before .before .before .before .before .before .before .before .before .args .dirs .now) (c .before .before .before .before .before .before .before .before .before .before .before .before .before .before .before .before .before .before .before .before .before .before .args .hash .now) (c .before .before .before .before .before .before .before .before .before .before .before .before .before .before .before .before .before .before .before .before .before .before .args .files .now)) (files (tables (c .before .before .before .before .before .before .before .before .before .before .before .before .before .before .before .before .before .before .before .before .before .before .args .dir-hash .now) (c .before .before .before .before .before .before .before .before .before .before .before .before .before .before .before .before .before .before .before .before .before .before .args .dirs .now) (c .before .before .before .before .before .before .before .before .before .before .before .before .before .before .before .before .before .before .before .before .before .before .args .hash .now) (c .before .before .before .before .before .before .before .before .before .before .before .before .before .before .before .before .before .before .before .before .before .before .args .files .now))) (c .before .before .before .before .before .before .before .before .before .before .before .before .before .before .before .before .before .before .before .before .before .before .args .parent) (nameKey (c .before .before .before .before .before .before .before .before .before .before .before .before .before .before .before .before .before .before .before .before .before .before .args .parent) (c .before .before .before .before .before .before .before .before .before .before .before .before .before .before .before .before .before .before .before .before .before .before .args .name .now))) _ (c .before .before .before .before .before .before .before .before .before .before .before .before .before .judge-make .ensures) (c .before .before .before .before .before .before .before .before .before .before .before .enum-told .given .1))
-    (gave-file (c .before .before .before .before .before .before .before .before .before .before .before .before .before .before .before .before .before .before .before .before .before .before .args .dir-hash .now) (c .before .before .before .before .before .before .before .before .before .before .before .before .before .before .before .before .before .before .before .before .before .before .args .dirs .now) (c .before .before .before .before .before .before .before .before .before .before .before .before .before .before .before .before .before .before .before .before .before .before .args .hash .now) (c .before .before .before .before .before .before .before .before .before .before .before .before .before .before .before .before .before .before .before .before .before .before .args .files .now) _ _ _ (c .before .before .before .before .before .before .before .before .before .before .before .before .before .before .before .before .before .before .before .before .before .before .args .opens .now) (c .before .before .before .before .before .before .before .new-file .result) (c .index .result) (c .before .before .before .before .before .before .before .before .before .before .before .before .before .before .before .before .before .before .before .before .before .before .args .parent) (c .before .before .before .before .before .before .before .before .before .before .before .before .before .before .before .before .before .before .before .before .before .before .args .name .now) (c .before .before .before .before .before .before .before .before .before .before .before .before .before .before .before .before .before .before .before .before .before .before .args .carried .now) (c .before .before .before .before .before .before .before .new-file .ensures .0) (c .index .ensures) (c .before .before .before .before .before .before .before .new-file .ensures .1) (c .before .before .before .before .before .before .before .new-file .ensures .2) (c .before .before .before .before .before .before .before .new-file .ensures .3))
+returns-2 c =
+    let args = c .before .before .before .before .before .before .before .before .before .before .before .before .before .before .before .before .before .before .before .before .before .before .args in
+    let at-judge-make = c .before .before .before .before .before .before .before .before .before .before .before .before .before .judge-make in
+    let at-enum-told = c .before .before .before .before .before .before .before .before .before .before .before .enum-told in
+    let at-new-file = c .before .before .before .before .before .before .before .new-file in
+    call-done (λ a. makeGives a 0 (tables (args .dir-hash .now) (args .dirs .now) (args .hash .now) (args .files .now)) (args .opens .now)) (makeFileDone (tables (args .dir-hash .now) (args .dirs .now) (args .hash .now) (args .files .now)) (args .opens .now) (args .parent) (args .name .now) (args .carried .now)) _ (makeTests (tables (args .dir-hash .now) (args .dirs .now) (args .hash .now) (args .files .now)) (files (tables (args .dir-hash .now) (args .dirs .now) (args .hash .now) (args .files .now))) (args .parent) (nameKey (args .parent) (args .name .now))) (passed (makeTests (tables (args .dir-hash .now) (args .dirs .now) (args .hash .now) (args .files .now)) (files (tables (args .dir-hash .now) (args .dirs .now) (args .hash .now) (args .files .now))) (args .parent) (nameKey (args .parent) (args .name .now))) _ (at-judge-make .ensures) (at-enum-told .given .1))
+    (gave-file (args .dir-hash .now) (args .dirs .now) (args .hash .now) (args .files .now) _ _ _ (args .opens .now) (at-new-file .result) (c .index .result) (args .parent) (args .name .now) (args .carried .now) (at-new-file .ensures .0) (c .index .ensures) (at-new-file .ensures .1) (at-new-file .ensures .2) (at-new-file .ensures .3))
 
 pub make-file-spec : {M : Type 1} → statement M
 make-file-spec =

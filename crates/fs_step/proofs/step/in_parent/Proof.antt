@@ -1,38 +1,21 @@
-use mathlib.Core.Path.{_≡_, refl, sym, ap, _∙_}
-use mathlib.Core.List.{List, [], _∷_, _++_}
-use Prim.Native.Nat.{ℕ, _+_, _-_, _*_, _/_, _≤_, _<_}
 use native.Mathlib.Omega.{arith}
-use lib.ListN.{length}
-use borrow.Author.Tests.{eq-eqb, ne-eqb}
-use Rattle.meta_key.specs.Key.{keyWords}
-use Rattle.fs_step.proofs.Seats.{live-fits, hash-fits, own-ends, own-there, own-seat, up-fits, list-ends, list-there, list-seat}
+use Rattle.fs_step.proofs.Seats.{up-fits, list-ends, list-there, list-seat}
 use borrow.Author.Needs.{needs}
 use Rattle.fs_step.proofs.step.in_parent.Statement.{statement}
 use Rattle.fs_step.proofs.step.in_parent.Tie as tie
-use Rattle.fs_step.proofs.step.in_parent.Reads as reads
-use Rattle.fs_step.proofs.step.in_parent.Lts as lts
-use Rattle.meta_table.proofs.find_before.Reads as find-before-reads
-use Rattle.meta_table.proofs.link_of.Reads as link-of-reads
 
--- src/step.rt:44:9
 link-of-requires : tie.Need-link-of-requires
 link-of-requires c κs = search needs
 
--- src/step.rt:45:9
 link-of-requires-2 : tie.Need-link-of-requires-2
 link-of-requires-2 c κs = (up-fits (c .before .before .before .pre .0) (c .link-of .result) 0 (c .link-of .ensures), omega (arith, c .before .before .before .pre .1))
 
--- src/step.rt:47:15
-
--- src/step.rt:48:17
 find-before-requires : tie.Need-find-before-requires
 find-before-requires c κs = (list-ends (c .before .before .before .before .pre .0) (c .before .link-of .result) (c .link-of2 .result) (c .before .link-of .ensures) (c .link-of2 .ensures), omega (arith, c .before .before .before .before .pre .2), list-there (c .before .before .before .before .pre .0) (c .before .link-of .result) (c .link-of2 .result) (c .before .link-of .ensures) (c .link-of2 .ensures))
 
--- src/step.rt:49:16
 link-of-requires-3 : tie.Need-link-of-requires-3
 link-of-requires-3 c κs = search needs
 
--- src/step.rt:40:1
 returns : tie.Need-returns
 returns c = list-seat (c .before .before .before .before .before .before .pre .0) (c .before .before .before .link-of .result) (c .before .before .link-of2 .result) (c .before .before .before .link-of .ensures) (c .before .before .link-of2 .ensures) (c .before .find-before .result) (c .link-of3 .result) (omega (arith, c .before .before .before .before .before .before .pre .0 .inside)) (c .before .find-before .ensures) (c .link-of3 .ensures)
 

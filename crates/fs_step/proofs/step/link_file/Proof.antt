@@ -1,69 +1,56 @@
-use mathlib.Core.Path.{_≡_, refl, sym, ap, _∙_}
-use mathlib.Core.List.{List, [], _∷_, _++_}
-use Prim.Native.Nat.{ℕ, _+_, _-_, _*_, _/_, _≤_, _<_}
-use native.Mathlib.Omega.{arith}
-use lib.ListN.{length}
-use borrow.Author.Tests.{eq-eqb, ne-eqb}
-use Rattle.meta_key.specs.Key.{keyWords}
-use Rattle.fs_step.proofs.Links.{bucket-fits, unlinked-dir, unlinked-file, linked-dir, linked-file}
+use Rattle.fs_step.proofs.Links.{bucket-fits, linked-file}
 use borrow.Author.Needs.{needs}
 use Rattle.fs_step.proofs.step.link_file.Statement.{statement}
 use Rattle.fs_step.proofs.step.link_file.Tie as tie
-use Rattle.fs_step.proofs.step.link_file.Reads as reads
-use Rattle.fs_step.proofs.step.link_file.Lts as lts
-use Rattle.meta_key.proofs.SaveExtKey.new.Reads as new-reads
-use Rattle.meta_key.proofs.hash.Reads as hash-reads
-use Rattle.meta_table.proofs.enter.Reads as enter-reads
-use Rattle.meta_table.proofs.get_hash.Reads as get-hash-reads
-use Rattle.meta_table.proofs.link_of.Reads as link-of-reads
-use Rattle.meta_table.proofs.put_hash.Reads as put-hash-reads
-use Rattle.meta_table.proofs.put_link.Reads as put-link-reads
 
--- src/step.rt:202:9
 new-requires : tie.Need-new-requires
 new-requires c κs = search needs
 
--- src/step.rt:203:9
 hash-requires : tie.Need-hash-requires
 hash-requires c κs = search needs
 
--- src/step.rt:204:9
 get-hash-requires : tie.Need-get-hash-requires
-get-hash-requires c κs = bucket-fits (c .before .before .before .before .before .before .args .hash .now) _ (c .before .hash .result) (c .before .hash .ensures) (c .before .before .before .before .before .before .pre .2)
+get-hash-requires c κs =
+    let args = c .before .before .before .before .before .before .args in
+    let at-pre = c .before .before .before .before .before .before .pre in
+    bucket-fits (args .hash .now) _ (c .before .hash .result) (c .before .hash .ensures) (at-pre .2)
 
--- src/step.rt:205:9
 link-of-requires : tie.Need-link-of-requires
 link-of-requires c κs = search needs
 
--- src/step.rt:211:5
 put-hash-requires : tie.Need-put-hash-requires
-put-hash-requires c κs = bucket-fits (c .before .before .before .before .before .before .before .before .before .before .args .hash .now) _ (c .before .before .before .before .before .hash .result) (c .before .before .before .before .before .hash .ensures) (c .before .before .before .before .before .before .before .before .before .before .pre .2)
+put-hash-requires c κs =
+    let args = c .before .before .before .before .before .before .before .before .before .before .args in
+    let at-pre = c .before .before .before .before .before .before .before .before .before .before .pre in
+    let at-hash = c .before .before .before .before .before .hash in
+    bucket-fits (args .hash .now) _ (at-hash .result) (at-hash .ensures) (at-pre .2)
 
--- src/step.rt:212:5
 enter-requires : tie.Need-enter-requires
 enter-requires c κs = search needs
 
--- src/step.rt:213:5
 put-link-requires : tie.Need-put-link-requires
 put-link-requires c κs = search needs
 
--- src/step.rt:189:1
 same-length : tie.Need-same-length
 same-length c = search needs
 
--- src/step.rt:189:1
 same-length-2 : tie.Need-same-length-2
 same-length-2 c = search needs
 
--- src/step.rt:189:1
 same-length-3 : tie.Need-same-length-3
 same-length-3 c = search needs
 
--- src/step.rt:189:1
 returns : tie.Need-returns
 returns c =
-    linked-file (c .before .before .before .before .before .before .before .before .before .before .before .before .before .before .before .before .before .before .before .before .before .args .hash .now) _ (c .before .before .before .before .before .before .before .before .before .before .before .before .before .before .before .before .before .before .before .before .before .args .x) (c .before .before .before .before .before .before .before .before .before .before .before .before .before .before .before .before .before .before .before .before .before .args .parent) (c .before .before .before .before .before .before .before .before .before .before .before .before .before .before .before .before .hash .result) (c .before .before .before .before .before .before .before .before .before .before .before .before .before .before .get-hash .result) (c .before .before .before .before .before .before .before .before .before .before .before .before .link-of .result) (c .before .before .before .before .before .before .before .before .before .before .before .before .before .before .before .before .before .before .before .before .before .args .name .now) (c .before .before .before .before .before .before .before .before .before .before .before .before .before .before .before .before .before .new .result) (c .before .before .before .before .before .before .before .before .before .before .before .before .before .before .before .before .before .new .ensures) (c .before .before .before .before .before .before .before .before .before .before .before .before .before .before .before .before .hash .ensures) (c .before .before .before .before .before .before .before .before .before .before .before .before .before .before .get-hash .ensures) (c .before .before .before .before .before .before .before .before .before .before .put-hash .ensures)
-    (c .before .before .before .before .before .before .before .before .before .before .before .before .before .before .before .before .before .before .before .before .before .args .dirs .now) _ (c .before .before .before .before .before .before .before .before .before .before .before .before .before .before .before .before .before .before .before .before .before .args .files .now) _ (c .before .before .before .before .before .before .before .before .before .before .before .before .link-of .ensures) (c .before .before .before .before .before .before .enter .ensures) (c .before .before .put-link .ensures)
+    let args = c .before .before .before .before .before .before .before .before .before .before .before .before .before .before .before .before .before .before .before .before .before .args in
+    let at-new = c .before .before .before .before .before .before .before .before .before .before .before .before .before .before .before .before .before .new in
+    let at-hash = c .before .before .before .before .before .before .before .before .before .before .before .before .before .before .before .before .hash in
+    let at-get-hash = c .before .before .before .before .before .before .before .before .before .before .before .before .before .before .get-hash in
+    let at-link-of = c .before .before .before .before .before .before .before .before .before .before .before .before .link-of in
+    let at-put-hash = c .before .before .before .before .before .before .before .before .before .before .put-hash in
+    let at-enter = c .before .before .before .before .before .before .enter in
+    linked-file (args .hash .now) _ (args .x) (args .parent) (at-hash .result) (at-get-hash .result) (at-link-of .result) (args .name .now) (at-new .result) (at-new .ensures) (at-hash .ensures) (at-get-hash .ensures) (at-put-hash .ensures)
+    (args .dirs .now) _ (args .files .now) _ (at-link-of .ensures) (at-enter .ensures) (c .before .before .put-link .ensures)
 
 pub link-file-spec : {M : Type 1} → statement M
 link-file-spec =
