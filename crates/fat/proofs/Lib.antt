@@ -1,4 +1,3 @@
-pub mod Copied
 pub mod Over
 pub mod Joins
 pub mod Few
@@ -9,7 +8,4 @@ pub mod Done
 pub mod Public
 pub mod Resizes
 pub mod Lists
-pub mod InRow
-pub mod Puts
-pub mod Carries
 pub mod Unique

@@ -13,8 +13,8 @@ use Rattle.order.specs.Gate.{cleared, Refusal, refusal}
 use Rattle.order.specs.Given.{Given, None}
 use Rattle.order.specs.declared.Answer.{Answer}
 use Rattle.order.specs.declared.Answer.the-variants.{BrokenFat}
-use Rattle.order.proofs.One.{one, front, behind}
-use Rattle.order.proofs.Gate.{gate-given, gate-none}
+use Rattle.order.proofs.Beside as rows
+use Rattle.order.proofs.Gate.{gate-given}
 use Rattle.fat_node.specs.Entry.{Bytes}
 use Rattle.fat_node.specs.Sizes.{blocks, Misfit, Outside}
 use Rattle.fat_node.proofs.Nodes.{le-or-lt}
@@ -25,19 +25,12 @@ use Rattle.fat_test.specs.declared.Gated.{Gated}
 use Rattle.fat_test.specs.declared.Gated.the-variants.{Open, Refused}
 use Rattle.fat.specs.Promise.{Beside, beside, within, Promise}
 use Rattle.fat.specs.Inner.{Volume}
-use Rattle.fat.specs.Stretches.{Data}
-
--- a call's own rows, beside the work list
-under : {A : Type 0} (work : List ℕ) (rs : List (Row A)) (d o : A) → First rs d o → First (within work rs) (beside d work) (beside o work)
-under work [] d o p = ap (λ x. beside x work) p
-under work (r ∷ rs) d o (inl p) = inl (p .0, ap (λ x. beside x work) (p .1))
-under work (r ∷ rs) d o (inr p) = inr (p .0, under work rs d o (p .1))
 
 module _ {A : Type 0} (refuse : Answer → A) (t : Bytes) (d l : ℕ) (work : List ℕ) (own : List (Row A)) (done : A) where
   -- the gate refuses
   pub shut : (a : Answer) (work′ : List ℕ) → Given (blockGate refusal t d l work) (refusal a work′) → Promise refuse t d l work own done (beside (refuse a) work′)
   shut a work′ g =
-      front (blockGate (λ a w. beside (refuse a) w) t d l work) (within (cleared (blocks t) work) own) (beside done (cleared (blocks t) work)) (beside (refuse a) work′)
+      rows.refused (blockGate (λ a w. beside (refuse a) w) t d l work) (cleared (blocks t) work) own done (beside (refuse a) work′)
       (gate-given (λ a w. beside (refuse a) w) (Misfit t ⊎ (d ≡ blocks t * l → ⊥)) (Outside t ⊎ (l < 1) ⊎ (65536 < l)) (length work < blocks t) (Sound t (blocks t) → ⊥) BrokenFat (blocks t)
       work a work′ g)
 
@@ -45,8 +38,7 @@ module _ {A : Type 0} (refuse : Answer → A) (t : Bytes) (d l : ℕ) (work : Li
   pub passed : (work′ : List ℕ) (free files : ℕ) (o : A) → Opened t d l work work′ free files → First own done o → Promise refuse t d l work own done (beside o work′)
   passed work′ free files o g p =
       subst⁻¹ (λ (w : List ℕ). Promise refuse t d l work own done (beside o w)) (g .clear)
-      (behind (blockGate (λ a w. beside (refuse a) w) t d l work) (within (cleared (blocks t) work) own) (beside done (cleared (blocks t) work)) (beside o (cleared (blocks t) work))
-      (g .none) (under (cleared (blocks t) work) own done o p))
+      (rows.passed (blockGate (λ a w. beside (refuse a) w) t d l work) (cleared (blocks t) work) own done o (g .none) p)
 
 -- what an open gate says of the sizes
 module _ (t : Bytes) (d l : ℕ) (work work′ : List ℕ) (free files : ℕ) (g : Opened t d l work work′ free files) where
@@ -78,9 +70,6 @@ module _ (t : Bytes) (d l : ℕ) (work work′ : List ℕ) (free files : ℕ) (g
     ⊎-elim (λ h. h) (λ h. absurd (g .none .1 .0 (inr (inl (omega (arith, h)))))) (le-or-lt 1 l),
     ⊎-elim (λ h. h) (λ h. absurd (g .none .1 .0 (inr (inr h)))) (le-or-lt l 65536),
   )
-
-  pub open-blocks : Data (blocks t) d l
-  open-blocks = record { some = open-block .0; few = open-block .1; fits = open-data }
 
 -- the gate's answer, taken apart
 pub says-open : (t : Bytes) (d l : ℕ) (work work′ : List ℕ) (r : Gated) (free files : ℕ) → GateOf t d l work work′ r → r ≡ Open free files → Opened t d l work work′ free files

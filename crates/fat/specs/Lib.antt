@@ -2,4 +2,3 @@ pub mod Blocks
 pub mod Promise
 pub mod Calls
 pub mod Inner
-pub mod Stretches

@@ -1,6 +1,4 @@
 // The calls of the block table.
-pub mod data;
-
 ghost use mathlib.Core.Path.{_≡_};
 ghost use Prim.Native.Nat.{_+_, _*_, _≤_, _<_};
 ghost use lib.ListN.{length};
@@ -18,21 +16,8 @@ use fat_node::Node;
 use fat_test::Gated;
 use order::Answer;
 
-// Copies one part over another of the same length.
-fn copy(dst: &mut [u8], src: &[u8])
-    requires { ⌜ length (now src) ≡ length (now dst) ⌝ }
-    ensures { λ _. ⌜ now (dst .exit) ≡ now (src .entry) ⌝ }
-{
-    let len = dst.len();
-    let mut i = 0;
-    while i < len {
-        dst[i] = src[i];
-        i += 1;
-    }
-}
-
 // The size of the node that stands at block b.
-fn size_at(table: &[u8], n: usize, b: usize) -> usize
+pub fn size_at(table: &[u8], n: usize, b: usize) -> usize
     requires { ⌜ Standing n (now table) b ⌝ }
     ensures { λ r. ⌜ r ≡ sizeAt (now (table .entry)) b ⌝ }
 {
@@ -171,7 +156,7 @@ pub enum Sought {
 }
 
 // Seeks the count-th block of the chain that index first starts, hopping by node.
-fn seek(table: &[u8], n: usize, first: usize, count: usize) -> Sought
+pub fn seek(table: &[u8], n: usize, first: usize, count: usize) -> Sought
     requires { ⌜ ChainFrom n (now table) first ⌝ }
     requires { ⌜ 1 ≤ count ⌝ }
     ensures { λ r. ⌜ SeekSays (chainAt (now (table .entry)) n first) count r ⌝ }
@@ -428,7 +413,7 @@ pub struct Listed {
 }
 
 // The smaller of two numbers.
-fn least(a: usize, b: usize) -> usize
+pub fn least(a: usize, b: usize) -> usize
     ensures { λ r. ⌜ Least a b r ⌝ }
 {
     if a < b { a } else { b }

@@ -31,6 +31,7 @@ use Rattle.fat_table.proofs.Files.{
 use Rattle.fat.specs.Promise.{Beside}
 use Rattle.fat.specs.Blocks.{blocksOf, placeOf, bytesAt, written}
 use Rattle.fat.specs.Calls.{Create, CreatePromise, Change, ResizePromise, DeletePromise, Carry, WritePromise, sizeOf}
+use Rattle.fat.proofs.Lists.{length-blocks}
 use Rattle.fat_history.specs.Away.{Away, none, creates, resizes, deletes, writes}
 use Rattle.fat_history.proofs.Means.{MayCarry, create-keeps, resize-keeps, delete-keeps, write-keeps}
 use Rattle.fat_history.proofs.Honest.{blocks-of}
@@ -38,7 +39,6 @@ use Rattle.fat_history.proofs.Lies.{seen-two, two-apart}
 use Rattle.fat_history.proofs.Places.{
   occurs,
   occurs-blocks,
-  length-blocks,
   places-apart,
   places-differ,
   place-low,

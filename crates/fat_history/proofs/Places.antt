@@ -7,13 +7,12 @@ use Prim.Native.Nat.{ℕ, zero, suc, _+_, _-_, _*_, _/_, _%_, _≤_, _<_}
 use native.Mathlib.Omega.{arith}
 use native.Mathlib.Nat.{mul-le-mul-right, suc-mul, mod-lt, div-add-mod, div-lt-iff-lt-mul, mul-add-div-right, div-eq-of-lt, mul-comm}
 use lib.Dec.{eqb}
-use lib.ListN.{length, length-append, getD, set, length-set}
+use lib.ListN.{length, getD, set, length-set}
 use lib.Seq.{getD-set-same, getD-set-other}
 use borrow.Author.Tests.{eqb-true, eqb-false, eq-eqb, ne-eqb}
 use Rattle.fat_node.specs.Entry.{Bytes}
 use Rattle.fat_node.specs.Node.{Run, run}
 use Rattle.fat_node.proofs.Nodes.{le-or-lt}
-use Rattle.fat_table.specs.Chain.{total}
 use Rattle.fat_table.specs.Layout.{hits, covers}
 use Rattle.fat_table.proofs.Layouts.{hits-in, hits-lo, hits-hi, hits-split}
 use Rattle.fat.specs.Blocks.{blocksFrom, blocksOf, placeOf, bytesAt, written}
@@ -65,15 +64,6 @@ pub occurs-blocks : (x : ℕ) (l : List Run) → occurs x (blocksOf l) ≡ cover
 occurs-blocks x [] = refl
 occurs-blocks x (r ∷ l) =
     omega (arith, occurs-append x (blocksFrom (r .size) (r .start)) (blocksOf l), occurs-from (r .size) (r .start) x, occurs-blocks x l)
-
-length-from : (s b : ℕ) → length (blocksFrom s b) ≡ s
-length-from zero b = refl
-length-from (suc s) b = ap suc (length-from s (suc b))
-
-pub length-blocks : (l : List Run) → length (blocksOf l) ≡ total l
-length-blocks [] = refl
-length-blocks (r ∷ l) =
-    omega (arith, length-append (blocksFrom (r .size) (r .start)) (blocksOf l), length-from (r .size) (r .start), length-blocks l)
 
 pub occurs-at : (l : List ℕ) (i : ℕ) → i < length l → 1 ≤ occurs (getD l i 0) l
 occurs-at [] i h = omega arith

@@ -1,7 +1,7 @@
 -- Each way out of the test and of the gate, as a fact about the rows. Assumes nothing.
 use mathlib.Core.Path.{_≡_, refl, sym, ap, subst, _∙_}
 use mathlib.Core.List.{List}
-use mathlib.Core.Bool.{true, false}
+use mathlib.Core.Bool.{Bool, true, false}
 use mathlib.Core.Logic.{_⊎_, inl, inr, ⊎-elim}
 use Prim.Native.Nat.{ℕ, _+_, _*_, _/_, _%_, _<_, _≤_}
 use native.Mathlib.Nat.{zero-mul, mul-mod-right, mul-div-right, div-add-mod}
@@ -25,6 +25,10 @@ untrue e = let z : _≡_ {A = ℕ} 0 1 = cc in absurd (omega arith)
 
 pub unfalse : {A : Type 0} → true ≡ false → A
 unfalse e = let z : _≡_ {A = ℕ} 0 1 = cc in absurd (omega arith)
+
+-- what a test that failed would have shown
+pub unless : {P : Type 0} {r : Bool} → (P → r ≡ true) → r ≡ false → P → ⊥
+unless f e p = unfalse (sym (f p) ∙ e)
 
 -- ---- d is n times l
 module _ (d n l : ℕ) where

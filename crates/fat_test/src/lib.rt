@@ -47,28 +47,14 @@ pub enum Gated {
     Refused { answer: Answer },
 }
 
-// Whether the table is under 8 bytes or not a multiple of 8.
-fn misfit(table: &[u8]) -> bool
-    ensures { λ r. ⌜ (r ≡ true → Misfit (now (table .entry))) × (r ≡ false → Misfit (now (table .entry)) → ⊥) ⌝ }
+// Whether a block length is not from 1 to 65,536.
+fn unfit(block_len: usize) -> bool
+    ensures { λ r. ⌜ (r ≡ true → («block_len» < 1) ⊎ (65536 < «block_len»)) × (r ≡ false → («block_len» < 1) ⊎ (65536 < «block_len») → ⊥) ⌝ }
 {
-    let len = table.len();
-    if len < 8 {
+    if block_len < 1 {
         return true;
     }
-    if len % 8 != 0 {
-        return true;
-    }
-    false
-}
-
-// Whether x is not from 1 to most.
-fn outside(x: usize, most: usize) -> bool
-    ensures { λ r. ⌜ (r ≡ true → (x < 1) ⊎ (most < x)) × (r ≡ false → (x < 1) ⊎ (most < x) → ⊥) ⌝ }
-{
-    if x < 1 {
-        return true;
-    }
-    if most < x {
+    if 65536 < block_len {
         return true;
     }
     false
@@ -108,11 +94,11 @@ fn verdict(table: &[u8], work: &mut [u32]) -> Verdict
 pub fn test(table: &[u8], work: &mut [u32]) -> Tested
     ensures { λ r. ⌜ TestPromise (now (table .entry)) (now (work .entry)) (r, now (work .exit)) ⌝ }
 {
-    if misfit(table) {
+    if fat_node::misfit(table) {
         return refused(Answer::SizeMismatch);
     }
     let n = table.len() / 8 - 1;
-    if outside(n, 1000000) {
+    if fat_node::outside(table) {
         return refused(Answer::InvalidValue);
     }
     if work.len() < n {
@@ -129,7 +115,7 @@ pub fn test(table: &[u8], work: &mut [u32]) -> Tested
 pub fn gate(table: &[u8], data_len: usize, block_len: usize, work: &mut [u32]) -> Gated
     ensures { λ r. ⌜ GateOf (now (table .entry)) «data_len» «block_len» (now (work .entry)) (now (work .exit)) r ⌝ }
 {
-    if misfit(table) {
+    if fat_node::misfit(table) {
         return Gated::Refused {
             answer: Answer::SizeMismatch,
         };
@@ -140,12 +126,12 @@ pub fn gate(table: &[u8], data_len: usize, block_len: usize, work: &mut [u32]) -
             answer: Answer::SizeMismatch,
         };
     }
-    if outside(n, 1000000) {
+    if fat_node::outside(table) {
         return Gated::Refused {
             answer: Answer::InvalidValue,
         };
     }
-    if outside(block_len, 65536) {
+    if unfit(block_len) {
         return Gated::Refused {
             answer: Answer::InvalidValue,
         };

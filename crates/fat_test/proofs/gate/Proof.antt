@@ -1,5 +1,5 @@
 -- `fat_test::gate` meets its contract. Assumes nothing.
-use Rattle.fat_test.proofs.Cases.{fits, gate-misfit, gate-uneven, gate-outside, gate-block, gate-short, gate-broken, gate-open}
+use Rattle.fat_test.proofs.Cases.{fits, unless, gate-misfit, gate-uneven, gate-outside, gate-block, gate-short, gate-broken, gate-open}
 use Rattle.fat_node.specs.Sizes.{blocks}
 use Rattle.fat_ends.specs.Promise.{Judged}
 use native.Mathlib.Omega.{arith}
@@ -15,7 +15,7 @@ returns : tie.Need-returns
 returns c = gate-misfit (c .before .before .before .before .args .table .now) _ _ (c .before .before .before .before .args .work .now) (c .before .misfit .ensures .0 (c .if1 .taken))
 
 sub-n : tie.Need-sub-n
-sub-n c = omega (arith, fits (c .before .before .before .before .args .table .now) (c .before .misfit .ensures .1 (c .if1 .left)))
+sub-n c = omega (arith, fits (c .before .before .before .before .args .table .now) (unless (c .before .misfit .ensures .1) (c .if1 .left)))
 
 uneven-requires : tie.Need-uneven-requires
 uneven-requires c κs = search needs
@@ -27,21 +27,21 @@ outside-requires : tie.Need-outside-requires
 outside-requires c κs = search needs
 
 returns-3 : tie.Need-returns-3
-returns-3 c = gate-outside (c .before .before .before .before .before .before .before .before .args .table .now) _ _ (c .before .before .before .before .before .before .before .before .args .work .now) (c .before .before .before .before .before .misfit .ensures .1 (c .before .before .before .before .if1 .left)) (c .before .before .before .uneven .ensures .1 (c .before .before .if2 .left)) (c .before .outside .ensures .0 (c .if3 .taken))
+returns-3 c = gate-outside (c .before .before .before .before .before .before .before .before .args .table .now) _ _ (c .before .before .before .before .before .before .before .before .args .work .now) (unless (c .before .before .before .before .before .misfit .ensures .1) (c .before .before .before .before .if1 .left)) (c .before .before .before .uneven .ensures .1 (c .before .before .if2 .left)) (c .before .outside .ensures .0 (c .if3 .taken))
 
-outside-requires-2 : tie.Need-outside-requires-2
-outside-requires-2 c κs = search needs
+unfit-requires : tie.Need-unfit-requires
+unfit-requires c κs = search needs
 
 returns-4 : tie.Need-returns-4
-returns-4 c = gate-block (c .before .before .before .before .before .before .before .before .before .before .args .table .now) _ _ (c .before .before .before .before .before .before .before .before .before .before .args .work .now) (c .before .before .before .before .before .before .before .misfit .ensures .1 (c .before .before .before .before .before .before .if1 .left)) (c .before .before .before .before .before .uneven .ensures .1 (c .before .before .before .before .if2 .left)) (c .before .outside2 .ensures .0 (c .if4 .taken))
+returns-4 c = gate-block (c .before .before .before .before .before .before .before .before .before .before .args .table .now) _ _ (c .before .before .before .before .before .before .before .before .before .before .args .work .now) (unless (c .before .before .before .before .before .before .before .misfit .ensures .1) (c .before .before .before .before .before .before .if1 .left)) (c .before .before .before .before .before .uneven .ensures .1 (c .before .before .before .before .if2 .left)) (c .before .unfit .ensures .0 (c .if4 .taken))
 
 returns-5 : tie.Need-returns-5
 returns-5 c =
-    gate-short (c .before .before .before .before .before .before .before .before .before .before .before .args .table .now) _ _ (c .before .before .before .before .before .before .before .before .before .before .before .args .work .now) (c .before .before .before .before .before .before .before .before .misfit .ensures .1 (c .before .before .before .before .before .before .before .if1 .left)) (c .before .before .before .before .before .before .uneven .ensures .1 (c .before .before .before .before .before .if2 .left))
-    (c .before .before .before .before .outside .ensures .1 (c .before .before .before .if3 .left)) (c .before .before .outside2 .ensures .1 (c .before .if4 .left)) (c .if5 .taken)
+    gate-short (c .before .before .before .before .before .before .before .before .before .before .before .args .table .now) _ _ (c .before .before .before .before .before .before .before .before .before .before .before .args .work .now) (unless (c .before .before .before .before .before .before .before .before .misfit .ensures .1) (c .before .before .before .before .before .before .before .if1 .left)) (c .before .before .before .before .before .before .uneven .ensures .1 (c .before .before .before .before .before .if2 .left))
+    (unless (c .before .before .before .before .outside .ensures .1) (c .before .before .before .if3 .left)) (c .before .before .unfit .ensures .1 (c .before .if4 .left)) (c .if5 .taken)
 
 verdict-requires : tie.Need-verdict-requires
-verdict-requires c κs = (c .before .before .before .before .before .before .before .before .before .misfit .ensures .1 (c .before .before .before .before .before .before .before .before .if1 .left), (c .before .before .before .before .before .outside .ensures .1 (c .before .before .before .before .if3 .left), omega arith))
+verdict-requires c κs = (unless (c .before .before .before .before .before .before .before .before .before .misfit .ensures .1) (c .before .before .before .before .before .before .before .before .if1 .left), (unless (c .before .before .before .before .before .outside .ensures .1) (c .before .before .before .before .if3 .left), omega arith))
 
 enum-known-r : tie.Need-enum-known-r
 enum-known-r c = search needs
@@ -54,8 +54,8 @@ same-length c = search needs
 
 returns-6 : tie.Need-returns-6
 returns-6 c =
-    gate-broken (c .before .before .before .before .before .before .before .before .before .before .before .before .before .before .before .before .before .args .table .now) _ _ (c .before .before .before .before .before .before .before .before .before .before .before .before .before .before .before .before .before .args .work .now) (c .before .before .before .before .before .before .before .before .before .before .before .before .before .before .misfit .ensures .1 (c .before .before .before .before .before .before .before .before .before .before .before .before .before .if1 .left)) (c .before .before .before .before .before .before .before .before .before .before .before .before .uneven .ensures .1 (c .before .before .before .before .before .before .before .before .before .before .before .if2 .left))
-    (c .before .before .before .before .before .before .before .before .before .before .outside .ensures .1 (c .before .before .before .before .before .before .before .before .before .if3 .left)) (c .before .before .before .before .before .before .before .before .outside2 .ensures .1 (c .before .before .before .before .before .before .before .if4 .left)) (λ s. omega (arith, c .before .before .before .before .before .before .if5 .left)) (c .before .before .before .before .verdict .ensures .1)
+    gate-broken (c .before .before .before .before .before .before .before .before .before .before .before .before .before .before .before .before .before .args .table .now) _ _ (c .before .before .before .before .before .before .before .before .before .before .before .before .before .before .before .before .before .args .work .now) (unless (c .before .before .before .before .before .before .before .before .before .before .before .before .before .before .misfit .ensures .1) (c .before .before .before .before .before .before .before .before .before .before .before .before .before .if1 .left)) (c .before .before .before .before .before .before .before .before .before .before .before .before .uneven .ensures .1 (c .before .before .before .before .before .before .before .before .before .before .before .if2 .left))
+    (unless (c .before .before .before .before .before .before .before .before .before .before .outside .ensures .1) (c .before .before .before .before .before .before .before .before .before .if3 .left)) (c .before .before .before .before .before .before .before .before .unfit .ensures .1 (c .before .before .before .before .before .before .before .if4 .left)) (λ s. omega (arith, c .before .before .before .before .before .before .if5 .left)) (c .before .before .before .before .verdict .ensures .1)
     (subst (Judged (c .before .before .before .before .before .before .before .before .before .before .before .before .before .before .before .before .before .args .table .now) (blocks (c .before .before .before .before .before .before .before .before .before .before .before .before .before .before .before .before .before .args .table .now))) (c .enum-told .given .1) (c .before .before .before .before .verdict .ensures .0))
 
 cast-t12 : tie.Need-cast-t12
@@ -72,8 +72,8 @@ returns-7 c =
     let v = subst (Judged (c .before .before .before .before .before .before .before .before .before .before .before .before .before .before .before .before .before .before .args .table .now) (blocks (c .before .before .before .before .before .before .before .before .before .before .before .before .before .before .before .before .before .before .args .table .now))) (c .before .r .given .1) (c .before .before .before .before .before .verdict .ensures .0) in
     record {
       none =
-          gate-open (c .before .before .before .before .before .before .before .before .before .before .before .before .before .before .before .before .before .before .args .table .now) _ _ (c .before .before .before .before .before .before .before .before .before .before .before .before .before .before .before .before .before .before .args .work .now) (c .before .before .before .before .before .before .before .before .before .before .before .before .before .before .before .misfit .ensures .1 (c .before .before .before .before .before .before .before .before .before .before .before .before .before .before .if1 .left)) (c .before .before .before .before .before .before .before .before .before .before .before .before .before .uneven .ensures .1 (c .before .before .before .before .before .before .before .before .before .before .before .before .if2 .left))
-          (c .before .before .before .before .before .before .before .before .before .before .before .outside .ensures .1 (c .before .before .before .before .before .before .before .before .before .before .if3 .left)) (c .before .before .before .before .before .before .before .before .before .outside2 .ensures .1 (c .before .before .before .before .before .before .before .before .if4 .left)) (λ s. omega (arith, c .before .before .before .before .before .before .before .if5 .left)) (v .0);
+          gate-open (c .before .before .before .before .before .before .before .before .before .before .before .before .before .before .before .before .before .before .args .table .now) _ _ (c .before .before .before .before .before .before .before .before .before .before .before .before .before .before .before .before .before .before .args .work .now) (unless (c .before .before .before .before .before .before .before .before .before .before .before .before .before .before .before .misfit .ensures .1) (c .before .before .before .before .before .before .before .before .before .before .before .before .before .before .if1 .left)) (c .before .before .before .before .before .before .before .before .before .before .before .before .before .uneven .ensures .1 (c .before .before .before .before .before .before .before .before .before .before .before .before .if2 .left))
+          (unless (c .before .before .before .before .before .before .before .before .before .before .before .outside .ensures .1) (c .before .before .before .before .before .before .before .before .before .before .if3 .left)) (c .before .before .before .before .before .before .before .before .before .unfit .ensures .1 (c .before .before .before .before .before .before .before .before .if4 .left)) (λ s. omega (arith, c .before .before .before .before .before .before .before .if5 .left)) (v .0);
       sound = v .0;
       clear = c .before .before .before .before .before .verdict .ensures .1;
       count = v .1;
@@ -91,7 +91,7 @@ gate-spec =
     returns-2
     outside-requires
     returns-3
-    outside-requires-2
+    unfit-requires
     returns-4
     returns-5
     verdict-requires
