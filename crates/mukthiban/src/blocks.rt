@@ -121,7 +121,7 @@ pub extern "C" fn mukthiban_fat_read(
 ) -> Plain
     ensures { λ p. ⌜ ((a : Answer) × (p .answer ≡ numberOf a) × ReadPromise (now (table .entry)) (now («data» .entry)) «block_len» (now (work .entry)) «first_block» pos (now (buf .entry)) (beside (carryGives a (now (buf .exit))) (now (work .exit)))) ⌝ }
 {
-    let r = fat::data::read(table, data, block_len, work, first_block, pos, buf);
+    let r = fat_data::read(table, data, block_len, work, first_block, pos, buf);
     let answer = r.answer;
     Plain {
         answer: order::number(answer),
@@ -140,7 +140,7 @@ pub extern "C" fn mukthiban_fat_write(
 ) -> Plain
     ensures { λ p. ⌜ ((a : Answer) × (p .answer ≡ numberOf a) × WritePromise (now (table .entry)) (now («data» .entry)) «block_len» (now (work .entry)) «first_block» pos (now (buf .entry)) (beside (carryGives a (now («data» .exit))) (now (work .exit)))) ⌝ }
 {
-    let r = fat::data::write(table, data, block_len, work, first_block, pos, buf);
+    let r = fat_data::write(table, data, block_len, work, first_block, pos, buf);
     let answer = r.answer;
     Plain {
         answer: order::number(answer),

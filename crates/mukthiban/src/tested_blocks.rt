@@ -5,7 +5,7 @@ ghost use Rattle.order.specs.Answer.{numberOf};
 ghost use Rattle.order.specs.declared.Answer.{Answer};
 ghost use Rattle.order.specs.First.{First};
 ghost use Rattle.fat.specs.Inner.{Volume};
-ghost use Rattle.fat.specs.Stretches.{Data};
+ghost use Rattle.fat_data.specs.Stretches.{Data};
 ghost use Rattle.fat.specs.Calls.{createRows, createDone, createGives, resizeRows, resizeDone, deleteRows, deleteDone, changeGives, listRows, listDone, listGives, carryRows, readDone, writeDone, carryGives};
 use crate::Created;
 use crate::Listed;
@@ -93,7 +93,7 @@ pub extern "C" fn mukthiban_tested_fat_read(
     requires { ⌜ Data n (length (now «data»)) «block_len» ⌝ }
     ensures { λ p. ⌜ ((a : Answer) × (p .answer ≡ numberOf a) × First (carryRows n (now (table .entry)) «block_len» «first_block» pos (length (now (buf .entry))) (now (buf .entry))) (readDone n (now (table .entry)) (now («data» .entry)) «block_len» «first_block» pos (now (buf .entry))) (carryGives a (now (buf .exit)))) ⌝ }
 {
-    let r = fat::data::read_sound(table, data, block_len, n, first_block, pos, buf);
+    let r = fat_data::read_sound(table, data, block_len, n, first_block, pos, buf);
     let answer = r.answer;
     Plain {
         answer: order::number(answer),
@@ -114,7 +114,7 @@ pub extern "C" fn mukthiban_tested_fat_write(
     requires { ⌜ Data n (length (now «data»)) «block_len» ⌝ }
     ensures { λ p. ⌜ ((a : Answer) × (p .answer ≡ numberOf a) × First (carryRows n (now (table .entry)) «block_len» «first_block» pos (length (now (buf .entry))) (now («data» .entry))) (writeDone n (now (table .entry)) (now («data» .entry)) «block_len» «first_block» pos (now (buf .entry))) (carryGives a (now («data» .exit)))) ⌝ }
 {
-    let r = fat::data::write_sound(table, data, block_len, n, first_block, pos, buf);
+    let r = fat_data::write_sound(table, data, block_len, n, first_block, pos, buf);
     let answer = r.answer;
     Plain {
         answer: order::number(answer),
