@@ -6,11 +6,11 @@ test:
 # Against the Rust: the long comparison, with a new seed or SEED=number.
 .PHONY: oracle bench
 oracle:
-	if [ -d crates/mukthiban/src ]; then rt staticlib mukthiban > /dev/null; fi
+	rt staticlib mukthiban > /dev/null
 	cd oracle && cargo run --offline --release --quiet -p compare -- long $(SEED)
 # The original, a careful test in plain Rust, and the library, measured in one run.
 bench:
-	if [ -d crates/mukthiban/src ]; then rt staticlib mukthiban > /dev/null; fi
+	rt staticlib mukthiban > /dev/null
 	cd oracle && cargo run --offline --release --quiet -p bench
 
 # A sample volume, looked at, lifted and damaged.

@@ -1,5 +1,5 @@
-//! `bench [quick] [volume]`: the original, a careful test in plain Rust, and the port, on the same inputs in one run; with `volume` that of Rust's `Volume`
-//! alone. It prints tables in Markdown.
+//! `bench [quick] [blocks] [tree] [volume] [n=NUMBER]`: the original, a careful test in plain Rust, and the port, on the same inputs in one run; a part alone
+//! where it is named, and the block table at one size. It prints tables in Markdown.
 
 mod careful;
 mod measure;
@@ -10,18 +10,16 @@ use measure::{blocks, tree, whole};
 fn main() {
     let said = |word: &str| std::env::args().any(|said| said == word);
     let quick = said("quick");
-    println!("Times in microseconds: the median of several runs. `own` is the port's work behind its test: the inner call's time where the library exports it, else the whole less the test.");
+    println!("Times in microseconds: the best of many runs, in which the sides take turns. `own` is the port's work behind its test: the time of its inner call.");
     println!("`test` is at most 1.0 times `careful` and `own` at most 1.2 times `original` where the aim is met.");
     if !original::PRESENT {
         println!("!!!! THE ORIGINAL'S SOURCE IS NOT HERE: IT IS NOT MEASURED. !!!!");
     }
-    let missing = port::Library::missing();
-    if !missing.is_empty() {
-        println!("!!!! THE PROVED LIBRARY LACKS CALLS, WHICH ARE NOT MEASURED: {} !!!!", missing.join(", "));
+    let parts: [(&str, fn(bool)); 3] = [("blocks", blocks::run), ("tree", tree::run), ("volume", whole::run)];
+    let all = !parts.iter().any(|(name, _)| said(name));
+    for (name, run) in parts {
+        if all || said(name) {
+            run(quick);
+        }
     }
-    if !said("volume") {
-        blocks::run(quick);
-        tree::run(quick);
-    }
-    whole::run(quick);
 }

@@ -1,35 +1,28 @@
-//! The library's inner calls as a port. They require that sizes fit and tables are sound, and take no work list.
+//! The library's inner calls. They require that sizes fit and tables are sound, and take no work list.
 
 use crate::ffi::*;
 use crate::library::{counted, created, found, made, named, plain, stat};
-use crate::{Answered, BlockCall, Blocks, Kind, Port, Tree, TreeCall};
+use crate::{Answered, BlockCall, Blocks, Kind, Tree, TreeCall};
 
 /// To be used only where the rules find the sizes right and the tables sound.
 pub struct Inner;
-
-impl Inner {
-    /// How many of them are linked.
-    pub fn count() -> usize {
-        present_tested::ALL.iter().filter(|(_, here)| *here).count()
-    }
-}
 
 /// The number of blocks, which these calls are passed.
 fn block_count(lent: &Blocks) -> usize {
     lent.table.len() / 8 - 1
 }
 
-/// A call over the table alone, if it is there.
+/// A call over the table alone.
 macro_rules! on_table {
     ($to:ident, $call:ident, $lent:ident $(, $more:expr)*) => {
-        present_tested::$call.then(|| $to($call($lent.table.as_mut_ptr(), $lent.table.len(), block_count($lent), $($more),*)))
+        Some($to($call($lent.table.as_mut_ptr(), $lent.table.len(), block_count($lent), $($more),*)))
     };
 }
 
-/// A call over table, data and block length, if it is there.
+/// A call over table, data and block length.
 macro_rules! on_data {
     ($to:ident, $call:ident, $lent:ident $(, $more:expr)*) => {
-        present_tested::$call.then(|| $to($call(
+        Some($to($call(
             $lent.table.as_mut_ptr(), $lent.table.len(), block_count($lent),
             $lent.data.as_mut_ptr(), $lent.data.len(),
             $lent.block_len,
@@ -38,10 +31,10 @@ macro_rules! on_data {
     };
 }
 
-/// A call over the four tables, if it is there.
+/// A call over the four tables.
 macro_rules! on_four {
     ($to:ident, $call:ident, $lent:ident $(, $more:expr)*) => {
-        present_tested::$call.then(|| $to($call(
+        Some($to($call(
             $lent.dir_hash.as_mut_ptr(), $lent.dir_hash.len(),
             $lent.dir_table.as_mut_ptr(), $lent.dir_table.len(),
             $lent.file_hash.as_mut_ptr(), $lent.file_hash.len(),
@@ -147,11 +140,12 @@ unsafe fn tree_call(call: &TreeCall, lent: &mut Tree) -> Option<Answered> {
     }
 }
 
-impl Port for Inner {
-    fn block_call(&self, call: &BlockCall, lent: &mut Blocks) -> Option<Answered> {
+impl Inner {
+    /// None for format and the tests, which have no inner call, and for the name's number, which is the name's.
+    pub fn block_call(&self, call: &BlockCall, lent: &mut Blocks) -> Option<Answered> {
         unsafe { block_call(call, lent) }
     }
-    fn tree_call(&self, call: &TreeCall, lent: &mut Tree) -> Option<Answered> {
+    pub fn tree_call(&self, call: &TreeCall, lent: &mut Tree) -> Option<Answered> {
         unsafe { tree_call(call, lent) }
     }
 }

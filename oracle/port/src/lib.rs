@@ -12,7 +12,6 @@ pub use library::Library;
 pub use stated::Stated;
 
 pub trait Port {
-    /// None where this port has no such call.
-    fn block_call(&self, call: &BlockCall, lent: &mut Blocks) -> Option<Answered>;
-    fn tree_call(&self, call: &TreeCall, lent: &mut Tree) -> Option<Answered>;
+    fn block_call(&self, call: &BlockCall, lent: &mut Blocks) -> Answered;
+    fn tree_call(&self, call: &TreeCall, lent: &mut Tree) -> Answered;
 }

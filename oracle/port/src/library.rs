@@ -6,14 +6,6 @@ use interface::*;
 
 pub struct Library;
 
-impl Library {
-    /// The calls that are not linked.
-    pub fn missing() -> Vec<&'static str> {
-        let missing = present::ALL.iter().filter(|(_, here)| !here);
-        missing.map(|(name, _)| name.trim_start_matches("mukthiban_")).collect()
-    }
-}
-
 pub(crate) fn plain(p: Plain) -> Answered {
     Answered::number(p.number)
 }
@@ -39,30 +31,30 @@ pub(crate) fn stat(s: Stat) -> Answered {
 pub(crate) fn named(n: Named) -> Answered {
     Answered::with(n.number, &[n.offset as u64])
 }
-/// A call over table, data, block length and work list, if it is there.
+/// A call over table, data, block length and work list.
 macro_rules! on_volume {
     ($to:ident, $call:ident, $lent:ident $(, $more:expr)*) => {
-        present::$call.then(|| $to($call(
+        $to($call(
             $lent.table.as_mut_ptr(), $lent.table.len(),
             $lent.data.as_mut_ptr(), $lent.data.len(),
             $lent.block_len,
             $lent.work.as_mut_ptr(), $lent.work.len(),
             $($more),*
-        )))
+        ))
     };
 }
 
-/// A call over the four tables and the work list, if it is there.
+/// A call over the four tables and the work list.
 macro_rules! on_four {
     ($to:ident, $call:ident, $lent:ident $(, $more:expr)*) => {
-        present::$call.then(|| $to($call(
+        $to($call(
             $lent.dir_hash.as_mut_ptr(), $lent.dir_hash.len(),
             $lent.dir_table.as_mut_ptr(), $lent.dir_table.len(),
             $lent.file_hash.as_mut_ptr(), $lent.file_hash.len(),
             $lent.file_table.as_mut_ptr(), $lent.file_table.len(),
             $lent.work.as_mut_ptr(), $lent.work.len(),
             $($more),*
-        )))
+        ))
     };
 }
 
@@ -76,14 +68,13 @@ macro_rules! with_opens {
     };
 }
 
-unsafe fn block_call(call: &BlockCall, lent: &mut Blocks) -> Option<Answered> {
+unsafe fn block_call(call: &BlockCall, lent: &mut Blocks) -> Answered {
     match *call {
-        BlockCall::Format => present::mukthiban_fat_format
-            .then(|| plain(mukthiban_fat_format(lent.table.as_mut_ptr(), lent.table.len()))),
-        BlockCall::Test => present::mukthiban_fat_test.then(|| {
+        BlockCall::Format => plain(mukthiban_fat_format(lent.table.as_mut_ptr(), lent.table.len())),
+        BlockCall::Test => {
             let (table, work) = (&lent.table, &mut lent.work);
             tested(mukthiban_fat_test(table.as_ptr(), table.len(), work.as_mut_ptr(), work.len()))
-        }),
+        }
         BlockCall::OpenList { first } => on_volume!(
             counted, mukthiban_fat_open_list, lent, first, lent.list.as_mut_ptr(), lent.list.len()
         ),
@@ -101,24 +92,22 @@ unsafe fn block_call(call: &BlockCall, lent: &mut Blocks) -> Option<Answered> {
     }
 }
 
-unsafe fn tree_format(lent: &mut Tree, dir_max: usize, file_max: usize) -> Option<Answered> {
-    present::mukthiban_tree_format.then(|| {
-        plain(mukthiban_tree_format(
-            lent.dir_hash.as_mut_ptr(),
-            lent.dir_hash.len(),
-            lent.dir_table.as_mut_ptr(),
-            lent.dir_table.len(),
-            dir_max,
-            lent.file_hash.as_mut_ptr(),
-            lent.file_hash.len(),
-            lent.file_table.as_mut_ptr(),
-            lent.file_table.len(),
-            file_max,
-        ))
-    })
+unsafe fn tree_format(lent: &mut Tree, dir_max: usize, file_max: usize) -> Answered {
+    plain(mukthiban_tree_format(
+        lent.dir_hash.as_mut_ptr(),
+        lent.dir_hash.len(),
+        lent.dir_table.as_mut_ptr(),
+        lent.dir_table.len(),
+        dir_max,
+        lent.file_hash.as_mut_ptr(),
+        lent.file_hash.len(),
+        lent.file_table.as_mut_ptr(),
+        lent.file_table.len(),
+        file_max,
+    ))
 }
 
-unsafe fn tree_call(call: &TreeCall, lent: &mut Tree) -> Option<Answered> {
+unsafe fn tree_call(call: &TreeCall, lent: &mut Tree) -> Answered {
     match *call {
         TreeCall::Format { dir_max, file_max } => tree_format(lent, dir_max, file_max),
         TreeCall::Test => on_four!(plain, mukthiban_tree_test, lent),
@@ -156,20 +145,22 @@ unsafe fn tree_call(call: &TreeCall, lent: &mut Tree) -> Option<Answered> {
         },
         TreeCall::Stat => on_four!(stat, mukthiban_tree_stat, lent),
         TreeCall::Name { kind, inode } => on_four!(named, mukthiban_tree_name, lent, kind, inode),
+        // In C the number stands beside the name's place.
         TreeCall::NameAnswer { kind, inode } => {
-            on_four!(plain, mukthiban_tree_name_answer, lent, kind, inode)
+            let answered = on_four!(named, mukthiban_tree_name, lent, kind, inode);
+            Answered::number(answered.number)
         }
         TreeCall::Carried { kind, inode } => match kind {
             // The lent place holds junk before, so that a byte left alone shows.
             Kind::Dir => {
                 let mut place = [0xEE; 4];
-                let number = on_four!(plain, mukthiban_tree_carried_dir, lent, inode, &mut place)?;
-                Some(Answered::carrying(number.number, &place))
+                let number = on_four!(plain, mukthiban_tree_carried_dir, lent, inode, &mut place);
+                Answered::carrying(number.number, &place)
             }
             Kind::File => {
                 let mut place = [0xEE; 20];
-                let number = on_four!(plain, mukthiban_tree_carried_file, lent, inode, &mut place)?;
-                Some(Answered::carrying(number.number, &place))
+                let number = on_four!(plain, mukthiban_tree_carried_file, lent, inode, &mut place);
+                Answered::carrying(number.number, &place)
             }
         },
         TreeCall::SetCarried { kind, inode, ref carried } => match kind {
@@ -189,10 +180,10 @@ unsafe fn tree_call(call: &TreeCall, lent: &mut Tree) -> Option<Answered> {
 }
 
 impl Port for Library {
-    fn block_call(&self, call: &BlockCall, lent: &mut Blocks) -> Option<Answered> {
+    fn block_call(&self, call: &BlockCall, lent: &mut Blocks) -> Answered {
         unsafe { block_call(call, lent) }
     }
-    fn tree_call(&self, call: &TreeCall, lent: &mut Tree) -> Option<Answered> {
+    fn tree_call(&self, call: &TreeCall, lent: &mut Tree) -> Answered {
         unsafe { tree_call(call, lent) }
     }
 }

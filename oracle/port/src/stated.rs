@@ -140,10 +140,10 @@ fn done(call: &TreeCall, lent: &mut Tree) -> Answered {
 }
 
 impl Port for Stated {
-    fn block_call(&self, call: &BlockCall, lent: &mut Blocks) -> Option<Answered> {
-        Some(block_call(call, lent))
+    fn block_call(&self, call: &BlockCall, lent: &mut Blocks) -> Answered {
+        block_call(call, lent)
     }
-    fn tree_call(&self, call: &TreeCall, lent: &mut Tree) -> Option<Answered> {
-        Some(asked(call, lent).unwrap_or_else(|| done(call, lent)))
+    fn tree_call(&self, call: &TreeCall, lent: &mut Tree) -> Answered {
+        asked(call, lent).unwrap_or_else(|| done(call, lent))
     }
 }

@@ -6,18 +6,38 @@ pub mod whole;
 
 use std::time::{Duration, Instant};
 
-/// The median time of one run in microseconds. `ready` puts things back before each run and is not counted.
-pub fn median<S>(state: &mut S, ready: impl Fn(&mut S), run: impl Fn(&mut S)) -> f64 {
+/// One of the things that are measured beside each other. `ready` puts things back before each run and is not counted.
+pub struct Side<'a> {
+    ready: Box<dyn FnMut() + 'a>,
+    run: Box<dyn FnMut() + 'a>,
+}
+
+pub fn side<'a>(ready: impl FnMut() + 'a, run: impl FnMut() + 'a) -> Option<Side<'a>> {
+    Some(Side { ready: Box::new(ready), run: Box::new(run) })
+}
+
+/// How long the sides of one line are run, and how often at least and at most.
+const SPAN: Duration = Duration::from_millis(300);
+const LEAST: usize = 9;
+const MOST: usize = 400;
+
+/// The best time of each side in microseconds. The sides take turns, so that what else the machine does meets them alike.
+pub fn best<const N: usize>(mut sides: [Option<Side>; N]) -> [Option<f64>; N] {
     let start = Instant::now();
-    let mut times: Vec<Duration> = vec![];
-    while times.len() < 5 || (times.len() < 200 && start.elapsed() < Duration::from_millis(60)) {
-        ready(state);
-        let begin = Instant::now();
-        run(state);
-        times.push(begin.elapsed());
+    let mut times = [None; N];
+    let mut rounds = 0;
+    while rounds < LEAST || (rounds < MOST && start.elapsed() < SPAN) {
+        for (side, time) in sides.iter_mut().zip(&mut times) {
+            let Some(side) = side else { continue };
+            (side.ready)();
+            let begin = Instant::now();
+            (side.run)();
+            let took = begin.elapsed();
+            *time = Some(time.map_or(took, |least: Duration| least.min(took)));
+        }
+        rounds += 1;
     }
-    times.sort();
-    times[times.len() / 2].as_secs_f64() * 1e6
+    times.map(|time| time.map(|t| t.as_secs_f64() * 1e6))
 }
 
 /// A time, or a dash where there is none.

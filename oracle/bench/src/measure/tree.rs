@@ -1,80 +1,101 @@
 //! The entry tables' calls.
 
-use super::{median, ratio, shown};
+use super::{best, ratio, shown, side, Side};
 use crate::careful;
 use crate::shapes::{self, Full};
 use original::Tables;
 use port::{Inner, Kind, Library, Port, Tree, TreeCall};
+use std::cell::RefCell;
 use std::hint::black_box;
 
-fn port_time(port: &dyn Port, lent: &Tree, call: &TreeCall) -> Option<f64> {
-    port.tree_call(call, &mut lent.clone())?;
-    let mut state = lent.clone();
-    let ready = |s: &mut Tree| s.clone_from(lent);
-    Some(median(&mut state, ready, |s| {
-        black_box(port.tree_call(call, s));
-    }))
+/// The library's call on the tables, or its inner call, or the careful test: all over the same bytes, put back before each run.
+fn on_bytes<'a>(state: &'a RefCell<Tree>, lent: &'a Tree, run: impl Fn(&mut Tree) + 'a) -> Option<Side<'a>> {
+    side(|| state.borrow_mut().clone_from(lent), move || run(&mut state.borrow_mut()))
 }
 
-fn careful_time(lent: &Tree) -> f64 {
-    let mut state = lent.clone();
-    let mut work = vec![0; state.work.len()];
-    assert!(careful::tree(state.four(), &mut work));
-    state.work = work;
-    median(&mut state, |_| {}, |s| {
+fn library<'a>(state: &'a RefCell<Tree>, lent: &'a Tree, call: &'a TreeCall) -> Option<Side<'a>> {
+    on_bytes(state, lent, |s| {
+        black_box(Library.tree_call(call, s));
+    })
+}
+
+fn inner<'a>(state: &'a RefCell<Tree>, lent: &'a Tree, call: &'a TreeCall) -> Option<Side<'a>> {
+    on_bytes(state, lent, |s| {
+        black_box(Inner.tree_call(call, s));
+    })
+}
+
+fn careful<'a>(state: &'a RefCell<Tree>, lent: &'a Tree) -> Option<Side<'a>> {
+    on_bytes(state, lent, |s| {
         let mut work = std::mem::take(&mut s.work);
-        black_box(careful::tree(s.four(), &mut work));
+        assert!(black_box(careful::tree(s.four(), &mut work)));
         s.work = work;
     })
 }
 
 /// The original with one handle of the subject, opened before the clock starts.
-fn original_time(lent: &Tree, call: &TreeCall) -> Option<f64> {
+fn original<'a>(state: &'a RefCell<Option<Tables>>, lent: &'a Tree, call: &'a TreeCall) -> Option<Side<'a>> {
     if !original::PRESENT {
         return None;
     }
-    let mut state = Tables::open(lent.four()).unwrap();
-    let ready = |s: &mut Tables| {
-        s.set(lent.four());
-        s.drop_handles();
+    *state.borrow_mut() = Some(Tables::open(lent.four()).unwrap());
+    let ready = || {
+        let mut state = state.borrow_mut();
+        let tables = state.as_mut().unwrap();
+        tables.set(lent.four());
+        tables.drop_handles();
         if let TreeCall::Rename { inode, .. } | TreeCall::Delete { inode, .. } = *call {
-            s.open_file(inode);
+            tables.open_file(inode);
         }
     };
-    Some(median(&mut state, ready, |s| match *call {
-        TreeCall::Make { parent, name, carried, .. } => drop(black_box(s.make_file(parent, name, carried))),
-        TreeCall::Rename { inode, parent, name, .. } => s.rename_file(inode, parent, name).unwrap(),
-        TreeCall::Delete { inode, .. } => s.delete_file(inode).unwrap(),
-        TreeCall::Lookup { parent, name, .. } => drop(black_box(s.lookup_file(parent, name))),
-        TreeCall::List { inode, .. } => drop(black_box(s.list_files(inode))),
-        _ => {}
-    }))
+    side(ready, || {
+        let mut state = state.borrow_mut();
+        let s = state.as_mut().unwrap();
+        match *call {
+            TreeCall::Make { parent, name, carried, .. } => drop(black_box(s.make_file(parent, name, carried))),
+            TreeCall::Rename { inode, parent, name, .. } => s.rename_file(inode, parent, name).unwrap(),
+            TreeCall::Delete { inode, .. } => s.delete_file(inode).unwrap(),
+            TreeCall::Lookup { parent, name, .. } => drop(black_box(s.lookup_file(parent, name))),
+            TreeCall::List { inode, .. } => drop(black_box(s.list_files(inode))),
+            _ => {}
+        }
+    })
 }
 
-/// The original's lookups of many keys, for each key.
-fn original_lookups(full: &Full, keys: &[(u32, [u8; 16])]) -> Option<f64> {
-    if !original::PRESENT {
-        return None;
-    }
-    let mut tables = Tables::open(full.lent.four()).unwrap();
-    let all = median(&mut tables, |_| {}, |s| {
-        for (parent, name) in keys {
-            let _ = black_box(s.lookup_file(*parent, *name));
-        }
+/// A thousand lookups, of each the time: the original's, and the port's own walks.
+fn lookups(at: &str, full: &Full) {
+    let step = (full.keys.len() / 1_000).max(1);
+    let keys: Vec<_> = full.keys.iter().step_by(step).cloned().collect();
+    let calls: Vec<TreeCall> = (0..keys.len()).map(|at| lookup(&keys, at)).collect();
+    let tables = original::PRESENT.then(|| RefCell::new(Tables::open(full.lent.four()).unwrap()));
+    let state = RefCell::new(full.lent.clone());
+    let theirs = tables.as_ref().and_then(|tables| {
+        side(
+            || {},
+            || {
+                for (parent, name) in &keys {
+                    let _ = black_box(tables.borrow_mut().lookup_file(*parent, *name));
+                }
+            },
+        )
     });
-    Some(all / keys.len() as f64)
-}
-
-/// The port's own walks for the same keys, where the inner call is there.
-fn own_lookups(full: &mut Full, keys: &[(u32, [u8; 16])]) -> Option<f64> {
-    let calls: Vec<TreeCall> = (0..keys.len()).map(|at| lookup(keys, at)).collect();
-    Inner.tree_call(&calls[0], &mut full.lent)?;
-    let all = median(&mut full.lent, |_| {}, |lent| {
-        for call in &calls {
-            black_box(Inner.tree_call(call, lent));
-        }
-    });
-    Some(all / keys.len() as f64)
+    let ours = side(
+        || {},
+        || {
+            for call in &calls {
+                black_box(Inner.tree_call(call, &mut state.borrow_mut()));
+            }
+        },
+    );
+    let each = |all: Option<f64>| all.map(|time| time / keys.len() as f64);
+    let [original, own] = best([theirs, ours]).map(each);
+    println!(
+        "| {at}: each of {} lookups | {} | - | - | {} | {} |",
+        keys.len(),
+        shown(original),
+        shown(own),
+        ratio(own, original)
+    );
 }
 
 fn lookup(keys: &[(u32, [u8; 16])], at: usize) -> TreeCall {
@@ -83,10 +104,11 @@ fn lookup(keys: &[(u32, [u8; 16])], at: usize) -> TreeCall {
 }
 
 fn shape(dirs: usize, files: usize, buckets: usize) {
-    let mut full = shapes::tree(dirs, files, buckets);
-    let test = port_time(&Library, &full.lent, &TreeCall::Test);
+    let full = shapes::tree(dirs, files, buckets);
+    let lent = &full.lent;
+    let (state, tables) = (RefCell::new(lent.clone()), RefCell::new(None));
     let at = format!("{dirs} + {files} entries, {buckets} buckets");
-    let careful = Some(careful_time(&full.lent));
+    let [careful, test] = best([careful(&state, lent), library(&state, lent, &TreeCall::Test)]);
     println!("| {at}: test | - | {} | {} | - | {} |", shown(careful), shown(test), ratio(test, careful));
     let kind = Kind::File;
     let (parent, inode) = (full.keys[files / 2].0, files as u32 / 2);
@@ -99,10 +121,8 @@ fn shape(dirs: usize, files: usize, buckets: usize) {
         ("list", TreeCall::List { kind, inode: parent }),
     ];
     for (call_name, call) in each {
-        let original = original_time(&full.lent, &call);
-        let port = port_time(&Library, &full.lent, &call);
-        let less = port.zip(test).map(|(port, test)| (port - test).max(0.0));
-        let own = port_time(&Inner, &full.lent, &call).or(less);
+        let sides = [original(&tables, lent, &call), library(&state, lent, &call), inner(&state, lent, &call)];
+        let [original, port, own] = best(sides);
         println!(
             "| {at}: {call_name} | {} | - | {} | {} | {} |",
             shown(original),
@@ -111,11 +131,7 @@ fn shape(dirs: usize, files: usize, buckets: usize) {
             ratio(own, original)
         );
     }
-    let step = (full.keys.len() / 1_000).max(1);
-    let keys: Vec<_> = full.keys.iter().step_by(step).cloned().collect();
-    let original = original_lookups(&full, &keys);
-    let own = own_lookups(&mut full, &keys);
-    println!("| {at}: each of {} lookups | {} | - | - | {} | {} |", keys.len(), shown(original), shown(own), ratio(own, original));
+    lookups(&at, &full);
 }
 
 pub fn run(quick: bool) {

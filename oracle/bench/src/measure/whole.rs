@@ -1,7 +1,8 @@
 //! The Rust side's `Volume`, which tests its tables once and then uses the inner calls, beside the original on a fresh volume.
 
-use super::{median, ratio, shown};
+use super::{best, ratio, shown, side, Side};
 use mukthiban::{Shape, Volume};
+use std::cell::RefCell;
 use std::hint::black_box;
 
 /// One call, on the file that begins at a block.
@@ -13,43 +14,46 @@ enum Step {
 }
 
 /// The volume is put back before each run.
-fn volume_time(start: &Volume, step: Step) -> f64 {
-    let mut state = start.clone();
-    median(
-        &mut state,
-        |s| s.clone_from(start),
-        |s| match step {
-            Step::Create(count) => drop(black_box(s.create(count))),
-            Step::Resize(first, count) => s.resize(first, count).unwrap(),
-            Step::Delete(first) => s.delete(first).unwrap(),
-        },
-    )
+fn volume<'a>(state: &'a RefCell<Volume>, start: &'a Volume, step: Step) -> Option<Side<'a>> {
+    let run = move || {
+        let mut volume = state.borrow_mut();
+        match step {
+            Step::Create(count) => drop(black_box(volume.create(count))),
+            Step::Resize(first, count) => volume.resize(first, count).unwrap(),
+            Step::Delete(first) => volume.delete(first).unwrap(),
+        }
+    };
+    side(|| state.borrow_mut().clone_from(start), run)
 }
 
 /// The original on the same bytes. It keeps handles: the file's is open before the clock starts.
-fn original_time(start: &Volume, step: Step) -> Option<f64> {
-    if !original::PRESENT {
-        return None;
-    }
-    let parts = start.parts();
-    let mut state = original::Volume::open(&parts.fat, &parts.data, parts.block_len).unwrap();
-    let ready = |s: &mut original::Volume| {
-        s.set_table(&parts.fat);
-        s.reopen(parts.block_len).unwrap();
+fn original<'a>(state: &'a RefCell<original::Volume>, start: &'a Volume, step: Step) -> Option<Side<'a>> {
+    let ready = move || {
+        let (mut volume, parts) = (state.borrow_mut(), start.parts());
+        volume.set_table(&parts.fat);
+        volume.reopen(parts.block_len).unwrap();
         if let Step::Resize(first, _) | Step::Delete(first) = step {
-            s.list(first).unwrap();
+            volume.list(first).unwrap();
         }
     };
-    Some(median(&mut state, ready, |s| match step {
-        Step::Create(count) => drop(black_box(s.create(count))),
-        Step::Resize(first, count) => s.resize(first, count).unwrap(),
-        Step::Delete(first) => s.delete(first).unwrap(),
-    }))
+    let run = move || {
+        let mut volume = state.borrow_mut();
+        match step {
+            Step::Create(count) => drop(black_box(volume.create(count))),
+            Step::Resize(first, count) => volume.resize(first, count).unwrap(),
+            Step::Delete(first) => volume.delete(first).unwrap(),
+        }
+    };
+    side(ready, run)
 }
 
 fn line(name: &str, start: &Volume, step: Step) {
-    let original = original_time(start, step);
-    let volume = Some(volume_time(start, step));
+    let parts = start.parts();
+    let open = || original::Volume::open(&parts.fat, &parts.data, parts.block_len).unwrap();
+    let theirs = original::PRESENT.then(|| RefCell::new(open()));
+    let ours = RefCell::new(start.clone());
+    let sides = [theirs.as_ref().and_then(|state| original(state, start, step)), volume(&ours, start, step)];
+    let [original, volume] = best(sides);
     println!("| {name} | {} | {} | {} |", shown(original), shown(volume), ratio(volume, original));
 }
 
