@@ -9,6 +9,8 @@ use Rattle.order.specs.First.{Row, First}
 use Rattle.order.specs.Given.{None}
 use Rattle.order.specs.Gate.{cleared}
 use Rattle.order.specs.declared.Answer.{Answer}
+use Rattle.order.specs.declared.Answer.the-variants.{InvalidValue}
+use Rattle.order.proofs.One.{refused}
 use Rattle.fat_node.specs.Entry.{Bytes}
 use Rattle.fat_node.specs.Sizes.{blocks, Misfit, Outside}
 use Rattle.fat_table.specs.Sound.{Sound}
@@ -66,3 +68,10 @@ module _ (n : ℕ) (some : 1 ≤ n) (t : Bytes) (w : Whole n t) (work : List ℕ
     passes own done o p =
         subst (λ (i : ℕ). First (own i) (done i) (o .given)) blocks-of
         (own-rows (blockGate (λ a w. beside (refuse a) w) t d l work) (cleared (blocks t) work) (own (blocks t)) (done (blocks t)) o call-passes p)
+
+-- beside the list: on a table of more than a million blocks every call on files, its data being as long, is refused with InvalidValue and leaves all as it was
+pub call-many : {A : Type 0} (refuse : Answer → A) (t : Bytes) (d l : ℕ) (work : List ℕ) (own : List (Row A)) (done : A) → (Misfit t → ⊥) → d ≡ blocks t * l
+    → 1000000 < blocks t → (o : Beside A) → Promise refuse t d l work own done o → o ≡ beside (refuse InvalidValue) work
+call-many refuse t d l work own done fit even many o p =
+    refused (blockGate (λ a w. beside (refuse a) w) t d l work ++ within (cleared (blocks t) work) own) (beside done (cleared (blocks t) work)) o
+    (beside (refuse InvalidValue) work) (inr ((λ m. ⊎-elim fit (λ h. h even) m), inl (inl (inr many), refl))) p
