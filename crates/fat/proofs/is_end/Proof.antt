@@ -2,19 +2,13 @@ use Rattle.fat.proofs.Resizes.{end-yes, end-no}
 use borrow.Author.Needs.{needs}
 use Rattle.fat.proofs.is_end.Statement.{statement}
 use Rattle.fat.proofs.is_end.Tie as tie
-use Rattle.fat.proofs.is_end.Reads as reads
-use Rattle.fat.proofs.is_end.Lts as lts
-use Rattle.fat.proofs.node_at.Reads as node-at-reads
 
--- src/lib.rt:312:9
 node-at-requires : tie.Need-node-at-requires
 node-at-requires c κs = search needs
 
--- src/lib.rt:316:9
 returns : tie.Need-returns
 returns c = end-yes _ _ _ _ _ (c .before .node-at .ensures .0) (c .before .node-at .ensures .2) (c .if1 .taken)
 
--- src/lib.rt:308:1
 returns-2 : tie.Need-returns-2
 returns-2 c = end-no _ _ _
 

@@ -1,4 +1,4 @@
-use Rattle.fat_table.specs.Chain.{chainAt, total}
+use Rattle.fat_table.specs.Chain.{chainAt}
 use Rattle.fat.proofs.Lists.{Filling, fill-begin, fill-end, fill-standing, fill-room, fill-fits, fill-next}
 use native.Mathlib.Omega.{arith}
 use borrow.Author.Needs.{needs}
@@ -6,11 +6,6 @@ use Prim.Native.Nat.{_-_}
 use lib.ListN.{length}
 use Rattle.fat.proofs.number_chain.Statement.{statement}
 use Rattle.fat.proofs.number_chain.Tie as tie
-use Rattle.fat.proofs.number_chain.Reads as reads
-use Rattle.fat.proofs.number_chain.Lts as lts
-use Rattle.fat.proofs.number_run.Reads as number-run-reads
-use Rattle.fat.proofs.size_at.Reads as size-at-reads
-use Rattle.fat_node.proofs.next_of.Reads as next-of-reads
 
 abbrev Inv-loop : tie.InvT-loop
 Inv-loop table n first list₀ i₀ at₀ list i at = Filling (chainAt table n first) list₀ i at list
@@ -18,49 +13,40 @@ Inv-loop table n first list₀ i₀ at₀ list i at = Filling (chainAt table n f
 abbrev μ-loop : tie.MeasureT-loop
 μ-loop table n first list₀ i₀ at₀ list i at = length list₀ - at
 
--- src/lib.rt:414:5
 loop-holds : tie.Need-loop-holds Inv-loop μ-loop
 loop-holds c = fill-begin _ _ _ (c .before .before .pre .0 .at)
 
--- src/lib.rt:415:17
 sub-b : tie.Need-sub-b Inv-loop μ-loop
 sub-b c = search needs
 
--- src/lib.rt:416:13
 size-at-requires : tie.Need-size-at-requires Inv-loop μ-loop
 size-at-requires c κs = search fill-standing
 
--- src/lib.rt:417:9
 number-run-requires : tie.Need-number-run-requires Inv-loop μ-loop
 number-run-requires c κs =
-    let z = fill-fits _ _ _ _ _ _ _ (c .before .before .before .before .before .before .pre .0 .chain) (c .before .before .before .loop .inv) (c .before .before .loop-test .taken) _ (c .before .size-at .ensures) (c .before .before .before .before .before .before .pre .1) in
+    let at-pre = c .before .before .before .before .before .before .pre in
+    let z = fill-fits _ _ _ _ _ _ _ (at-pre .0 .chain) (c .before .before .before .loop .inv) (c .before .before .loop-test .taken) _ (c .before .size-at .ensures) (at-pre .1) in
     (z .0, z .2)
 
--- src/lib.rt:418:9
 add-at : tie.Need-add-at Inv-loop μ-loop
 add-at c =
     let z = fill-fits _ _ _ _ _ _ _ (c .before .before .before .before .before .before .before .before .before .pre .0 .chain) (c .before .before .before .before .before .before .loop .inv) (c .before .before .before .before .before .loop-test .taken) _ (c .before .before .before .before .size-at .ensures) (c .before .before .before .before .before .before .before .before .before .pre .1) in
     omega (arith, z .0)
 
--- src/lib.rt:419:9
 next-of-requires : tie.Need-next-of-requires Inv-loop μ-loop
 next-of-requires c κs = search fill-room
 
--- src/lib.rt:414:5
 loop-less : tie.Need-loop-less Inv-loop μ-loop
 loop-less c =
     let z = fill-fits _ _ _ _ _ _ _ (c .before .before .before .before .before .before .before .before .before .before .pre .0 .chain) (c .before .before .before .before .before .before .before .loop .inv) (c .before .before .before .before .before .before .loop-test .taken) _ (c .before .before .before .before .before .size-at .ensures) (c .before .before .before .before .before .before .before .before .before .before .pre .1) in
     omega (arith, z .0, z .1, c .before .before .before .before .before .before .before .loop .inv .long)
 
--- src/lib.rt:414:5
 loop-again : tie.Need-loop-again Inv-loop μ-loop
 loop-again c = search fill-next
 
--- src/lib.rt:407:1
 same-length : tie.Need-same-length Inv-loop μ-loop
 same-length c = search needs
 
--- src/lib.rt:407:1
 returns : tie.Need-returns Inv-loop μ-loop
 returns c = search fill-end
 

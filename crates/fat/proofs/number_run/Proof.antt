@@ -4,8 +4,6 @@ use borrow.Author.Needs.{needs}
 use Prim.Native.Nat.{_-_}
 use Rattle.fat.proofs.number_run.Statement.{statement}
 use Rattle.fat.proofs.number_run.Tie as tie
-use Rattle.fat.proofs.number_run.Reads as reads
-use Rattle.fat.proofs.number_run.Lts as lts
 
 abbrev Inv-loop : tie.InvT-loop
 Inv-loop list₀ at b size k₀ list k = Numbering list₀ at b size list k
@@ -13,47 +11,36 @@ Inv-loop list₀ at b size k₀ list k = Numbering list₀ at b size list k
 abbrev μ-loop : tie.MeasureT-loop
 μ-loop list₀ at b size k₀ list k = size - k
 
--- src/lib.rt:400:5
 loop-holds : tie.Need-loop-holds Inv-loop μ-loop
 loop-holds c = number-begin _ _ _ _
 
--- src/lib.rt:401:25
 add-list : tie.Need-add-list Inv-loop μ-loop
 add-list c = omega arith
 
--- src/lib.rt:401:24
 cast-list : tie.Need-cast-list Inv-loop μ-loop
 cast-list c = omega arith
 
--- src/lib.rt:401:14
 add-list-2 : tie.Need-add-list-2 Inv-loop μ-loop
 add-list-2 c = omega arith
 
--- src/lib.rt:401:9
 mul-list : tie.Need-mul-list Inv-loop μ-loop
 mul-list c = search needs
 
--- src/lib.rt:401:9
 slice-write-list : tie.Need-slice-write-list Inv-loop μ-loop
 slice-write-list c = omega arith
 
--- src/lib.rt:402:9
 add-k : tie.Need-add-k Inv-loop μ-loop
 add-k c = omega arith
 
--- src/lib.rt:400:5
 loop-less : tie.Need-loop-less Inv-loop μ-loop
 loop-less c = omega arith
 
--- src/lib.rt:400:5
 loop-again : tie.Need-loop-again Inv-loop μ-loop
 loop-again c = number-turn _ _ _ _ _ _ (c .before .loop .inv) (omega arith)
 
--- src/lib.rt:394:1
 same-length : tie.Need-same-length Inv-loop μ-loop
 same-length c = search needs
 
--- src/lib.rt:394:1
 returns : tie.Need-returns Inv-loop μ-loop
 returns c = number-end _ _ _ _ _ _ (c .before .loop .inv) (omega arith)
 

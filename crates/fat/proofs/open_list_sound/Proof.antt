@@ -1,5 +1,5 @@
 use mathlib.Core.Path.{refl}
-use mathlib.Core.Logic.{inl, inr}
+use mathlib.Core.Logic.{inl}
 use native.Mathlib.Omega.{arith}
 use borrow.Author.Tests.{not-true, not-false}
 use Rattle.words.proofs.Laws as words
@@ -8,74 +8,53 @@ use Rattle.fat.proofs.Lists.{list-short, list-room, list-count, list-do
 use borrow.Author.Needs.{needs}
 use Rattle.fat.proofs.open_list_sound.Statement.{statement}
 use Rattle.fat.proofs.open_list_sound.Tie as tie
-use Rattle.fat.proofs.open_list_sound.Reads as reads
-use Rattle.fat.proofs.open_list_sound.Lts as lts
-use Rattle.fat.proofs.is_file.Reads as is-file-reads
-use Rattle.fat.proofs.least.Reads as least-reads
-use Rattle.fat.proofs.number_chain.Reads as number-chain-reads
-use Rattle.fat.proofs.seek.Reads as seek-reads
 
--- src/lib.rt:441:9
 is-file-requires : tie.Need-is-file-requires
 is-file-requires c κs = search needs
 
--- src/lib.rt:442:9
 returns : tie.Need-returns
 returns c = inl (not-file _ _ _ _ (c .before .is-file .ensures) (not-true _ (c .if1 .taken)), refl)
 
--- src/lib.rt:447:9
 least-requires : tie.Need-least-requires
 least-requires c κs = search needs
 
--- src/lib.rt:448:33
 add-seek : tie.Need-add-seek
 add-seek c = omega (arith, (c .before .before .is-file .ensures .0 (not-false _ (c .before .if1 .left))) .0 .1, c .before .before .before .before .before .pre .few)
 
--- src/lib.rt:448:50
 add-seek-2 : tie.Need-add-seek-2
 add-seek-2 c = search needs
 
--- src/lib.rt:448:9
 seek-requires : tie.Need-seek-requires
 seek-requires c κs = ((file-from _ _ (c .before .before .before .before .before .pre) (record { byte = λ k. omega (arith, c .before .before .before .before .shared-slice-known .given k) }) _ (c .before .before .is-file .ensures .0 (not-false _ (c .before .if1 .left)))), omega arith)
 
--- src/lib.rt:449:33
 enum-known-sought : tie.Need-enum-known-sought
 enum-known-sought c = search needs
 
--- src/lib.rt:451:21
 enum-told : tie.Need-enum-told
 enum-told c = search needs
 
--- src/lib.rt:450:9
 returns-2 : tie.Need-returns-2
 returns-2 c =
     list-short _ _ _ _ (file-from _ _ (c .before .before .before .before .before .before .before .before .pre) (record { byte = λ k. omega (arith, c .before .before .before .before .before .before .before .shared-slice-known .given k) }) _ (c .before .before .before .before .before .is-file .ensures .0 (not-false _ (c .before .before .before .before .if1 .left)))) (c .before .before .before .before .before .is-file .ensures .0 (not-false _ (c .before .before .before .before .if1 .left))) _ (c .before .before .before .least .ensures) _ _ (says-within _ _ _ _ _ (c .before .before .seek .ensures) (c .enum-told .given .1))
 
--- src/lib.rt:455:28
 add-number-chain : tie.Need-add-number-chain
 add-number-chain c = omega (arith, (c .before .before .before .before .before .before .is-file .ensures .0 (not-false _ (c .before .before .before .before .before .if1 .left))) .0 .1, c .before .before .before .before .before .before .before .before .before .pre .few)
 
--- src/lib.rt:455:5
 number-chain-requires : tie.Need-number-chain-requires
 number-chain-requires c κs =
     let k = (file-from _ _ (c .before .before .before .before .before .before .before .before .before .before .pre) (record { byte = λ k. omega (arith, c .before .before .before .before .before .before .before .before .before .shared-slice-known .given k) }) _ (c .before .before .before .before .before .before .before .is-file .ensures .0 (not-false _ (c .before .before .before .before .before .before .if1 .left)))) in
     (k, list-room _ _ _ (c .before .before .before .before .before .before .before .before .before .before .args .list .now) k (c .before .before .before .before .before .before .before .is-file .ensures .0 (not-false _ (c .before .before .before .before .before .before .if1 .left))) _ (c .before .before .before .before .before .least .ensures) _ _ (says-past _ _ _ _ _ (c .before .before .before .before .seek .ensures) (c .before .before .sought .given .1)))
 
--- src/lib.rt:458:16
 add-t12 : tie.Need-add-t12
 add-t12 c = search needs
 
--- src/lib.rt:458:16
 sub-t11 : tie.Need-sub-t11
 sub-t11 c =
     omega (arith, list-count _ _ _ (c .before .before .before .before .before .before .before .before .before .before .before .before .before .args .list .now) (file-from _ _ (c .before .before .before .before .before .before .before .before .before .before .before .before .before .pre) (record { byte = λ k. omega (arith, c .before .before .before .before .before .before .before .before .before .before .before .before .shared-slice-known .given k) }) _ (c .before .before .before .before .before .before .before .before .before .before .is-file .ensures .0 (not-false _ (c .before .before .before .before .before .before .before .before .before .if1 .left)))) (c .before .before .before .before .before .before .before .before .before .before .is-file .ensures .0 (not-false _ (c .before .before .before .before .before .before .before .before .before .if1 .left))) _ (c .before .before .before .before .before .before .before .before .least .ensures) _ _ (says-past _ _ _ _ _ (c .before .before .before .before .before .before .before .seek .ensures) (c .before .before .before .before .before .sought .given .1)) .1)
 
--- src/lib.rt:437:1
 same-length : tie.Need-same-length
 same-length c = search needs
 
--- src/lib.rt:437:1
 returns-3 : tie.Need-returns-3
 returns-3 c =
     list-done _ _ _ _ (file-from _ _ (c .before .before .before .before .before .before .before .before .before .before .before .before .before .pre) (record { byte = λ k. omega (arith, c .before .before .before .before .before .before .before .before .before .before .before .before .shared-slice-known .given k) }) _ (c .before .before .before .before .before .before .before .before .before .before .is-file .ensures .0 (not-false _ (c .before .before .before .before .before .before .before .before .before .if1 .left)))) (c .before .before .before .before .before .before .before .before .before .before .is-file .ensures .0 (not-false _ (c .before .before .before .before .before .before .before .before .before .if1 .left))) _ (c .before .before .before .before .before .before .before .before .least .ensures) _ _ _ (says-past _ _ _ _ _ (c .before .before .before .before .before .before .before .seek .ensures) (c .before .before .before .before .before .sought .given .1)) (c .before .before .number-chain .ensures)

@@ -3,96 +3,71 @@ use mathlib.Core.Logic.{inl, inr}
 use native.Mathlib.Omega.{arith}
 use borrow.Author.Tests.{not-true, not-false}
 use Rattle.words.proofs.Laws as words
-use Rattle.fat.proofs.Done.{not-file, head-chain, file-from, last-standing, first-standing, first-below}
+use Rattle.fat.proofs.Done.{not-file, head-chain, last-standing, first-standing, first-below}
 use Rattle.fat.proofs.Few.{file-chain}
 use Rattle.fat.proofs.Hops.{whole-of}
 use Rattle.fat.proofs.Resizes.{says-full, says-same, says-cut, resize-full, resize-same, resize-cut, resize-done}
 use borrow.Author.Needs.{needs}
 use Rattle.fat.proofs.resize_sound.Statement.{statement}
 use Rattle.fat.proofs.resize_sound.Tie as tie
-use Rattle.fat.proofs.resize_sound.Reads as reads
-use Rattle.fat.proofs.resize_sound.Lts as lts
-use Rattle.fat.proofs.cut.Reads as cut-reads
-use Rattle.fat.proofs.head_of.Reads as head-of-reads
-use Rattle.fat.proofs.is_file.Reads as is-file-reads
-use Rattle.fat.proofs.join.Reads as join-reads
-use Rattle.fat.proofs.plan.Reads as plan-reads
 
--- src/lib.rt:357:9
 is-file-requires : tie.Need-is-file-requires
 is-file-requires c κs = search needs
 
--- src/lib.rt:358:9
 same-length : tie.Need-same-length
 same-length c = search needs
 
--- src/lib.rt:358:9
 returns : tie.Need-returns
 returns c = inl (not-file _ _ _ _ (c .before .is-file .ensures) (not-true _ (c .if1 .taken)), refl)
 
--- src/lib.rt:361:9
 same-length-2 : tie.Need-same-length-2
 same-length-2 c = search needs
 
--- src/lib.rt:361:9
 returns-2 : tie.Need-returns-2
 returns-2 c = inr ((λ z. z (c .before .before .is-file .ensures .0 (not-false _ (c .before .if1 .left)))), inl (c .if2 .taken, refl))
 
--- src/lib.rt:363:9
 plan-requires : tie.Need-plan-requires
 plan-requires c κs = (c .before .before .before .before .before .before .pre, ((c .before .before .before .is-file .ensures .0 (not-false _ (c .before .before .if1 .left))), search needs))
 
--- src/lib.rt:365:45
 enum-told : tie.Need-enum-told
 enum-told c = search needs
 
--- src/lib.rt:366:45
 enum-told-2 : tie.Need-enum-told-2
 enum-told-2 c = search needs
 
--- src/lib.rt:367:24
 enum-known-planned : tie.Need-enum-known-planned
 enum-known-planned c = search needs
 
--- src/lib.rt:368:17
 head-of-requires : tie.Need-head-of-requires
 head-of-requires c κs = search needs
 
--- src/lib.rt:369:13
 join-requires : tie.Need-join-requires
 join-requires c κs =
     let h = head-chain _ _ (c .before .before .before .before .before .before .before .before .before .before .before .before .before .pre) (record { byte = λ k. omega (arith, c .before .before .before .before .before .before .before .before .before .before .before .before .slice-known .given k) }) _ (c .before .head-of .ensures) in
     let k = file-chain _ _ (whole-of _ _ (c .before .before .before .before .before .before .before .before .before .before .before .before .before .pre) (record { byte = λ k. omega (arith, c .before .before .before .before .before .before .before .before .before .before .before .before .slice-known .given k) })) _ (c .before .before .before .before .before .before .before .before .before .before .is-file .ensures .0 (not-false _ (c .before .before .before .before .before .before .before .before .before .if1 .left))) in
     (last-standing _ _ _ _ (k .chain) ((says-cut _ _ _ _ _ (c .before .before .before .before .before .before .plan .ensures) _ _ _ (c .before .before .before .before .planned .given .1)) .end), (first-standing _ _ _ h, first-below _ _ _ h))
 
--- src/lib.rt:370:13
 cut-requires : tie.Need-cut-requires
 cut-requires c κs =
     resize-cut _ _ (c .before .before .before .before .before .before .before .before .before .before .before .before .before .before .before .before .before .pre) (record { byte = λ k. omega (arith, c .before .before .before .before .before .before .before .before .before .before .before .before .before .before .before .before .slice-known .given k) }) _ _ (c .before .before .before .before .before .before .before .before .before .before .before .before .before .before .is-file .ensures .0 (not-false _ (c .before .before .before .before .before .before .before .before .before .before .before .before .before .if1 .left))) (c .before .before .before .before .before .before .before .before .before .before .before .before .if2 .left) _ _ _ _ _ (says-cut _ _ _ _ _ (c .before .before .before .before .before .before .before .before .before .before .plan .ensures) _ _ _ (c .before .before .before .before .before .before .before .before .planned .given .1)) (c .before .before .before .before .before .head-of .ensures) (c .before .before .before .join .ensures)
 
--- src/lib.rt:353:1
 same-length-3 : tie.Need-same-length-3
 same-length-3 c = search needs
 
--- src/lib.rt:353:1
 returns-3 : tie.Need-returns-3
 returns-3 c =
     resize-full _ _ (c .before .before .before .before .before .before .before .before .before .pre) (record { byte = λ k. omega (arith, c .before .before .before .before .before .before .before .before .slice-known .given k) }) _ _ (c .before .before .before .before .before .before .is-file .ensures .0 (not-false _ (c .before .before .before .before .before .if1 .left))) (c .before .before .before .before .if2 .left) (says-full _ _ _ _ _ (c .before .before .plan .ensures) (c .enum-told .given .1))
 
--- src/lib.rt:353:1
 same-length-4 : tie.Need-same-length-4
 same-length-4 c = search needs
 
--- src/lib.rt:353:1
 returns-4 : tie.Need-returns-4
 returns-4 c =
     resize-same _ _ (c .before .before .before .before .before .before .before .before .before .pre) (record { byte = λ k. omega (arith, c .before .before .before .before .before .before .before .before .slice-known .given k) }) _ _ (c .before .before .before .before .before .before .is-file .ensures .0 (not-false _ (c .before .before .before .before .before .if1 .left))) (c .before .before .before .before .if2 .left) (says-same _ _ _ _ _ (c .before .before .plan .ensures) (c .enum-told2 .given .1))
 
--- src/lib.rt:353:1
 same-length-5 : tie.Need-same-length-5
 same-length-5 c = search needs
 
--- src/lib.rt:353:1
 returns-5 : tie.Need-returns-5
 returns-5 c =
     resize-done _ _ (c .before .before .before .before .before .before .before .before .before .before .before .before .before .before .before .before .before .before .before .before .pre) (record { byte = λ k. omega (arith, c .before .before .before .before .before .before .before .before .before .before .before .before .before .before .before .before .before .before .before .slice-known .given k) }) _ _ (c .before .before .before .before .before .before .before .before .before .before .before .before .before .before .before .before .before .is-file .ensures .0 (not-false _ (c .before .before .before .before .before .before .before .before .before .before .before .before .before .before .before .before .if1 .left))) (c .before .before .before .before .before .before .before .before .before .before .before .before .before .before .before .if2 .left) _ _ _ _ _ (says-cut _ _ _ _ _ (c .before .before .before .before .before .before .before .before .before .before .before .before .before .plan .ensures) _ _ _ (c .before .before .before .before .before .before .before .before .before .before .before .planned .given .1)) (c .before .before .before .before .before .before .before .before .head-of .ensures) (c .before .before .before .before .before .before .join .ensures) _ (c .before .before .cut .ensures)

@@ -1,14 +1,8 @@
 use Rattle.fat.proofs.Walks.{Seeking, seek-begin, seek-past, seek-at, seek-within, seek-next, seek-less, seek-room}
-use Rattle.fat.proofs.Cases.{standing-size}
 use Rattle.fat_table.specs.Chain.{chainAt}
-use native.Mathlib.Omega.{arith}
 use borrow.Author.Needs.{needs}
 use Rattle.fat.proofs.seek.Statement.{statement}
 use Rattle.fat.proofs.seek.Tie as tie
-use Rattle.fat.proofs.seek.Reads as reads
-use Rattle.fat.proofs.seek.Lts as lts
-use Rattle.fat.proofs.size_at.Reads as size-at-reads
-use Rattle.fat_node.proofs.next_of.Reads as next-of-reads
 
 abbrev Inv-loop : tie.InvT-loop
 Inv-loop table n first count i₀ last₀ k₀ i last k = Seeking (chainAt table n first) count i last k
@@ -16,39 +10,30 @@ Inv-loop table n first count i₀ last₀ k₀ i last k = Seeking (chainAt table
 abbrev μ-loop : tie.MeasureT-loop
 μ-loop table n first count i₀ last₀ k₀ i last k = k
 
--- src/lib.rt:135:5
 loop-holds : tie.Need-loop-holds Inv-loop μ-loop
 loop-holds c = seek-begin _ _ _ (c .before .pre .0 .at) (c .before .pre .1)
 
--- src/lib.rt:136:17
 sub-b : tie.Need-sub-b Inv-loop μ-loop
 sub-b c = search needs
 
--- src/lib.rt:137:13
 size-at-requires : tie.Need-size-at-requires Inv-loop μ-loop
 size-at-requires c κs = search seek-at
 
--- src/lib.rt:139:13
 returns : tie.Need-returns Inv-loop μ-loop
 returns c = search seek-within
 
--- src/lib.rt:141:9
 sub-k : tie.Need-sub-k Inv-loop μ-loop
 sub-k c = search needs
 
--- src/lib.rt:143:9
 next-of-requires : tie.Need-next-of-requires Inv-loop μ-loop
 next-of-requires c κs = search seek-room
 
--- src/lib.rt:135:5
 loop-less : tie.Need-loop-less Inv-loop μ-loop
 loop-less c = search seek-less
 
--- src/lib.rt:135:5
 loop-again : tie.Need-loop-again Inv-loop μ-loop
 loop-again c = search seek-next
 
--- src/lib.rt:127:1
 returns-2 : tie.Need-returns-2 Inv-loop μ-loop
 returns-2 c = search seek-past
 

@@ -1,38 +1,28 @@
 use Rattle.fat.proofs.Cases.{fits}
 use mathlib.Core.Path.{refl}
 use native.Mathlib.Omega.{arith}
-use Rattle.fat.proofs.Cases.{at-standing, with-none, with-some, standing-size}
+use Rattle.fat.proofs.Cases.{at-standing, with-none, with-some}
 use borrow.Author.Needs.{needs}
 use Rattle.fat.proofs.set_prev.Statement.{statement}
 use Rattle.fat.proofs.set_prev.Tie as tie
-use Rattle.fat.proofs.set_prev.Reads as reads
-use Rattle.fat.proofs.set_prev.Lts as lts
-use Rattle.fat.proofs.node_at.Reads as node-at-reads
-use Rattle.fat_node.proofs.set_node.Reads as set-node-reads
 
--- src/lib.rt:49:9
 returns : tie.Need-returns
 returns c = search with-none
 
--- src/lib.rt:51:13
 sub-b : tie.Need-sub-b
 sub-b c = search needs
 
--- src/lib.rt:52:9
 node-at-requires : tie.Need-node-at-requires
 node-at-requires c κs = search at-standing
 
--- src/lib.rt:55:5
 set-node-requires : tie.Need-set-node-requires
 set-node-requires c κs =
     let w = at-standing _ _ _ (c .before .before .before .before .before .pre .0) (c .before .before .before .if1 .left) in
     fits _ _ _ _ _ _ _ w refl (c .before .node-at .ensures .0) (omega arith) (omega (arith, w .next, c .before .node-at .ensures .2))
 
--- src/lib.rt:43:1
 same-length : tie.Need-same-length
 same-length c = search needs
 
--- src/lib.rt:43:1
 returns-2 : tie.Need-returns-2
 returns-2 c = search with-some
 

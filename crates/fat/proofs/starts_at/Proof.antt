@@ -2,12 +2,8 @@ use Rattle.fat.proofs.Hops.{Hopping, hop-begin, hop-standing, hop-withi
 use Rattle.words.proofs.Laws as words
 use native.Mathlib.Omega.{arith}
 use Prim.Native.Nat.{_-_}
-use borrow.Author.Needs.{needs}
 use Rattle.fat.proofs.starts_at.Statement.{statement}
 use Rattle.fat.proofs.starts_at.Tie as tie
-use Rattle.fat.proofs.starts_at.Reads as reads
-use Rattle.fat.proofs.starts_at.Lts as lts
-use Rattle.fat.proofs.size_at.Reads as size-at-reads
 
 abbrev Inv-loop : tie.InvT-loop
 Inv-loop table n b c₀ c = Hopping n table b c
@@ -15,33 +11,27 @@ Inv-loop table n b c₀ c = Hopping n table b c
 abbrev μ-loop : tie.MeasureT-loop
 μ-loop table n b c₀ c = b - c
 
--- src/lib.rt:193:5
 loop-holds : tie.Need-loop-holds Inv-loop μ-loop
 loop-holds c = hop-begin _ _ _
 
--- src/lib.rt:194:14
 size-at-requires : tie.Need-size-at-requires Inv-loop μ-loop
 size-at-requires c κs =
     hop-standing _ _ _ _ (c .before .before .before .pre .0) (record { byte = λ k. omega (arith, c .before .before .shared-slice-known .given k) }) (c .before .loop .inv) (omega arith) (omega arith)
 
--- src/lib.rt:194:9
 add-c : tie.Need-add-c Inv-loop μ-loop
 add-c c =
     let z = hop-within _ _ _ _ (c .before .before .before .before .pre .0) (record { byte = λ k. omega (arith, c .before .before .before .shared-slice-known .given k) }) (c .before .before .loop .inv) (omega arith) (omega arith) in
     omega (arith, z .1, c .before .before .before .before .pre .0 .few, c .size-at .ensures)
 
--- src/lib.rt:193:5
 loop-less : tie.Need-loop-less Inv-loop μ-loop
 loop-less c =
     let z = hop-within _ _ _ _ (c .before .before .before .before .pre .0) (record { byte = λ k. omega (arith, c .before .before .before .shared-slice-known .given k) }) (c .before .before .loop .inv) (omega arith) (omega arith) in
     omega (arith, z .0, c .size-at .ensures)
 
--- src/lib.rt:193:5
 loop-again : tie.Need-loop-again Inv-loop μ-loop
 loop-again c =
     hop-next _ _ _ _ (c .before .before .before .before .pre .0) (record { byte = λ k. omega (arith, c .before .before .before .shared-slice-known .given k) }) (c .before .before .loop .inv) (omega arith) (omega arith) _ (c .size-at .ensures)
 
--- src/lib.rt:187:1
 returns : tie.Need-returns Inv-loop μ-loop
 returns c =
     hop-says _ _ _ _ (c .before .before .before .pre .0) (record { byte = λ k. omega (arith, c .before .before .shared-slice-known .given k) }) (c .before .loop .inv) (omega arith) (omega arith)

@@ -6,8 +6,6 @@ use lib.ListN.{length}
 use Rattle.fat_data.proofs.Copied.{Copied, copied-turn, copied-end}
 use Rattle.fat_data.proofs.copy.Statement.{statement}
 use Rattle.fat_data.proofs.copy.Tie as tie
-use Rattle.fat_data.proofs.copy.Reads as reads
-use Rattle.fat_data.proofs.copy.Lts as lts
 
 abbrev Inv-loop : tie.InvT-loop
 Inv-loop dst₀ src len i₀ dst i = Copied dst₀ src dst i × (length dst ≡ length dst₀)
@@ -15,35 +13,27 @@ Inv-loop dst₀ src len i₀ dst i = Copied dst₀ src dst i × (length dst ≡ 
 abbrev μ-loop : tie.MeasureT-loop
 μ-loop dst₀ src len i₀ dst i = len - i
 
--- src/lib.rt:13:5
 loop-holds : tie.Need-loop-holds Inv-loop μ-loop
 loop-holds c = (record { is = refl; within = omega arith; even = c .pre }, refl)
 
--- src/lib.rt:14:18
 shared-slice-read-dst : tie.Need-shared-slice-read-dst Inv-loop μ-loop
 shared-slice-read-dst c = search needs
 
--- src/lib.rt:14:9
 slice-write-dst : tie.Need-slice-write-dst Inv-loop μ-loop
 slice-write-dst c = search needs
 
--- src/lib.rt:15:9
 add-i : tie.Need-add-i Inv-loop μ-loop
 add-i c = search needs
 
--- src/lib.rt:13:5
 loop-less : tie.Need-loop-less Inv-loop μ-loop
 loop-less c = search needs
 
--- src/lib.rt:13:5
 loop-again : tie.Need-loop-again Inv-loop μ-loop
 loop-again c = (copied-turn _ _ _ _ (c .before .before .loop .inv .0) (omega arith), search needs)
 
--- src/lib.rt:7:1
 same-length : tie.Need-same-length Inv-loop μ-loop
 same-length c = search needs
 
--- src/lib.rt:7:1
 returns : tie.Need-returns Inv-loop μ-loop
 returns c = copied-end _ _ _ _ (c .before .loop .inv .0) (omega arith)
 

@@ -2,39 +2,28 @@ use Rattle.fat_data.proofs.Carries.{count-in, count-out, count-fits}
 use borrow.Author.Needs.{needs}
 use Rattle.fat_data.proofs.count_of.Statement.{statement}
 use Rattle.fat_data.proofs.count_of.Tie as tie
-use Rattle.fat_data.proofs.count_of.Reads as reads
-use Rattle.fat_data.proofs.count_of.Lts as lts
-use Rattle.fat.proofs.seek.Reads as seek-reads
 
--- src/data.rt:18:47
 add-seek : tie.Need-add-seek
 add-seek c = search needs
 
--- src/data.rt:18:9
 seek-requires : tie.Need-seek-requires
 seek-requires c κs = search needs
 
--- src/data.rt:20:48
 enum-told : tie.Need-enum-told
 enum-told c = search needs
 
--- src/data.rt:21:33
 enum-known-sought : tie.Need-enum-known-sought
 enum-known-sought c = search needs
 
--- src/data.rt:21:43
 add-result : tie.Need-add-result
 add-result c = search needs
 
--- src/data.rt:21:43
 sub-result : tie.Need-sub-result
 sub-result c = search count-fits
 
--- src/data.rt:14:1
 returns : tie.Need-returns
 returns c = search count-in
 
--- src/data.rt:14:1
 returns-2 : tie.Need-returns-2
 returns-2 c = search count-out
 

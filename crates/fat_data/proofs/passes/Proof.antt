@@ -1,14 +1,10 @@
 use Rattle.fat_data.proofs.Carries.{passes-before, passes-after}
 use Rattle.fat_data.proofs.passes.Statement.{statement}
 use Rattle.fat_data.proofs.passes.Tie as tie
-use Rattle.fat_data.proofs.passes.Reads as reads
-use Rattle.fat_data.proofs.passes.Lts as lts
 
--- src/data.rt:208:9
 returns : tie.Need-returns
 returns c = passes-before _ _ _ (c .if1 .taken)
 
--- src/data.rt:204:1
 returns-2 : tie.Need-returns-2
 returns-2 c = passes-after _ _ _ (c .if1 .left)
 

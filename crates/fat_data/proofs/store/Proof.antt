@@ -1,17 +1,12 @@
 use Rattle.fat_data.proofs.Carries.{Writing, write-begin, write-end, write-turn, write-long, at-some, at-standing, at-fits, turn-some, turn-upto, turn-data}
 use Rattle.fat_table.specs.Chain.{chainAt}
-use lib.ListN.{length, take, drop, length-take, length-drop}
+use lib.ListN.{length, length-take, length-drop}
 use borrow.Author.Needs.{needs}
 use native.Mathlib.Omega.{arith}
 use Prim.Native.Nat.{_+_, _-_}
 use mathlib.Core.Path.{_≡_, refl}
 use Rattle.fat_data.proofs.store.Statement.{statement}
 use Rattle.fat_data.proofs.store.Tie as tie
-use Rattle.fat_data.proofs.store.Reads as reads
-use Rattle.fat_data.proofs.store.Lts as lts
-use Rattle.fat_data.proofs.cursor_at.Reads as cursor-at-reads
-use Rattle.fat_data.proofs.put_row.Reads as put-row-reads
-use Rattle.fat_data.proofs.stretch_at.Reads as stretch-at-reads
 
 abbrev Inv-loop : tie.InvT-loop
 Inv-loop table data₀ block-len n first pos buf len node₀ from₀ done₀ «data» node from done = Writing (chainAt table n first) buf block-len pos data₀ «data» node from done × (length «data» ≡ length data₀)
@@ -19,62 +14,52 @@ Inv-loop table data₀ block-len n first pos buf len node₀ from₀ done₀ «d
 abbrev μ-loop : tie.MeasureT-loop
 μ-loop table data₀ block-len n first pos buf len node₀ from₀ done₀ «data» node from done = len - done
 
--- src/data.rt:189:9
 cursor-at-requires : tie.Need-cursor-at-requires Inv-loop μ-loop
 cursor-at-requires c κs = (c .before .before .before .pre .0, (c .before .before .before .pre .1 .0 .some, c .before .before .before .pre .1 .0 .few, omega (arith, c .before .before .before .pre .1 .1)))
 
--- src/data.rt:193:5
 loop-holds : tie.Need-loop-holds Inv-loop μ-loop
 loop-holds c = (write-begin _ _ _ _ _ _ _ (c .before .before .before .before .pre .1 .1) (c .cursor-at .ensures), refl)
 
--- src/data.rt:194:49
 sub-stretch-at : tie.Need-sub-stretch-at Inv-loop μ-loop
-sub-stretch-at c = at-some _ _ _ _ _ _ _ (c .before .before .before .before .before .before .pre .0 .chain) (c .before .loop .inv .0 .at (c .loop-test .taken))
+sub-stretch-at c =
+    let at-pre = c .before .before .before .before .before .before .pre in
+    at-some _ _ _ _ _ _ _ (at-pre .0 .chain) (c .before .loop .inv .0 .at (c .loop-test .taken))
 
--- src/data.rt:194:65
 sub-stretch-at-2 : tie.Need-sub-stretch-at-2 Inv-loop μ-loop
 sub-stretch-at-2 c = omega arith
 
--- src/data.rt:194:13
 stretch-at-requires : tie.Need-stretch-at-requires Inv-loop μ-loop
-stretch-at-requires c κs = (at-standing _ _ _ _ _ _ _ (c .before .before .before .before .before .before .pre .0 .chain) (c .before .loop .inv .0 .at (c .loop-test .taken)), (c .before .before .before .before .before .before .pre .1 .0 .few, at-fits _ _ _ _ _ _ _ (c .before .before .before .before .before .before .pre .0 .chain) (c .before .loop .inv .0 .at (c .loop-test .taken))))
+stretch-at-requires c κs =
+    let at-pre = c .before .before .before .before .before .before .pre in
+    (at-standing _ _ _ _ _ _ _ (at-pre .0 .chain) (c .before .loop .inv .0 .at (c .loop-test .taken)), (at-pre .1 .0 .few, at-fits _ _ _ _ _ _ _ (at-pre .0 .chain) (c .before .loop .inv .0 .at (c .loop-test .taken))))
 
--- src/data.rt:195:19
 add-end : tie.Need-add-end Inv-loop μ-loop
 add-end c = omega (arith, turn-upto _ _ _ _ _ _ _ _ _ _ _ _ (c .before .before .before .before .before .before .before .before .pre .0 .chain) (c .before .before .before .before .before .before .before .before .pre .1 .0 .some) (c .before .before .before .before .before .before .before .before .pre .1 .1) (c .before .before .loop-test .taken) (c .before .before .before .loop .inv .0 .at (c .before .before .loop-test .taken)) (c .before .stretch-at .ensures))
 
--- src/data.rt:196:40
 sub-put-row : tie.Need-sub-put-row Inv-loop μ-loop
 sub-put-row c = omega arith
 
--- src/data.rt:196:40
 part-put-row-start : tie.Need-part-put-row-start Inv-loop μ-loop
 part-put-row-start c = omega arith
 
--- src/data.rt:196:40
 part-put-row-end : tie.Need-part-put-row-end Inv-loop μ-loop
 part-put-row-end c = omega (arith, turn-upto _ _ _ _ _ _ _ _ _ _ _ _ (c .before .before .before .before .before .before .before .before .before .pre .0 .chain) (c .before .before .before .before .before .before .before .before .before .pre .1 .0 .some) (c .before .before .before .before .before .before .before .before .before .pre .1 .1) (c .before .before .before .loop-test .taken) (c .before .before .before .before .loop .inv .0 .at (c .before .before .before .loop-test .taken)) (c .before .before .stretch-at .ensures))
 
--- src/data.rt:196:9
 put-row-requires : tie.Need-put-row-requires Inv-loop μ-loop
 put-row-requires c κs = let h = turn-data _ _ _ _ _ _ _ _ _ _ _ _ (c .before .before .before .before .before .before .before .before .before .before .pre .0 .chain) (c .before .before .before .before .before .before .before .before .before .before .pre .1 .0 .some) (c .before .before .before .before .before .before .before .before .before .before .pre .1 .1) (c .before .before .before .before .loop-test .taken) (c .before .before .before .before .before .loop .inv .0 .at (c .before .before .before .before .loop-test .taken)) (c .before .before .before .stretch-at .ensures) in let k = turn-upto _ _ _ _ _ _ _ _ _ _ _ _ (c .before .before .before .before .before .before .before .before .before .before .pre .0 .chain) (c .before .before .before .before .before .before .before .before .before .before .pre .1 .0 .some) (c .before .before .before .before .before .before .before .before .before .before .pre .1 .1) (c .before .before .before .before .loop-test .taken) (c .before .before .before .before .before .loop .inv .0 .at (c .before .before .before .before .loop-test .taken)) (c .before .before .before .stretch-at .ensures) in (c .before .before .before .before .before .before .before .before .before .before .pre .1 .0 .some, simp (length-take, length-drop) (omega (arith, h, k, c .before .before .before .before .before .before .before .before .before .before .pre .1 .0 .fits, c .before .before .before .before .before .loop .inv .1)))
 
--- src/data.rt:193:5
 loop-less : tie.Need-loop-less Inv-loop μ-loop
 loop-less c = omega (arith, turn-some _ _ _ _ _ _ _ _ _ _ _ _ (c .before .before .before .before .before .before .before .before .before .before .before .before .before .pre .0 .chain) (c .before .before .before .before .before .before .before .before .before .before .before .before .before .pre .1 .0 .some) (c .before .before .before .before .before .before .before .before .before .before .before .before .before .pre .1 .1) (c .before .before .before .before .before .before .before .loop-test .taken) (c .before .before .before .before .before .before .before .before .loop .inv .0 .at (c .before .before .before .before .before .before .before .loop-test .taken)) (c .before .before .before .before .before .before .stretch-at .ensures), turn-upto _ _ _ _ _ _ _ _ _ _ _ _ (c .before .before .before .before .before .before .before .before .before .before .before .before .before .pre .0 .chain) (c .before .before .before .before .before .before .before .before .before .before .before .before .before .pre .1 .0 .some) (c .before .before .before .before .before .before .before .before .before .before .before .before .before .pre .1 .1) (c .before .before .before .before .before .before .before .loop-test .taken) (c .before .before .before .before .before .before .before .before .loop .inv .0 .at (c .before .before .before .before .before .before .before .loop-test .taken)) (c .before .before .before .before .before .before .stretch-at .ensures))
 
--- src/data.rt:193:5
 loop-again : tie.Need-loop-again Inv-loop μ-loop
 loop-again c = (
   write-turn _ _ _ _ _ _ _ _ _ _ _ _ (c .before .before .before .before .before .before .before .before .before .before .before .before .before .pre .0 .chain) (c .before .before .before .before .before .before .before .before .before .before .before .before .before .pre .1 .0 .some) (c .before .before .before .before .before .before .before .before .before .before .before .before .before .pre .1 .1) (c .before .before .before .before .before .before .before .loop-test .taken) (c .before .before .before .before .before .before .before .before .loop .inv .0 .at (c .before .before .before .before .before .before .before .loop-test .taken)) (c .before .before .before .before .before .before .stretch-at .ensures) _ _ _ _ _ (c .before .before .before .before .before .before .before .before .loop .done + c .before .before .before .before .before .before .stretch-at .result .len - c .before .before .before .before .before .before .before .before .loop .done) refl (c .before .before .before .before .before .before .before .before .loop .inv .0) (omega arith) refl (c .before .before .put-row .ensures),
   write-long _ _ _ _ _ _ _ _ _ _ _ _ (c .before .before .before .before .before .before .before .before .before .before .before .before .before .pre .0 .chain) (c .before .before .before .before .before .before .before .before .before .before .before .before .before .pre .1 .0 .some) (c .before .before .before .before .before .before .before .before .before .before .before .before .before .pre .1 .1) (c .before .before .before .before .before .before .before .loop-test .taken) (c .before .before .before .before .before .before .before .before .loop .inv .0 .at (c .before .before .before .before .before .before .before .loop-test .taken)) (c .before .before .before .before .before .before .stretch-at .ensures) _ _ _ _ _ (c .before .before .before .before .before .before .before .before .loop .done + c .before .before .before .before .before .before .stretch-at .result .len - c .before .before .before .before .before .before .before .before .loop .done) refl (c .before .before .before .before .before .before .before .before .loop .inv .0) (omega arith) refl (c .before .before .put-row .ensures) (c .before .before .before .before .before .before .before .before .loop .inv .1),
 )
 
--- src/data.rt:182:1
 same-length : tie.Need-same-length Inv-loop μ-loop
 same-length c = search needs
 
--- src/data.rt:182:1
 returns : tie.Need-returns Inv-loop μ-loop
 returns c = write-end _ _ _ _ _ _ _ _ _ (c .before .loop .inv .0) (omega arith)
 

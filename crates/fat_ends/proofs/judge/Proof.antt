@@ -23,12 +23,16 @@ enum-told : tie.Need-enum-told
 enum-told c = search needs
 
 returns : tie.Need-returns
-returns c = λ s. subst (HeadReads (c .before .before .before .before .before .args .table .now)) (c .enum-told .given .1) (c .before .before .get-head .ensures) (s .head)
+returns c =
+    let args = c .before .before .before .before .before .args in
+    λ s. subst (HeadReads (args .table .now)) (c .enum-told .given .1) (c .before .before .get-head .ensures) (s .head)
 
 tile-requires : tie.Need-tile-requires
 tile-requires c κs =
-    let hd = subst (HeadReads (c .before .before .before .before .before .before .before .args .table .now)) (c .before .before .head .given .1) (c .before .before .before .before .get-head .ensures) in
-    (c .before .before .before .before .before .before .before .pre .0, (c .before .before .before .before .before .before .before .pre .1 .0, (c .before .before .before .before .before .before .before .pre .1 .1, hd .1)))
+    let args = c .before .before .before .before .before .before .before .args in
+    let at-pre = c .before .before .before .before .before .before .before .pre in
+    let hd = subst (HeadReads (args .table .now)) (c .before .before .head .given .1) (c .before .before .before .before .get-head .ensures) in
+    (at-pre .0, (at-pre .1 .0, (at-pre .1 .1, hd .1)))
 
 enum-known-r : tie.Need-enum-known-r
 enum-known-r c = search needs
@@ -40,7 +44,10 @@ same-length : tie.Need-same-length
 same-length c = search needs
 
 returns-2 : tie.Need-returns-2
-returns-2 c = λ s. subst (TiledAs (c .before .before .before .before .before .before .before .before .before .before .before .before .args .table .now) (length (c .before .before .before .before .before .before .before .before .before .before .before .before .args .work .now)) (c .before .before .before .before .tile .last .1 .0)) (c .enum-told2 .given .1) (c .before .before .before .before .tile .ensures) (s .covered)
+returns-2 c =
+    let args = c .before .before .before .before .before .before .before .before .before .before .before .before .args in
+    let at-tile = c .before .before .before .before .tile in
+    λ s. subst (TiledAs (args .table .now) (length (args .work .now)) (at-tile .last .1 .0)) (c .enum-told2 .given .1) (at-tile .ensures) (s .covered)
 
 head-fits-requires : tie.Need-head-fits-requires
 head-fits-requires c κs = search needs
@@ -64,19 +71,29 @@ same-length-2 c = search needs
 
 returns-3 : tie.Need-returns-3
 returns-3 c =
-    let l : length (c .before .before .before .before .before .before .before .before .before .before .before .before .before .before .before .tile .last .1 .0) ≡ length (c .before .before .before .before .before .before .before .before .before .before .before .before .before .before .before .before .before .before .before .before .before .before .before .args .work .now) = c .before .before .before .before .before .before .before .before .before .before .before .before .before .before .before .tile .kept .1 .0 in
-    let q = subst (TiledAs (c .before .before .before .before .before .before .before .before .before .before .before .before .before .before .before .before .before .before .before .before .before .before .before .args .table .now) (length (c .before .before .before .before .before .before .before .before .before .before .before .before .before .before .before .before .before .before .before .before .before .before .before .args .work .now)) (c .before .before .before .before .before .before .before .before .before .before .before .before .before .before .before .tile .last .1 .0)) (c .before .before .before .before .before .before .before .before .before .before .before .r .given .1) (c .before .before .before .before .before .before .before .before .before .before .before .before .before .before .before .tile .ensures) in
-    let hd = subst (HeadReads (c .before .before .before .before .before .before .before .before .before .before .before .before .before .before .before .before .before .before .before .before .before .before .before .args .table .now)) (c .before .before .before .before .before .before .before .before .before .before .before .before .before .before .before .before .before .before .head .given .1) (c .before .before .before .before .before .before .before .before .before .before .before .before .before .before .before .before .before .before .before .before .get-head .ensures) in
+    let args = c .before .before .before .before .before .before .before .before .before .before .before .before .before .before .before .before .before .before .before .before .before .before .before .args in
+    let at-get-head = c .before .before .before .before .before .before .before .before .before .before .before .before .before .before .before .before .before .before .before .before .get-head in
+    let at-head = c .before .before .before .before .before .before .before .before .before .before .before .before .before .before .before .before .before .before .head in
+    let at-tile = c .before .before .before .before .before .before .before .before .before .before .before .before .before .before .before .tile in
+    let at-r = c .before .before .before .before .before .before .before .before .before .before .before .r in
+    let at-head-fits = c .before .before .before .before .before .before .before .before .head-fits in
+    let at-if1 = c .before .before .before .before .before .before .before .if1 in
+    let at-links = c .before .before .before .before .before .links in
+    let l : length (at-tile .last .1 .0) ≡ length (args .work .now) = at-tile .kept .1 .0 in
+    let q = subst (TiledAs (args .table .now) (length (args .work .now)) (at-tile .last .1 .0)) (at-r .given .1) (at-tile .ensures) in
+    let hd = subst (HeadReads (args .table .now)) (at-head .given .1) (at-get-head .ensures) in
     counted (all-good l
-    (c .before .before .before .before .before .links .ensures .0 (c .before .before .if2 .taken), subst⁻¹ (λ (y : ℕ). Counted (File (c .before .before .before .before .before .before .before .before .before .before .before .before .before .before .before .before .before .before .before .before .before .before .before .args .table .now) y) y (c .before .before .before .before .before .before .before .before .before .before .before .r .given .0 .0)) l (q .2))
-    (hd .0) (tile-covered (q .0)) (hd .1) (head-is l (q .0) (c .before .before .before .before .before .before .before .before .head-fits .ensures .0 (c .before .before .before .before .before .before .before .if1 .taken))) (c .free-of .ensures))
+    (at-links .ensures .0 (c .before .before .if2 .taken), subst⁻¹ (λ (y : ℕ). Counted (File (args .table .now) y) y (at-r .given .0 .0)) l (q .2))
+    (hd .0) (tile-covered (q .0)) (hd .1) (head-is l (q .0) (at-head-fits .ensures .0 (at-if1 .taken))) (c .free-of .ensures))
 
 same-length-3 : tie.Need-same-length-3
 same-length-3 c = search needs
 
 returns-4 : tie.Need-returns-4
 returns-4 c =
-    let l : length (c .before .before .before .before .before .before .before .before .before .before .before .before .before .tile .last .1 .0) ≡ length (c .before .before .before .before .before .before .before .before .before .before .before .before .before .before .before .before .before .before .before .before .before .args .work .now) = c .before .before .before .before .before .before .before .before .before .before .before .before .before .tile .kept .1 .0 in
+    let args = c .before .before .before .before .before .before .before .before .before .before .before .before .before .before .before .before .before .before .before .before .before .args in
+    let at-tile = c .before .before .before .before .before .before .before .before .before .before .before .before .before .tile in
+    let l : length (at-tile .last .1 .0) ≡ length (args .work .now) = at-tile .kept .1 .0 in
     λ s. untrue (sym (c .if2 .left) ∙ c .before .before .before .links .ensures .1 (sound-long l s))
 
 same-length-4 : tie.Need-same-length-4
@@ -84,9 +101,13 @@ same-length-4 c = search needs
 
 returns-5 : tie.Need-returns-5
 returns-5 c =
-    let l : length (c .before .before .before .before .before .before .before .before .tile .last .1 .0) ≡ length (c .before .before .before .before .before .before .before .before .before .before .before .before .before .before .before .before .args .work .now) = c .before .before .before .before .before .before .before .before .tile .kept .1 .0 in
-    let q = subst (TiledAs (c .before .before .before .before .before .before .before .before .before .before .before .before .before .before .before .before .args .table .now) (length (c .before .before .before .before .before .before .before .before .before .before .before .before .before .before .before .before .args .work .now)) (c .before .before .before .before .before .before .before .before .tile .last .1 .0)) (c .before .before .before .before .r .given .1) (c .before .before .before .before .before .before .before .before .tile .ensures) in
-    let hd = subst (HeadReads (c .before .before .before .before .before .before .before .before .before .before .before .before .before .before .before .before .args .table .now)) (c .before .before .before .before .before .before .before .before .before .before .before .head .given .1) (c .before .before .before .before .before .before .before .before .before .before .before .before .before .get-head .ensures) in
+    let args = c .before .before .before .before .before .before .before .before .before .before .before .before .before .before .before .before .args in
+    let at-get-head = c .before .before .before .before .before .before .before .before .before .before .before .before .before .get-head in
+    let at-head = c .before .before .before .before .before .before .before .before .before .before .before .head in
+    let at-tile = c .before .before .before .before .before .before .before .before .tile in
+    let l : length (at-tile .last .1 .0) ≡ length (args .work .now) = at-tile .kept .1 .0 in
+    let q = subst (TiledAs (args .table .now) (length (args .work .now)) (at-tile .last .1 .0)) (c .before .before .before .before .r .given .1) (at-tile .ensures) in
+    let hd = subst (HeadReads (args .table .now)) (at-head .given .1) (at-get-head .ensures) in
     λ s. untrue (sym (c .if1 .left) ∙ c .before .head-fits .ensures .1 (head-fits l (q .0) (hd .1) s))
 
 pub judge-spec : {M : Type 1} → statement M

@@ -1,5 +1,5 @@
 -- `fat_ends::links` meets its contract. Assumes nothing.
-use mathlib.Core.Path.{refl, subst, subst⁻¹}
+use mathlib.Core.Path.{refl, subst⁻¹}
 use Prim.Native.Nat.{ℕ, _-_, _≤_}
 use native.Mathlib.Omega.{arith}
 use borrow.Author.Needs.{needs}
@@ -43,7 +43,8 @@ same-length c = search needs
 
 returns : tie.Need-returns Inv-loop μ-loop
 returns c =
-    ((λ e. untrue e), λ s. absurd (c .before .before .before .link .ensures .2 (c .if1 .taken) (sound-long (c .before .before .before .before .before .before .before .before .loop .inv .2 .long) s)))
+    let at-loop = c .before .before .before .before .before .before .before .before .loop in
+    ((λ e. untrue e), λ s. absurd (c .before .before .before .link .ensures .2 (c .if1 .taken) (sound-long (at-loop .inv .2 .long) s)))
 
 add-joins : tie.Need-add-joins Inv-loop μ-loop
 add-joins c =

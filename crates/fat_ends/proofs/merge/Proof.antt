@@ -28,7 +28,9 @@ same-length : tie.Need-same-length
 same-length c = search needs
 
 returns : tie.Need-returns
-returns c = merged-small (c .before .before .before .before .before .before .before .before .before .pre .1 .1) refl (c .before .before .before .before .if1 .taken) (c .before .before .tie-ends .ensures)
+returns c =
+    let at-pre = c .before .before .before .before .before .before .before .before .before .pre in
+    merged-small (at-pre .1 .1) refl (c .before .before .before .before .if1 .taken) (c .before .before .tie-ends .ensures)
 
 grows-requires : tie.Need-grows-requires
 grows-requires c κs = search needs
@@ -46,7 +48,11 @@ same-length-2 : tie.Need-same-length-2
 same-length-2 c = search needs
 
 returns-2 : tie.Need-returns-2
-returns-2 c = merged-grown (c .before .before .before .before .before .before .before .before .before .before .before .before .pre .1 .1) refl (c .before .before .before .before .before .before .grows .ensures (c .before .before .before .before .before .if2 .taken)) (c .before .before .tie-ends2 .ensures)
+returns-2 c =
+    let at-pre = c .before .before .before .before .before .before .before .before .before .before .before .before .pre in
+    let at-grows = c .before .before .before .before .before .before .grows in
+    let at-if2 = c .before .before .before .before .before .if2 in
+    merged-grown (at-pre .1 .1) refl (at-grows .ensures (at-if2 .taken)) (c .before .before .tie-ends2 .ensures)
 
 sum-of-requires : tie.Need-sum-of-requires
 sum-of-requires c κs = let J = c .before .before .before .before .before .before .before .before .pre .1 .1 in (omega arith, (omega (arith, places J), (_, (packed-i J, omega (arith, both-fit J)))))
@@ -70,7 +76,10 @@ same-length-3 : tie.Need-same-length-3
 same-length-3 c = search needs
 
 returns-3 : tie.Need-returns-3
-returns-3 c = merged-large (c .before .before .before .before .before .before .before .before .before .before .before .before .before .before .before .pre .1 .1) refl (c .before .before .before .before .before .before .sum-of .ensures) (c .before .before .before .before .sum-of2 .ensures) (c .before .before .tie-ends3 .ensures)
+returns-3 c =
+    let at-pre = c .before .before .before .before .before .before .before .before .before .before .before .before .before .before .before .pre in
+    let at-sum-of = c .before .before .before .before .before .before .sum-of in
+    merged-large (at-pre .1 .1) refl (at-sum-of .ensures) (c .before .before .before .before .sum-of2 .ensures) (c .before .before .tie-ends3 .ensures)
 
 pub merge-spec : {M : Type 1} → statement M
 merge-spec =

@@ -24,9 +24,12 @@ same-length c = search needs
 
 returns : tie.Need-returns
 returns c =
-    let l : length (c .before .before .before .before .before .before .before .before .before .before .clear .last .0) ≡ length (c .before .before .before .before .before .before .before .before .before .before .before .before .before .before .args .work .now) = c .before .before .before .before .before .before .before .before .before .before .clear .kept .0 in (
-      subst (λ (m : ℕ). Judged (c .before .before .before .before .before .before .before .before .before .before .before .before .before .before .args .table .now) m (c .before .before .before .before .before .before .judge .result)) l (c .before .before .before .before .before .before .judge .ensures),
-      c .before .before .clear2 .ensures ∙ ap (λ (m : ℕ). replicate m 0) (c .before .before .before .before .before .before .judge .kept .1 .0 ∙ l),
+    let args = c .before .before .before .before .before .before .before .before .before .before .before .before .before .before .args in
+    let at-clear = c .before .before .before .before .before .before .before .before .before .before .clear in
+    let at-judge = c .before .before .before .before .before .before .judge in
+    let l : length (at-clear .last .0) ≡ length (args .work .now) = at-clear .kept .0 in (
+      subst (λ (m : ℕ). Judged (args .table .now) m (at-judge .result)) l (at-judge .ensures),
+      c .before .before .clear2 .ensures ∙ ap (λ (m : ℕ). replicate m 0) (at-judge .kept .1 .0 ∙ l),
     )
 
 pub run-spec : {M : Type 1} → statement M

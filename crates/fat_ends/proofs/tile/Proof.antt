@@ -35,9 +35,11 @@ same-length c = search needs
 
 returns : tie.Need-returns Inv-loop μ-loop
 returns c =
+    let args = c .before .before .before .before .before .before .before .args in
+    let at-loop = c .before .before .before .before .loop in
     λ h.
-    let x = h (c .before .before .before .before .loop .b) (c .before .before .before .before .loop .inv .0 .1 .0 .here, c .before .before .before .loop-test .taken) in
-    let k : (s : ℕ) → NodeAt (c .before .before .before .before .before .before .before .args .table .now) (length (c .before .before .before .before .before .before .before .args .work .now)) (c .before .before .before .before .loop .b) s → ⊥ = subst (Reads (c .before .before .before .before .before .before .before .args .table .now) (length (c .before .before .before .before .before .before .before .args .work .now)) (c .before .before .before .before .loop .b)) (c .enum-told .given .1) (c .before .before .get-node .ensures) in
+    let x = h (at-loop .b) (at-loop .inv .0 .1 .0 .here, c .before .before .before .loop-test .taken) in
+    let k : (s : ℕ) → NodeAt (args .table .now) (length (args .work .now)) (at-loop .b) s → ⊥ = subst (Reads (args .table .now) (length (args .work .now)) (at-loop .b)) (c .enum-told .given .1) (c .before .before .get-node .ensures) in
     k (x .0) (x .1)
 
 add-pack : tie.Need-add-pack Inv-loop μ-loop

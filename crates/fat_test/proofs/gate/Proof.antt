@@ -12,7 +12,9 @@ misfit-requires : tie.Need-misfit-requires
 misfit-requires c κs = search needs
 
 returns : tie.Need-returns
-returns c = gate-misfit (c .before .before .before .before .args .table .now) _ _ (c .before .before .before .before .args .work .now) (c .before .misfit .ensures .0 (c .if1 .taken))
+returns c =
+    let args = c .before .before .before .before .args in
+    gate-misfit (args .table .now) _ _ (args .work .now) (c .before .misfit .ensures .0 (c .if1 .taken))
 
 sub-n : tie.Need-sub-n
 sub-n c = omega (arith, fits (c .before .before .before .before .args .table .now) (unless (c .before .misfit .ensures .1) (c .if1 .left)))
@@ -21,23 +23,38 @@ uneven-requires : tie.Need-uneven-requires
 uneven-requires c κs = search needs
 
 returns-2 : tie.Need-returns-2
-returns-2 c = gate-uneven (c .before .before .before .before .before .before .args .table .now) _ _ (c .before .before .before .before .before .before .args .work .now) (c .before .uneven .ensures .0 (c .if2 .taken))
+returns-2 c =
+    let args = c .before .before .before .before .before .before .args in
+    gate-uneven (args .table .now) _ _ (args .work .now) (c .before .uneven .ensures .0 (c .if2 .taken))
 
 outside-requires : tie.Need-outside-requires
 outside-requires c κs = search needs
 
 returns-3 : tie.Need-returns-3
-returns-3 c = gate-outside (c .before .before .before .before .before .before .before .before .args .table .now) _ _ (c .before .before .before .before .before .before .before .before .args .work .now) (unless (c .before .before .before .before .before .misfit .ensures .1) (c .before .before .before .before .if1 .left)) (c .before .before .before .uneven .ensures .1 (c .before .before .if2 .left)) (c .before .outside .ensures .0 (c .if3 .taken))
+returns-3 c =
+    let args = c .before .before .before .before .before .before .before .before .args in
+    let at-misfit = c .before .before .before .before .before .misfit in
+    gate-outside (args .table .now) _ _ (args .work .now) (unless (at-misfit .ensures .1) (c .before .before .before .before .if1 .left)) (c .before .before .before .uneven .ensures .1 (c .before .before .if2 .left)) (c .before .outside .ensures .0 (c .if3 .taken))
 
 unfit-requires : tie.Need-unfit-requires
 unfit-requires c κs = search needs
 
 returns-4 : tie.Need-returns-4
-returns-4 c = gate-block (c .before .before .before .before .before .before .before .before .before .before .args .table .now) _ _ (c .before .before .before .before .before .before .before .before .before .before .args .work .now) (unless (c .before .before .before .before .before .before .before .misfit .ensures .1) (c .before .before .before .before .before .before .if1 .left)) (c .before .before .before .before .before .uneven .ensures .1 (c .before .before .before .before .if2 .left)) (c .before .unfit .ensures .0 (c .if4 .taken))
+returns-4 c =
+    let args = c .before .before .before .before .before .before .before .before .before .before .args in
+    let at-misfit = c .before .before .before .before .before .before .before .misfit in
+    let at-if1 = c .before .before .before .before .before .before .if1 in
+    let at-uneven = c .before .before .before .before .before .uneven in
+    gate-block (args .table .now) _ _ (args .work .now) (unless (at-misfit .ensures .1) (at-if1 .left)) (at-uneven .ensures .1 (c .before .before .before .before .if2 .left)) (c .before .unfit .ensures .0 (c .if4 .taken))
 
 returns-5 : tie.Need-returns-5
 returns-5 c =
-    gate-short (c .before .before .before .before .before .before .before .before .before .before .before .args .table .now) _ _ (c .before .before .before .before .before .before .before .before .before .before .before .args .work .now) (unless (c .before .before .before .before .before .before .before .before .misfit .ensures .1) (c .before .before .before .before .before .before .before .if1 .left)) (c .before .before .before .before .before .before .uneven .ensures .1 (c .before .before .before .before .before .if2 .left))
+    let args = c .before .before .before .before .before .before .before .before .before .before .before .args in
+    let at-misfit = c .before .before .before .before .before .before .before .before .misfit in
+    let at-if1 = c .before .before .before .before .before .before .before .if1 in
+    let at-uneven = c .before .before .before .before .before .before .uneven in
+    let at-if2 = c .before .before .before .before .before .if2 in
+    gate-short (args .table .now) _ _ (args .work .now) (unless (at-misfit .ensures .1) (at-if1 .left)) (at-uneven .ensures .1 (at-if2 .left))
     (unless (c .before .before .before .before .outside .ensures .1) (c .before .before .before .if3 .left)) (c .before .before .unfit .ensures .1 (c .before .if4 .left)) (c .if5 .taken)
 
 verdict-requires : tie.Need-verdict-requires

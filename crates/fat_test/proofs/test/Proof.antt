@@ -15,7 +15,9 @@ refused-requires : tie.Need-refused-requires
 refused-requires c κs = search needs
 
 returns : tie.Need-returns
-returns c = test-misfit (c .before .before .before .before .before .args .table .now) (c .before .before .before .before .before .args .work .now) (c .before .before .misfit .ensures .0 (c .before .if1 .taken)) (c .refused .ensures)
+returns c =
+    let args = c .before .before .before .before .before .args in
+    test-misfit (args .table .now) (args .work .now) (c .before .before .misfit .ensures .0 (c .before .if1 .taken)) (c .refused .ensures)
 
 sub-n : tie.Need-sub-n
 sub-n c = omega (arith, fits (c .before .before .before .before .args .table .now) (unless (c .before .misfit .ensures .1) (c .if1 .left)))
@@ -27,13 +29,18 @@ refused-requires-2 : tie.Need-refused-requires-2
 refused-requires-2 c κs = search needs
 
 returns-2 : tie.Need-returns-2
-returns-2 c = test-outside (c .before .before .before .before .before .before .before .args .table .now) (c .before .before .before .before .before .before .before .args .work .now) (unless (c .before .before .before .before .misfit .ensures .1) (c .before .before .before .if1 .left)) (c .before .before .outside .ensures .0 (c .before .if2 .taken)) (c .refused2 .ensures)
+returns-2 c =
+    let args = c .before .before .before .before .before .before .before .args in
+    test-outside (args .table .now) (args .work .now) (unless (c .before .before .before .before .misfit .ensures .1) (c .before .before .before .if1 .left)) (c .before .before .outside .ensures .0 (c .before .if2 .taken)) (c .refused2 .ensures)
 
 refused-requires-3 : tie.Need-refused-requires-3
 refused-requires-3 c κs = search needs
 
 returns-3 : tie.Need-returns-3
-returns-3 c = test-short (c .before .before .before .before .before .before .before .before .args .table .now) (c .before .before .before .before .before .before .before .before .args .work .now) (unless (c .before .before .before .before .before .misfit .ensures .1) (c .before .before .before .before .if1 .left)) (unless (c .before .before .before .outside .ensures .1) (c .before .before .if2 .left)) (c .before .if3 .taken) (c .refused3 .ensures)
+returns-3 c =
+    let args = c .before .before .before .before .before .before .before .before .args in
+    let at-misfit = c .before .before .before .before .before .misfit in
+    test-short (args .table .now) (args .work .now) (unless (at-misfit .ensures .1) (c .before .before .before .before .if1 .left)) (unless (c .before .before .before .outside .ensures .1) (c .before .before .if2 .left)) (c .before .if3 .taken) (c .refused3 .ensures)
 
 verdict-requires : tie.Need-verdict-requires
 verdict-requires c κs = (unless (c .before .before .before .before .before .misfit .ensures .1) (c .before .before .before .before .if1 .left), (unless (c .before .before .before .outside .ensures .1) (c .before .before .if2 .left), omega arith))

@@ -15,7 +15,9 @@ rem-if3 : tie.Need-rem-if3
 rem-if3 c = search needs
 
 returns-3 : tie.Need-returns-3
-returns-3 c = ((λ _ e. c .if3 .taken (even-rem (c .before .before .args .d) (c .before .before .args .n) (c .before .before .args .l) e)), λ e. unfalse e)
+returns-3 c =
+    let args = c .before .before .args in
+    ((λ _ e. c .if3 .taken (even-rem (args .d) (args .n) (args .l) e)), λ e. unfalse e)
 
 div-if4 : tie.Need-div-if4
 div-if4 c = search needs

@@ -6,8 +6,6 @@ use lib.ListN.{length, take, drop}
 use Rattle.fs_meta.proofs.Listings.{part-more, part-whole}
 use Rattle.fs_meta.proofs.carry.bytes20.Statement.{statement}
 use Rattle.fs_meta.proofs.carry.bytes20.Tie as tie
-use Rattle.fs_meta.proofs.carry.bytes20.Reads as reads
-use Rattle.fs_meta.proofs.carry.bytes20.Lts as lts
 
 abbrev Inv-loop : tie.InvT-loop
 Inv-loop table at out₀ i₀ out i = (i ≤ 20) × (length out ≡ 20) × (take i out ≡ take i (drop at table))

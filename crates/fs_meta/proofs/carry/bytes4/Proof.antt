@@ -2,8 +2,6 @@ use borrow.Author.Needs.{needs}
 use Rattle.fs_meta.proofs.Listings.{four-bytes}
 use Rattle.fs_meta.proofs.carry.bytes4.Statement.{statement}
 use Rattle.fs_meta.proofs.carry.bytes4.Tie as tie
-use Rattle.fs_meta.proofs.carry.bytes4.Reads as reads
-use Rattle.fs_meta.proofs.carry.bytes4.Lts as lts
 
 shared-slice-read-t4 : tie.Need-shared-slice-read-t4
 shared-slice-read-t4 c = search needs

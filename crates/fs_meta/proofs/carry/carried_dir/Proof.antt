@@ -7,11 +7,6 @@ use Rattle.fs_meta.proofs.Opens.{live-fits, shown}
 use borrow.Author.Needs.{needs}
 use Rattle.fs_meta.proofs.carry.carried_dir.Statement.{statement}
 use Rattle.fs_meta.proofs.carry.carried_dir.Tie as tie
-use Rattle.fs_meta.proofs.carry.carried_dir.Reads as reads
-use Rattle.fs_meta.proofs.carry.carried_dir.Lts as lts
-use Rattle.fs_meta.proofs.carry.bytes4.Reads as bytes4-reads
-use Rattle.fs_meta.proofs.look.live.Reads as live-reads
-use Rattle.meta_table.proofs.index.Reads as index-reads
 
 live-requires : tie.Need-live-requires
 live-requires c κs = search needs
@@ -32,7 +27,10 @@ bytes4-requires : tie.Need-bytes4-requires
 bytes4-requires c κs = omega (arith, live-fits (c .before .before .before .before .before .pre) (c .before .before .before .before .before .args .x) (c .index .result) (c .before .before .live .ensures) (not-false _ (c .before .if1 .left)) (c .index .ensures))
 
 returns-2 : tie.Need-returns-2
-returns-2 c = shown (c .before .before .before .before .before .before .pre) (c .before .before .before .before .before .before .args .x) (c .before .index .result) (c .before .before .before .live .ensures) (not-false _ (c .before .before .if1 .left)) (c .before .index .ensures) 32 4 _ _ (c .bytes4 .ensures)
+returns-2 c =
+    let args = c .before .before .before .before .before .before .args in
+    let at-pre = c .before .before .before .before .before .before .pre in
+    shown (at-pre) (args .x) (c .before .index .result) (c .before .before .before .live .ensures) (not-false _ (c .before .before .if1 .left)) (c .before .index .ensures) 32 4 _ _ (c .bytes4 .ensures)
 
 pub carried-dir-spec : {M : Type 1} → statement M
 carried-dir-spec =

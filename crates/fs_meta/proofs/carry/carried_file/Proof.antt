@@ -7,11 +7,6 @@ use Rattle.fs_meta.proofs.Opens.{live-fits, shown}
 use borrow.Author.Needs.{needs}
 use Rattle.fs_meta.proofs.carry.carried_file.Statement.{statement}
 use Rattle.fs_meta.proofs.carry.carried_file.Tie as tie
-use Rattle.fs_meta.proofs.carry.carried_file.Reads as reads
-use Rattle.fs_meta.proofs.carry.carried_file.Lts as lts
-use Rattle.fs_meta.proofs.carry.bytes20.Reads as bytes20-reads
-use Rattle.fs_meta.proofs.look.live.Reads as live-reads
-use Rattle.meta_table.proofs.index.Reads as index-reads
 
 live-requires : tie.Need-live-requires
 live-requires c κs = search needs
@@ -32,7 +27,10 @@ bytes20-requires : tie.Need-bytes20-requires
 bytes20-requires c κs = omega (arith, live-fits (c .before .before .before .before .before .pre) (c .before .before .before .before .before .args .x) (c .index .result) (c .before .before .live .ensures) (not-false _ (c .before .if1 .left)) (c .index .ensures))
 
 returns-2 : tie.Need-returns-2
-returns-2 c = shown (c .before .before .before .before .before .before .pre) (c .before .before .before .before .before .before .args .x) (c .before .index .result) (c .before .before .before .live .ensures) (not-false _ (c .before .before .if1 .left)) (c .before .index .ensures) 24 20 _ _ (c .bytes20 .ensures)
+returns-2 c =
+    let args = c .before .before .before .before .before .before .args in
+    let at-pre = c .before .before .before .before .before .before .pre in
+    shown (at-pre) (args .x) (c .before .index .result) (c .before .before .before .live .ensures) (not-false _ (c .before .before .if1 .left)) (c .before .index .ensures) 24 20 _ _ (c .bytes20 .ensures)
 
 pub carried-file-spec : {M : Type 1} → statement M
 carried-file-spec =

@@ -3,9 +3,6 @@ use Rattle.fs_meta.proofs.Listings.{name-fits, name-is}
 use borrow.Author.Needs.{needs}
 use Rattle.fs_meta.proofs.carry.name_part.Statement.{statement}
 use Rattle.fs_meta.proofs.carry.name_part.Tie as tie
-use Rattle.fs_meta.proofs.carry.name_part.Reads as reads
-use Rattle.fs_meta.proofs.carry.name_part.Lts as lts
-use Rattle.meta_table.proofs.index.Reads as index-reads
 
 index-requires : tie.Need-index-requires
 index-requires c κs = search needs
@@ -29,7 +26,9 @@ part-result-end : tie.Need-part-result-end
 part-result-end c = omega (arith, name-fits (c .before .before .args .table .now) (c .before .before .args .w) (c .before .before .args .x) (c .index .result) (c .index .ensures) (c .before .before .pre .0), c .before .before .pre .1)
 
 returns : tie.Need-returns
-returns c = name-is (c .before .before .before .args .table .now) (c .before .before .before .args .w) (c .before .before .before .args .x) (c .before .index .result) (c .before .index .ensures)
+returns c =
+    let args = c .before .before .before .args in
+    name-is (args .table .now) (args .w) (args .x) (c .before .index .result) (c .before .index .ensures)
 
 pub name-part-spec : {M : Type 1} → statement M
 name-part-spec =

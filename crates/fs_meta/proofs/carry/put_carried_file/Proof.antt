@@ -1,9 +1,6 @@
 use borrow.Author.Needs.{needs}
 use Rattle.fs_meta.proofs.carry.put_carried_file.Statement.{statement}
 use Rattle.fs_meta.proofs.carry.put_carried_file.Tie as tie
-use Rattle.fs_meta.proofs.carry.put_carried_file.Reads as reads
-use Rattle.fs_meta.proofs.carry.put_carried_file.Lts as lts
-use Rattle.fs_meta.proofs.carry.put_part.Reads as put-part-reads
 
 put-part-requires : tie.Need-put-part-requires
 put-part-requires c κs = search needs

@@ -1,10 +1,6 @@
 use borrow.Author.Needs.{needs}
 use Rattle.fs_meta.proofs.carry.put_part.Statement.{statement}
 use Rattle.fs_meta.proofs.carry.put_part.Tie as tie
-use Rattle.fs_meta.proofs.carry.put_part.Reads as reads
-use Rattle.fs_meta.proofs.carry.put_part.Lts as lts
-use Rattle.meta_table.proofs.put_link.Reads as put-link-reads
-use Rattle.words.proofs.get_u32.Reads as get-u32-reads
 
 get-u32-requires : tie.Need-get-u32-requires
 get-u32-requires c κs = search needs

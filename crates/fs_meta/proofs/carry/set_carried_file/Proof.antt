@@ -1,6 +1,5 @@
 use mathlib.Core.Path.{refl, ap}
 use mathlib.Core.Logic.{inl, inr}
-use native.Mathlib.Omega.{arith}
 use borrow.Author.Tests.{not-true, not-false}
 use Rattle.order.specs.declared.Answer.the-variants.{Done}
 use Rattle.fs_meta.specs.Ready.{setGives}
@@ -9,10 +8,6 @@ use Rattle.fs_meta.proofs.Opens.{live-fits}
 use borrow.Author.Needs.{needs}
 use Rattle.fs_meta.proofs.carry.set_carried_file.Statement.{statement}
 use Rattle.fs_meta.proofs.carry.set_carried_file.Tie as tie
-use Rattle.fs_meta.proofs.carry.set_carried_file.Reads as reads
-use Rattle.fs_meta.proofs.carry.set_carried_file.Lts as lts
-use Rattle.fs_meta.proofs.carry.put_carried_file.Reads as put-carried-file-reads
-use Rattle.fs_meta.proofs.look.live.Reads as live-reads
 
 live-requires : tie.Need-live-requires
 live-requires c κs = search needs
@@ -24,13 +19,19 @@ returns : tie.Need-returns
 returns c = inl (tells-not (c .before .live .ensures) (not-true _ (c .if1 .taken)), refl)
 
 put-carried-file-requires : tie.Need-put-carried-file-requires
-put-carried-file-requires c κs = live-fits (c .before .before .before .before .before .before .before .pre) (c .before .before .before .before .before .before .before .args .x) (c .before .before .before .before .before .before .before .args .x) (c .before .before .before .live .ensures) (not-false _ (c .before .before .if1 .left)) refl
+put-carried-file-requires c κs =
+    let args = c .before .before .before .before .before .before .before .args in
+    let at-pre = c .before .before .before .before .before .before .before .pre in
+    live-fits (at-pre) (args .x) (args .x) (c .before .before .before .live .ensures) (not-false _ (c .before .before .if1 .left)) refl
 
 same-length-2 : tie.Need-same-length-2
 same-length-2 c = search needs
 
 returns-2 : tie.Need-returns-2
-returns-2 c = inr (λ n. n (c .before .before .before .before .before .before .live .ensures .yes (not-false _ (c .before .before .before .before .before .if1 .left))), ap (setGives Done) (c .before .before .put-carried-file .ensures))
+returns-2 c =
+    let at-live = c .before .before .before .before .before .before .live in
+    let at-if1 = c .before .before .before .before .before .if1 in
+    inr (λ n. n (at-live .ensures .yes (not-false _ (at-if1 .left))), ap (setGives Done) (c .before .before .put-carried-file .ensures))
 
 pub set-carried-file-spec : {M : Type 1} → statement M
 set-carried-file-spec =

@@ -5,11 +5,6 @@ use Rattle.fs_meta.proofs.Live.{first-fits}
 use Rattle.fs_meta.proofs.Listings.{removed-there, count-within, free-is}
 use Rattle.fs_meta.proofs.look.free_of.Statement.{statement}
 use Rattle.fs_meta.proofs.look.free_of.Tie as tie
-use Rattle.fs_meta.proofs.look.free_of.Reads as reads
-use Rattle.fs_meta.proofs.look.free_of.Lts as lts
-use Rattle.meta_table.proofs.count_list.Reads as count-list-reads
-use Rattle.meta_table.proofs.index.Reads as index-reads
-use Rattle.words.proofs.get_u32.Reads as get-u32-reads
 
 get-u32-requires : tie.Need-get-u32-requires
 get-u32-requires c κs = omega (arith, first-fits (c .before .before .pre), c .before .before .pre .wide)
@@ -45,7 +40,13 @@ add-result : tie.Need-add-result
 add-result c = search needs
 
 returns : tie.Need-returns
-returns c = free-is (c .before .before .before .before .before .before .before .before .before .pre) (c .before .before .before .before .before .index .result) (c .before .before .before .index2 .result) (c .index3 .result) (c .before .before .get-u323 .result) (c .before .before .before .before .before .index .ensures ∙ c .before .before .before .before .before .before .get-u32 .ensures) (c .before .before .before .index2 .ensures ∙ c .before .before .before .before .get-u322 .ensures) (c .before .before .get-u323 .ensures) (c .index3 .ensures ∙ c .before .count-list .ensures)
+returns c =
+    let at-pre = c .before .before .before .before .before .before .before .before .before .pre in
+    let at-get-u32 = c .before .before .before .before .before .before .get-u32 in
+    let at-index = c .before .before .before .before .before .index in
+    let at-index2 = c .before .before .before .index2 in
+    let at-get-u323 = c .before .before .get-u323 in
+    free-is (at-pre) (at-index .result) (at-index2 .result) (c .index3 .result) (at-get-u323 .result) (at-index .ensures ∙ at-get-u32 .ensures) (at-index2 .ensures ∙ c .before .before .before .before .get-u322 .ensures) (at-get-u323 .ensures) (c .index3 .ensures ∙ c .before .count-list .ensures)
 
 pub free-of-spec : {M : Type 1} → statement M
 free-of-spec =

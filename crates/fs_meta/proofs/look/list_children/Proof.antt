@@ -6,11 +6,6 @@ use Rattle.meta_table.specs.Chain.{listAt}
 use Rattle.fs_meta.proofs.Listings.{short-done}
 use Rattle.fs_meta.proofs.look.list_children.Statement.{statement}
 use Rattle.fs_meta.proofs.look.list_children.Tie as tie
-use Rattle.fs_meta.proofs.look.list_children.Reads as reads
-use Rattle.fs_meta.proofs.look.list_children.Lts as lts
-use Rattle.meta_table.proofs.count_list.Reads as count-list-reads
-use Rattle.meta_table.proofs.index.Reads as index-reads
-use Rattle.meta_table.proofs.write_list.Reads as write-list-reads
 
 count-list-requires : tie.Need-count-list-requires
 count-list-requires c κs = search needs

@@ -9,15 +9,13 @@ use Rattle.meta_test.proofs.Cases.{tells-not}
 use Rattle.fs_meta.proofs.Listings.{dir-fits, dirs-end, dirs-listed}
 use Rattle.fs_meta.proofs.look.list_dirs.Statement.{statement}
 use Rattle.fs_meta.proofs.look.list_dirs.Tie as tie
-use Rattle.fs_meta.proofs.look.list_dirs.Reads as reads
-use Rattle.fs_meta.proofs.look.list_dirs.Lts as lts
-use Rattle.fs_meta.proofs.look.list_children.Reads as list-children-reads
-use Rattle.fs_meta.proofs.look.live.Reads as live-reads
-use Rattle.meta_table.proofs.index.Reads as index-reads
-use Rattle.words.proofs.get_u32.Reads as get-u32-reads
 
 live-requires : tie.Need-live-requires
-live-requires c κs = dir-single (tables (c .before .before .before .before .before .args .dir-hash .now) (c .before .before .before .before .before .args .dir-table .now) (c .before .before .before .before .before .args .file-hash .now) (c .before .before .before .before .before .args .file-table .now)) (c .before .before .before .before .before .pre)
+live-requires c κs =
+    let args = c .before .before .before .before .before .args in
+    let at-pre = c .before .before .before .before .before .pre in
+    let s = tables (args .dir-hash .now) (args .dir-table .now) (args .file-hash .now) (args .file-table .now) in
+    dir-single s (at-pre)
 
 returns : tie.Need-returns
 returns c = inl (tells-not (c .before .live .ensures) (not-true _ (c .if1 .taken)), refl)
@@ -41,7 +39,15 @@ same-length : tie.Need-same-length
 same-length c = search needs
 
 returns-2 : tie.Need-returns-2
-returns-2 c = dirs-listed (tables (c .before .before .before .before .before .before .before .before .before .before .before .before .before .args .dir-hash .now) (c .before .before .before .before .before .before .before .before .before .before .before .before .before .args .dir-table .now) (c .before .before .before .before .before .before .before .before .before .before .before .before .before .args .file-hash .now) (c .before .before .before .before .before .before .before .before .before .before .before .before .before .args .file-table .now)) (c .before .before .before .before .before .before .before .before .before .before .before .before .before .pre) (c .before .before .before .before .before .before .before .before .before .before .before .before .before .args .inode) (c .before .before .before .before .before .index .result) (c .before .before .before .before .before .before .before .live .ensures) (not-false _ (c .before .before .before .before .before .before .if1 .left)) (c .before .before .before .before .before .index .ensures) (c .before .before .before .before .get-u32 .result) (c .before .before .before .before .get-u32 .ensures) _ _ (c .before .before .list-children .ensures)
+returns-2 c =
+    let args = c .before .before .before .before .before .before .before .before .before .before .before .before .before .args in
+    let at-pre = c .before .before .before .before .before .before .before .before .before .before .before .before .before .pre in
+    let at-live = c .before .before .before .before .before .before .before .live in
+    let at-if1 = c .before .before .before .before .before .before .if1 in
+    let at-index = c .before .before .before .before .before .index in
+    let at-get-u32 = c .before .before .before .before .get-u32 in
+    let s = tables (args .dir-hash .now) (args .dir-table .now) (args .file-hash .now) (args .file-table .now) in
+    dirs-listed s (at-pre) (args .inode) (at-index .result) (at-live .ensures) (not-false _ (at-if1 .left)) (at-index .ensures) (at-get-u32 .result) (at-get-u32 .ensures) _ _ (c .before .before .list-children .ensures)
 
 pub list-dirs-spec : {M : Type 1} → statement M
 list-dirs-spec =

@@ -1,17 +1,8 @@
-use Prim.Native.Nat.{_+_, _*_, _≤_}
 use native.Mathlib.Omega.{arith}
 use borrow.Author.Needs.{needs}
-use lib.ListN.{length}
 use Rattle.fs_meta.proofs.Live.{first-fits, live-zero, live-beyond, live-inside, in-hash, bucket-there, live-told}
 use Rattle.fs_meta.proofs.look.live.Statement.{statement}
 use Rattle.fs_meta.proofs.look.live.Tie as tie
-use Rattle.fs_meta.proofs.look.live.Reads as reads
-use Rattle.fs_meta.proofs.look.live.Lts as lts
-use Rattle.meta_key.proofs.get_key.Reads as get-key-reads
-use Rattle.meta_key.proofs.hash.Reads as hash-reads
-use Rattle.meta_table.proofs.in_list.Reads as in-list-reads
-use Rattle.meta_table.proofs.index.Reads as index-reads
-use Rattle.words.proofs.get_u32.Reads as get-u32-reads
 
 returns : tie.Need-returns
 returns c = live-zero (c .before .before .before .pre) (c .before .before .before .args .x) (omega arith)
@@ -59,7 +50,12 @@ in-list-requires : tie.Need-in-list-requires
 in-list-requires c κs = (bucket-there (c .before .before .before .before .before .before .before .before .before .before .pre) (c .before .hash .result) (c .get-u322 .result) _ (c .before .hash .ensures) (c .get-u322 .ensures), omega (arith, c .before .before .before .before .before .before .before .before .before .before .pre .wide))
 
 returns-3 : tie.Need-returns-3
-returns-3 c = live-told (c .before .before .before .before .before .before .before .before .before .before .before .pre) (c .before .before .before .before .before .before .before .before .before .before .before .args .x) (c .before .before .before .before .before .index .result) (c .before .before .hash .result) (c .before .get-u322 .result) _ (c .in-list .result) (c .before .before .before .before .before .index .ensures) (c .before .before .before .get-key .ensures) (c .before .before .hash .ensures) (c .before .get-u322 .ensures) (c .in-list .ensures)
+returns-3 c =
+    let args = c .before .before .before .before .before .before .before .before .before .before .before .args in
+    let at-pre = c .before .before .before .before .before .before .before .before .before .before .before .pre in
+    let at-index = c .before .before .before .before .before .index in
+    let at-hash = c .before .before .hash in
+    live-told (at-pre) (args .x) (at-index .result) (at-hash .result) (c .before .get-u322 .result) _ (c .in-list .result) (at-index .ensures) (c .before .before .before .get-key .ensures) (at-hash .ensures) (c .before .get-u322 .ensures) (c .in-list .ensures)
 
 pub live-spec : {M : Type 1} → statement M
 live-spec =

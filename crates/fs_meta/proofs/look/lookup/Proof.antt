@@ -4,11 +4,6 @@ use Rattle.fs_meta.proofs.Live.{in-hash, bucket-there}
 use Rattle.fs_meta.proofs.Lookups.{lookup-none, lookup-done}
 use Rattle.fs_meta.proofs.look.lookup.Statement.{statement}
 use Rattle.fs_meta.proofs.look.lookup.Tie as tie
-use Rattle.fs_meta.proofs.look.lookup.Reads as reads
-use Rattle.fs_meta.proofs.look.lookup.Lts as lts
-use Rattle.meta_key.proofs.hash.Reads as hash-reads
-use Rattle.meta_table.proofs.get.Reads as get-reads
-use Rattle.words.proofs.get_u32.Reads as get-u32-reads
 
 hash-requires : tie.Need-hash-requires
 hash-requires c κs = search needs
@@ -23,10 +18,20 @@ get-requires : tie.Need-get-requires
 get-requires c κs = (bucket-there (c .before .before .before .before .pre) (c .before .hash .result) (c .get-u32 .result) _ (c .before .hash .ensures) (c .get-u32 .ensures), omega (arith, c .before .before .before .before .pre .wide))
 
 returns : tie.Need-returns
-returns c = lookup-none (c .before .before .before .before .before .before .before .pre) _ (c .before .before .before .before .hash .result) (c .before .before .before .get-u32 .result) (c .before .before .get .result) (c .before .before .before .before .hash .ensures) (c .before .before .before .get-u32 .ensures) (c .before .before .get .ensures) (c .if1 .taken)
+returns c =
+    let at-pre = c .before .before .before .before .before .before .before .pre in
+    let at-hash = c .before .before .before .before .hash in
+    let at-get-u32 = c .before .before .before .get-u32 in
+    let at-get = c .before .before .get in
+    lookup-none (at-pre) _ (at-hash .result) (at-get-u32 .result) (at-get .result) (at-hash .ensures) (at-get-u32 .ensures) (at-get .ensures) (c .if1 .taken)
 
 returns-2 : tie.Need-returns-2
-returns-2 c = lookup-done (c .before .before .before .before .before .before .before .pre) _ (c .before .before .before .before .hash .result) (c .before .before .before .get-u32 .result) (c .before .before .get .result) (c .before .before .before .before .hash .ensures) (c .before .before .before .get-u32 .ensures) (c .before .before .get .ensures) (c .if1 .left)
+returns-2 c =
+    let at-pre = c .before .before .before .before .before .before .before .pre in
+    let at-hash = c .before .before .before .before .hash in
+    let at-get-u32 = c .before .before .before .get-u32 in
+    let at-get = c .before .before .get in
+    lookup-done (at-pre) _ (at-hash .result) (at-get-u32 .result) (at-get .result) (at-hash .ensures) (at-get-u32 .ensures) (at-get .ensures) (c .if1 .left)
 
 pub lookup-spec : {M : Type 1} → statement M
 lookup-spec =

@@ -1,24 +1,34 @@
 use Rattle.fs_meta.specs.Tables.{tables}
 use Rattle.fs_meta.proofs.Lists.{dir-single, file-single}
-use borrow.Author.Needs.{needs}
 use Rattle.fs_meta.proofs.look.stat.Statement.{statement}
 use Rattle.fs_meta.proofs.look.stat.Tie as tie
-use Rattle.fs_meta.proofs.look.stat.Reads as reads
-use Rattle.fs_meta.proofs.look.stat.Lts as lts
-use Rattle.fs_meta.proofs.look.free_of.Reads as free-of-reads
-use Rattle.fs_meta.proofs.look.total_of.Reads as total-of-reads
 
 total-of-requires : tie.Need-total-of-requires
-total-of-requires c κs = dir-single (tables (c .before .before .before .before .args .dir-hash .now) (c .before .before .before .before .args .dir-table .now) (c .before .before .before .before .args .file-hash .now) (c .before .before .before .before .args .file-table .now)) (c .before .before .before .before .pre)
+total-of-requires c κs =
+    let args = c .before .before .before .before .args in
+    let s = tables (args .dir-hash .now) (args .dir-table .now) (args .file-hash .now) (args .file-table .now) in
+    dir-single s (c .before .before .before .before .pre)
 
 free-of-requires : tie.Need-free-of-requires
-free-of-requires c κs = dir-single (tables (c .before .before .before .before .before .args .dir-hash .now) (c .before .before .before .before .before .args .dir-table .now) (c .before .before .before .before .before .args .file-hash .now) (c .before .before .before .before .before .args .file-table .now)) (c .before .before .before .before .before .pre)
+free-of-requires c κs =
+    let args = c .before .before .before .before .before .args in
+    let at-pre = c .before .before .before .before .before .pre in
+    let s = tables (args .dir-hash .now) (args .dir-table .now) (args .file-hash .now) (args .file-table .now) in
+    dir-single s (at-pre)
 
 total-of-requires-2 : tie.Need-total-of-requires-2
-total-of-requires-2 c κs = file-single (tables (c .before .before .before .before .before .before .args .dir-hash .now) (c .before .before .before .before .before .before .args .dir-table .now) (c .before .before .before .before .before .before .args .file-hash .now) (c .before .before .before .before .before .before .args .file-table .now)) (c .before .before .before .before .before .before .pre)
+total-of-requires-2 c κs =
+    let args = c .before .before .before .before .before .before .args in
+    let at-pre = c .before .before .before .before .before .before .pre in
+    let s = tables (args .dir-hash .now) (args .dir-table .now) (args .file-hash .now) (args .file-table .now) in
+    file-single s (at-pre)
 
 free-of-requires-2 : tie.Need-free-of-requires-2
-free-of-requires-2 c κs = file-single (tables (c .before .before .before .before .before .before .before .args .dir-hash .now) (c .before .before .before .before .before .before .before .args .dir-table .now) (c .before .before .before .before .before .before .before .args .file-hash .now) (c .before .before .before .before .before .before .before .args .file-table .now)) (c .before .before .before .before .before .before .before .pre)
+free-of-requires-2 c κs =
+    let args = c .before .before .before .before .before .before .before .args in
+    let at-pre = c .before .before .before .before .before .before .before .pre in
+    let s = tables (args .dir-hash .now) (args .dir-table .now) (args .file-hash .now) (args .file-table .now) in
+    file-single s (at-pre)
 
 returns : tie.Need-returns
 returns c = cc

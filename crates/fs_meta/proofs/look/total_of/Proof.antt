@@ -5,10 +5,6 @@ use Rattle.fs_meta.proofs.Listings.{total-is}
 use borrow.Author.Needs.{needs}
 use Rattle.fs_meta.proofs.look.total_of.Statement.{statement}
 use Rattle.fs_meta.proofs.look.total_of.Tie as tie
-use Rattle.fs_meta.proofs.look.total_of.Reads as reads
-use Rattle.fs_meta.proofs.look.total_of.Lts as lts
-use Rattle.meta_table.proofs.index.Reads as index-reads
-use Rattle.words.proofs.get_u32.Reads as get-u32-reads
 
 get-u32-requires : tie.Need-get-u32-requires
 get-u32-requires c κs = omega (arith, first-fits (c .before .before .pre), c .before .before .pre .wide)
