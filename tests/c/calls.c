@@ -117,7 +117,12 @@ static void tree(void)
     named = mukthiban_tree_name(FOUR, WORK, MUKTHIBAN_FILE, 1);
     EXPECT(named.answer == MUKTHIBAN_DONE && memcmp(file_table + named.offset, b, 16) == 0);
     EXPECT(mukthiban_tree_name(FOUR, WORK, MUKTHIBAN_FILE, 2).answer == MUKTHIBAN_NOT_FOUND);
+    work[0] = 7;
     EXPECT(mukthiban_tree_name(FOUR, WORK, 2, 1).answer == MUKTHIBAN_INVALID_VALUE);
+    EXPECT(mukthiban_tree_name(dir_hash, 3, dir_table, sizeof dir_table, file_hash, sizeof file_hash, file_table,
+                               sizeof file_table, WORK, 2, 1)
+               .answer == MUKTHIBAN_SIZE_MISMATCH);
+    EXPECT(work[0] == 7);
 
     EXPECT(mukthiban_tree_carried_dir(FOUR, WORK, 2, bytes4).answer == MUKTHIBAN_DONE);
     EXPECT(memcmp(bytes4, four, 4) == 0);
