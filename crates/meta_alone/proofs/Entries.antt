@@ -11,6 +11,7 @@ use lib.ListN.{length, take, drop}
 use Rattle.links.specs.Links.{_∈_, Links}
 use Rattle.links.specs.Change.{pick}
 use Rattle.links.proofs.Laws.{positive}
+use Rattle.links.proofs.Held.{same-or}
 use Rattle.meta_key.specs.Key.{keyOf, keyWords, sameKey}
 use Rattle.meta_key.specs.Hash.{hashOf}
 use Rattle.meta_key.specs.declared.SaveExtKey.{SaveExtKey}
@@ -19,9 +20,11 @@ use Rattle.meta_table.specs.Field.{field}
 use Rattle.meta_table.specs.View.{keyAt}
 use Rattle.meta_table.specs.Chain.{linkAt, listAt, Ends, seekIn}
 use Rattle.meta_table.specs.declared.Hit.{Hit}
-use Rattle.meta_table.proofs.Chain.{key-part}
+use Rattle.meta_table.proofs.Chain.{key-part, Goes, goes, stops}
 use Rattle.meta_marks.specs.Marks.{gone, Tells}
-use Rattle.meta_alone.specs.Entries.{Apart, Fits}
+use Rattle.meta_marks.specs.Gather.{bucketAt}
+use Rattle.meta_alone.specs.Entries.{Apart, Fits, AllFit}
+use Rattle.meta_alone.specs.Stage.{Bucketed}
 
 -- a search that finds nothing met no entry with the key
 pub seek-none : (key : ℕ → List ℕ) (k xs : List ℕ) (n : ℕ) → ((y : ℕ) → y ∈ xs → 0 < y) → seekIn key k xs n .inode ≡ 0 → (z : ℕ) → z ∈ xs → key z ≡ k → ⊥
@@ -74,3 +77,71 @@ read-key t w {y} {i} e h q = q ∙ key-part w t y (i * w) (ap (λ z. z * w) e) h
 
 pub at-index : (i y w n : ℕ) → i ≡ y → y * w + w ≤ n → i * w + w ≤ n
 at-index i y w n e h = subst (λ z. z * w + w ≤ n) (sym e) h
+
+-- ---- a bucket gone along: the entries before x have P
+
+pub record Going (t : List ℕ) (w first : ℕ) (P : ℕ → Type 0) (x : ℕ) : Type 0 where
+  pub on : Ends t w (w - 4) x
+  pub rest : ((y : ℕ) → y ∈ listAt t w (w - 4) x → P y) → (y : ℕ) → y ∈ listAt t w (w - 4) first → P y
+  pub part : (y : ℕ) → y ∈ listAt t w (w - 4) x → y ∈ listAt t w (w - 4) first
+
+pub going-begin : {t : List ℕ} {w first : ℕ} (P : ℕ → Type 0) → Ends t w (w - 4) first → Going t w first P first
+going-begin P E = record { on = E; rest = λ f. f; part = λ y m. m }
+
+module _ {t : List ℕ} {w first : ℕ} {P : ℕ → Type 0} {x : ℕ} (C : Going t w first P x) where
+  pub going-on : {r : ℕ} {b : Bool} → x ≢ 0 → r ≡ linkAt t w (w - 4) x → Tells (P x) b → b ≡ true → Going t w first P r
+  going-on {r} {b} n e T q =
+      let G = goes (C .on) n e in
+      record {
+        on = G .rest;
+        rest = λ f. C .rest (λ y m.
+            ⊎-elim (λ (u : y ≡ x). subst P (sym u) (T .yes q)) (λ (k : y ∈ listAt t w (w - 4) r). f y k) (subst (λ l. y ∈ l) (G .list) m));
+        part = λ y m. C .part y (subst (λ l. y ∈ l) (sym (G .list)) (inr m));
+      }
+
+  pub going-stop : {b : Bool} → x ≢ 0 → Tells (P x) b → b ≡ false → Tells ((y : ℕ) → y ∈ listAt t w (w - 4) first → P y) false
+  going-stop n T q =
+      let G = goes (C .on) n refl in
+      record {
+        yes = λ e. absurd (false≢true e);
+        only = λ all. absurd (false≢true (sym q ∙ T .only (all x (C .part x (subst (λ l. x ∈ l) (sym (G .list)) (inl refl))))));
+      }
+
+  pub going-done : x ≡ 0 → Tells ((y : ℕ) → y ∈ listAt t w (w - 4) first → P y) true
+  going-done z = record { yes = λ _. C .rest (λ y m. absurd (subst (λ l. y ∈ l) (stops t w (w - 4) x z) m)); only = λ _. refl }
+
+-- ---- all entries, by the buckets
+
+-- whether a mark is there
+pub mark-none : {m : ℕ} → m ≡ 0 → Tells (0 < m) false
+mark-none e = record { yes = λ q. absurd (false≢true q); only = λ p. absurd (omega arith) }
+
+pub mark-some : {m : ℕ} → m ≢ 0 → Tells (0 < m) true
+mark-some {m} n = record { yes = λ _. ⊎-elim (λ (e : m ≡ 0). absurd (n e)) (λ (k : m ≢ 0). omega arith) (same-or m 0); only = λ _. refl }
+
+-- an entry that fits has a mark
+fits-mark : (t : List ℕ) (w buckets y mark : ℕ) → Fits t w buckets y mark → 0 < mark
+fits-mark t w buckets y mark p =
+    ⊎-elim (λ (g : mark ≡ gone). omega arith)
+    (λ (q : (mark ≡ hashOf (keyAt (field w t) y) % buckets + 1) × Apart t w y). let e : mark ≡ hashOf (keyAt (field w t) y) % buckets + 1 = q .0 in omega arith) p
+
+module _ (h t : List ℕ) (w count buckets : ℕ) (W : ℕ → ℕ) (a : Bool) (A : Tells ((y : ℕ) → 0 < y → y < count → 0 < W y) a) where
+  pub entries-bare : a ≡ false → Tells ((y : ℕ) → 0 < y → y < count → Fits t w buckets y (W y)) false
+  entries-bare e = record {
+    yes = λ q. absurd (false≢true q);
+    only = λ all. absurd (false≢true (sym e ∙ A .only (λ y p q. fits-mark t w buckets y (W y) (all y p q))));
+  }
+
+  pub entries-by : a ≡ true → Bucketed h t w count buckets W → (b : Bool) → Tells ((j : ℕ) → 0 < j → j < buckets + 1 → AllFit t w buckets (bucketAt h j) j) b
+      → Tells ((y : ℕ) → 0 < y → y < count → Fits t w buckets y (W y)) b
+  entries-by e S b B = record {
+    yes = λ q y p l.
+        ⊎-elim (λ (z : W y ≡ 0). absurd (let k : 0 < W y = A .yes e y p l in omega arith))
+        (⊎-elim (λ (g : W y ≡ gone). inl g)
+        (λ (k : (0 < W y) × (W y < buckets + 1)). B .yes q (W y) (k .0) (k .1) y (S .marks (W y) (k .0) (k .1) y .1 refl)))
+        (S .only y);
+    only = λ all. B .only (λ j p l y m.
+        let k : W y ≡ j = S .marks j p l y .0 m in
+        let i = S .below y (λ (z : W y ≡ 0). omega arith) in
+        subst (λ z. Fits t w buckets y z) k (all y (i .0) (i .1)));
+  }

@@ -20,12 +20,16 @@ use Rattle.meta_marks.specs.Gather.{Alive, Gathered, Gathers, bucketAt, any, Ke
 use Rattle.meta_marks.proofs.Walks.{within-refl, within-trans, within-more, entry-in}
 use Rattle.meta_tree.specs.Sound.{Table}
 use Rattle.meta_alone.specs.Entries.{Apart, Fits}
-use Rattle.meta_alone.specs.Stage.{Clean, Behind, alone, Front, Sorted, Single}
+use Rattle.meta_alone.specs.Stage.{Clean, Bucketed, alone, Front, Sorted, Single}
 use Rattle.meta_alone.proofs.OneTable.{removed-is, removed-marks, removed-free, own, by-number, behind, buckets-right, keys-apart, marks-right, apart-right, clean-of}
 
 bucket-at : (h : List ℕ) (b : ℕ) → bucketAt h (b + 1) ≡ hashAt h b
 unfolding field
 bucket-at h b = ap (word h) (let e : (b + 1 - 1) * 4 ≡ b * 4 + 0 = omega arith in e)
+
+-- an entry with a bucket's mark has a list behind it
+record Behind (t : List ℕ) (w count : ℕ) (W : ℕ → ℕ) : Type 0 where
+  ends : (y : ℕ) → 0 < y → y < count → (W y ≡ gone → ⊥) → 0 < W y → Ends t w (w - 4) (linkAt t w (w - 4) y)
 
 module _ (h t : List ℕ) (w off : ℕ) (work : List ℕ) (zeros : (y : ℕ) → markAt work off y ≡ 0) where
   abbrev coll : ℕ → ℕ
@@ -76,8 +80,31 @@ module _ (h t : List ℕ) (w off : ℕ) (work : List ℕ) (zeros : (y : ℕ) →
         all : Gathered coll count (bucketAt h) any rem (length h / 4 + 1) (markAt w2 off)
         all = B rem started .good e2
 
+        -- the entries of a bucket lie below count
+        low : (j : ℕ) (p : 0 < j) (l : j < length h / 4 + 1) (y : ℕ) → y ∈ all .list j p l tt .0 → y < count
+        low j p l y m = all .below y (λ (z : markAt w2 off y ≡ 0). let k : markAt w2 off y ≡ j = all .list j p l tt .2 y .0 m in omega arith) .1
+
+        short : (1 ≤ count) → (j : ℕ) (p : 0 < j) (l : j < length h / 4 + 1) → length (all .list j p l tt .0) ≤ 65536
+        short h1 j p l = let s : length (all .list j p l tt .0) < count = fewer coll count (bucketAt h j) (all .list j p l tt .0) h1 (all .list j p l tt .1) (low j p l) in omega arith
+
         -- what the next part asks for
-        pub sorted-behind : Behind t w count (markAt w2 off)
+        pub sorted-bucketed : 1 ≤ count → Bucketed h t w count (length h / 4) (markAt w2 off)
+        sorted-bucketed h1 = record {
+          ends = λ j p l. ends t w (w - 4) (bucketAt h j) (all .list j p l tt .0) (all .list j p l tt .1) (short h1 j p l) (λ z m. entry-in w z count (length t) (low j p l z m) hl);
+          marks = λ j p l y.
+              let e : listAt t w (w - 4) (bucketAt h j) ≡ all .list j p l tt .0 = list-is t w (w - 4) (bucketAt h j) (all .list j p l tt .0) (all .list j p l tt .1) (short h1 j p l) in (
+                λ m. all .list j p l tt .2 y .0 (subst (λ k. y ∈ k) e m),
+                λ m. subst (λ k. y ∈ k) (sym e) (all .list j p l tt .2 y .1 m),
+              );
+          below = all .below;
+          only = λ y.
+              ⊎-elim (λ (z : markAt w2 off y ≡ 0). inl z)
+              (⊎-elim (λ (g : markAt w2 off y ≡ gone). inr (inl g))
+              (λ (k : (0 < markAt w2 off y) × (markAt w2 off y < length h / 4 + 1) × any (markAt w2 off y)). inr (inr (k .0, k .1))))
+              (all .only y);
+        }
+
+        sorted-behind : Behind t w count (markAt w2 off)
         unfolding field
         sorted-behind = record {
           ends = λ y y0 yc n p.
@@ -195,10 +222,10 @@ module _ (h t : List ℕ) (w off : ℕ) {work w1 : List ℕ} {n first : ℕ} {r1
     sort-2 e = sorted-stop-2 h t w off work zeros w1 r1 at e1 w2 r2 lists hb hm inner e
 
     module _ (e2 : r2 ≡ true) (hw : 24 ≤ w) (hl : n * w ≤ length t) (hc : n ≤ 65536) where
-      pub sort-behind : Behind t w n (markAt w2 off)
-      sort-behind =
-          subst (λ z. Behind t w z (markAt w2 off)) (sym en)
-          (sorted-behind h t w off work zeros w1 r1 at e1 w2 r2 lists hb hm inner e2 hw (subst (λ z. z * w ≤ length t) en hl) (subst (λ z. z ≤ 65536) en hc))
+      pub sort-bucketed : 1 ≤ n → Bucketed h t w n (length h / 4) (markAt w2 off)
+      sort-bucketed h1 =
+          subst (λ z. Bucketed h t w z (length h / 4) (markAt w2 off)) (sym en)
+          (sorted-bucketed h t w off work zeros w1 r1 at e1 w2 r2 lists hb hm inner e2 hw (subst (λ z. z * w ≤ length t) en hl) (subst (λ z. z ≤ 65536) en hc) (subst (λ z. 1 ≤ z) en h1))
 
       pub sort-3 : {r3 : Bool} → Tells ((y : ℕ) → 0 < y → y < n → Fits t w (length h / 4) y (markAt w2 off y)) r3 → Sorted h t w off work w2 r3
       sort-3 {r3} C =

@@ -17,3 +17,7 @@ Apart t w y = (z : ℕ) → z ∈ listAt t w (w - 4) (linkAt t w (w - 4) y) → 
 -- entry y, by its mark: removed; or met in the bucket of its own hash, counted from 1, with no equal key behind it
 abbrev pub Fits : List ℕ → ℕ → ℕ → ℕ → ℕ → Type 0
 Fits t w buckets y mark = (mark ≡ gone) ⊎ ((mark ≡ hashOf (keyAt (field w t) y) % buckets + 1) × Apart t w y)
+
+-- every entry of the list from `first` on, by one mark
+abbrev pub AllFit : List ℕ → ℕ → ℕ → ℕ → ℕ → Type 0
+AllFit t w buckets first mark = (y : ℕ) → y ∈ listAt t w (w - 4) first → Fits t w buckets y mark

@@ -8,7 +8,7 @@ use lib.ListN.{length, getD}
 use Rattle.links.specs.Links.{_∈_, Links}
 use Rattle.meta_table.specs.Field.{field}
 use Rattle.meta_table.specs.View.{View, viewOf, hashAt, removedOf}
-use Rattle.meta_table.specs.Chain.{linkAt, Ends}
+use Rattle.meta_table.specs.Chain.{linkAt, listAt, Ends}
 use Rattle.meta_tree.specs.Sound.{Table}
 use Rattle.meta_marks.specs.Marks.{gone, markAt, Within}
 use Rattle.meta_marks.specs.Gather.{Gathered, any, bucketAt}
@@ -19,9 +19,12 @@ pub record Clean (count : ℕ) (R : List ℕ) (W : ℕ → ℕ) : Type 0 where
   pub below : (y : ℕ) → W y ≢ 0 → (0 < y) × (y < count)
   pub only : (y : ℕ) → (W y ≡ 0) ⊎ (W y ≡ gone)
 
--- an entry with a bucket's mark has a list behind it
-pub record Behind (t : List ℕ) (w count : ℕ) (W : ℕ → ℕ) : Type 0 where
-  pub ends : (y : ℕ) → 0 < y → y < count → (W y ≡ gone → ⊥) → 0 < W y → Ends t w (w - 4) (linkAt t w (w - 4) y)
+-- every bucket's list ends and holds exactly the entries with its mark, from 1 below count; any other mark is `gone` or 0
+pub record Bucketed (h t : List ℕ) (w count buckets : ℕ) (W : ℕ → ℕ) : Type 0 where
+  pub ends : (j : ℕ) → 0 < j → j < buckets + 1 → Ends t w (w - 4) (bucketAt h j)
+  pub marks : (j : ℕ) → 0 < j → j < buckets + 1 → (y : ℕ) → y ∈ listAt t w (w - 4) (bucketAt h j) ↔ (W y ≡ j)
+  pub below : (y : ℕ) → W y ≢ 0 → (0 < y) × (y < count)
+  pub only : (y : ℕ) → (W y ≡ 0) ⊎ ((W y ≡ gone) ⊎ ((0 < W y) × (W y < buckets + 1)))
 
 -- one table t of width w with its hash h, whatever its root and child lists
 abbrev pub alone : List ℕ → List ℕ → ℕ → ℕ → (ℕ → ℕ) → View

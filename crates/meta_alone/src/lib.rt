@@ -5,9 +5,10 @@ ghost use Prim.Native.Nat.{ℕ, _+_, _-_, _*_, _/_, _≤_, _<_};
 ghost use lib.ListN.{length};
 ghost use Rattle.meta_table.specs.Chain.{linkAt, Ends};
 ghost use Rattle.meta_marks.specs.Marks.{gone, markAt, Tells};
+ghost use Rattle.meta_marks.specs.Gather.{bucketAt};
 ghost use Rattle.meta_table.specs.Field.{field};
-ghost use Rattle.meta_alone.specs.Entries.{Fits};
-ghost use Rattle.meta_alone.specs.Stage.{Clean, Behind, Sorted, Single};
+ghost use Rattle.meta_alone.specs.Entries.{Fits, AllFit};
+ghost use Rattle.meta_alone.specs.Stage.{Clean, Bucketed, Sorted, Single};
 
 // Whether an entry is removed, or was met in the bucket of its own hash and has no equal key behind it there.
 fn entry_fits(table: &[u8], w: usize, buckets: usize, y: u32, mark: u32) -> bool
@@ -30,8 +31,56 @@ fn entry_fits(table: &[u8], w: usize, buckets: usize, y: u32, mark: u32) -> bool
     hit.inode == 0
 }
 
+// Whether every entry of a bucket fits, from its first one on, by the bucket's mark.
+fn check_bucket(table: &[u8], w: usize, buckets: usize, first: u32, mark: u32) -> bool
+    requires { ⌜ Ends (now table) w (w - 4) first × (24 ≤ w) × (0 < buckets) × (buckets ≤ 65536) ⌝ }
+    ensures { λ r. ⌜ Tells (AllFit (now (table .entry)) w buckets first mark) r ⌝ }
+{
+    let mut x = first;
+    while x != 0 {
+        if !entry_fits(table, w, buckets, x, mark) {
+            return false;
+        }
+        x = meta_table::link_of(table, w, w - 4, x);
+    }
+    true
+}
+
+// Whether the entries of every bucket fit. They are gone along bucket by bucket, so that the entries that are compared stay near.
+fn check_buckets(hash: &[u8], table: &[u8], w: usize, buckets: usize) -> bool
+    requires { ⌜ (buckets * 4 ≤ length (now hash)) × (24 ≤ w) × (0 < buckets) × (buckets ≤ 65536)
+        × ((j : ℕ) → 0 < j → j < buckets + 1 → Ends (now table) w (w - 4) (bucketAt (now hash) j)) ⌝ }
+    ensures { λ r. ⌜ Tells ((j : ℕ) → 0 < j → j < buckets + 1 → AllFit (now (table .entry)) w buckets (bucketAt (now (hash .entry)) j) j) r ⌝ }
+{
+    let mut i: usize = 1;
+    while i <= buckets {
+        let first = words::get_u32(hash, (i - 1) * 4);
+        if !check_bucket(table, w, buckets, first, i as u32) {
+            return false;
+        }
+        i += 1;
+    }
+    true
+}
+
+// Whether every entry has a mark.
+fn all_marked(work: &[u32], off: usize, count: u32) -> bool
+    requires { ⌜ off + count ≤ length (now work) ⌝ }
+    ensures { λ r. ⌜ Tells ((y : ℕ) → 0 < y → y < count → 0 < markAt (now (work .entry)) off y) r ⌝ }
+{
+    let mut y: u32 = 1;
+    while y < count {
+        if work[off + meta_table::index(y)] == 0 {
+            return false;
+        }
+        y += 1;
+    }
+    true
+}
+
 // Whether every entry fits.
 fn check_entries(
+    hash: &[u8],
     table: &[u8],
     w: usize,
     count: u32,
@@ -39,19 +88,14 @@ fn check_entries(
     work: &[u32],
     off: usize,
 ) -> bool
-    requires { ⌜ (count * w ≤ length (now table)) × (24 ≤ w) × (0 < buckets) × (buckets ≤ 65536) × (off + count ≤ length (now work))
-        × Behind (now table) w count (markAt (now work) off) ⌝ }
+    requires { ⌜ (buckets * 4 ≤ length (now hash)) × (24 ≤ w) × (0 < buckets) × (buckets ≤ 65536) × (off + count ≤ length (now work))
+        × Bucketed (now hash) (now table) w count buckets (markAt (now work) off) ⌝ }
     ensures { λ r. ⌜ Tells ((y : ℕ) → 0 < y → y < count → Fits (now (table .entry)) w buckets y (markAt (now (work .entry)) off y)) r ⌝ }
 {
-    let mut y: u32 = 1;
-    while y < count {
-        let m = work[off + meta_table::index(y)];
-        if !entry_fits(table, w, buckets, y, m) {
-            return false;
-        }
-        y += 1;
+    if !all_marked(work, off, count) {
+        return false;
     }
-    true
+    check_buckets(hash, table, w, buckets)
 }
 
 // The removed list, the buckets and the keys of one table, whose marks begin at `off` and are 0.
@@ -68,7 +112,7 @@ fn sort_table(hash: &[u8], table: &[u8], w: usize, count: u32, work: &mut [u32],
     if !meta_marks::mark_buckets(hash, table, w, count, buckets as u32, work, off) {
         return false;
     }
-    check_entries(table, w, count, buckets, work, off)
+    check_entries(hash, table, w, count, buckets, work, off)
 }
 
 // Whether the numbers at a table's front fit its room.

@@ -6,7 +6,7 @@ use native.Mathlib.Nat.{mod-lt}
 use borrow.Author.Tests.{not-true, not-false}
 use lib.ListN.{length, getD, set, take, drop, length-take, length-drop}
 use Rattle.meta_marks.proofs.Walks.{entry-in}
-use Rattle.meta_alone.proofs.Sorting.{sort-1, sort-2, sort-3, sort-behind}
+use Rattle.meta_alone.proofs.Sorting.{sort-1, sort-2, sort-3, sort-bucketed}
 use borrow.Author.Needs.{needs}
 use Rattle.meta_alone.proofs.sort_table.Statement.{statement}
 use Rattle.meta_alone.proofs.sort_table.Tie as tie
@@ -62,13 +62,13 @@ returns-2 c =
 -- src/lib.rt:76:5
 check-entries-requires : tie.Need-check-entries-requires
 check-entries-requires c κs = (
-  search needs,
+  omega arith,
   search needs,
   search needs,
   search needs,
   omega (arith, c .before .before .before .before .before .before .before .before .before .mark-list .ensures .within .size, c .before .before .before .before .mark-buckets .ensures .1 .size),
-  sort-behind (c .before .before .before .before .before .before .before .before .before .before .before .before .before .before .before .args .hash .now) (c .before .before .before .before .before .before .before .before .before .before .before .before .before .before .before .args .table .now) (c .before .before .before .before .before .before .before .before .before .before .before .before .before .before .before .args .w) (c .before .before .before .before .before .before .before .before .before .before .before .before .before .before .before .args .off) (c .before .before .before .before .before .before .before .before .before .before .before .before .before .before .before .pre .0) (c .before .before .before .before .before .before .before .before .before .before .before .link-of .ensures) (c .before .before .before .before .before .before .before .before .before .before .before .before .before .before .before .pre .8) (c .before .before .before .before .before .before .before .before .before .mark-list .ensures) (not-false (c .before .before .before .before .before .before .before .before .before .mark-list .result) (c .before .before .before .before .before .before .if1 .left))
-      (search needs) (search needs) (c .before .before .before .before .mark-buckets .ensures) (not-false (c .before .before .before .before .mark-buckets .result) (c .before .if2 .left)) (search needs) (search needs) (search needs),
+  sort-bucketed (c .before .before .before .before .before .before .before .before .before .before .before .before .before .before .before .args .hash .now) (c .before .before .before .before .before .before .before .before .before .before .before .before .before .before .before .args .table .now) (c .before .before .before .before .before .before .before .before .before .before .before .before .before .before .before .args .w) (c .before .before .before .before .before .before .before .before .before .before .before .before .before .before .before .args .off) (c .before .before .before .before .before .before .before .before .before .before .before .before .before .before .before .pre .0) (c .before .before .before .before .before .before .before .before .before .before .before .link-of .ensures) (c .before .before .before .before .before .before .before .before .before .before .before .before .before .before .before .pre .8) (c .before .before .before .before .before .before .before .before .before .mark-list .ensures) (not-false (c .before .before .before .before .before .before .before .before .before .mark-list .result) (c .before .before .before .before .before .before .if1 .left))
+      (search needs) (search needs) (c .before .before .before .before .mark-buckets .ensures) (not-false (c .before .before .before .before .mark-buckets .result) (c .before .if2 .left)) (search needs) (search needs) (search needs) (search needs),
 )
 
 -- src/lib.rt:63:1

@@ -27,9 +27,24 @@ fn inner<'a>(state: &'a RefCell<Blocks>, lent: &'a Blocks, call: &'a BlockCall) 
     })
 }
 
-fn careful<'a>(state: &'a RefCell<Blocks>, lent: &'a Blocks) -> Option<Side<'a>> {
-    on_bytes(state, lent, |s| {
-        black_box(careful::blocks(&s.table, &mut s.work)).expect("a sound table");
+/// A test changes nothing that it reads, so a short one is run many times within the clock.
+fn often(n: usize) -> usize {
+    (65_536 / n).max(1)
+}
+
+fn careful<'a>(state: &'a RefCell<Blocks>, lent: &'a Blocks, times: usize) -> Option<Side<'a>> {
+    on_bytes(state, lent, move |s| {
+        for _ in 0..times {
+            black_box(careful::blocks(&s.table, &mut s.work)).expect("a sound table");
+        }
+    })
+}
+
+fn tested<'a>(state: &'a RefCell<Blocks>, lent: &'a Blocks, times: usize) -> Option<Side<'a>> {
+    on_bytes(state, lent, move |s| {
+        for _ in 0..times {
+            assert_eq!(black_box(Library.block_call(&BlockCall::Test, s)).number, 0);
+        }
     })
 }
 
@@ -95,12 +110,14 @@ fn tests(sizes: &[usize]) {
         for shape in SHAPES {
             let lent = shapes::volume(shape, *n, 1).lent;
             let (state, volume, buf) = (RefCell::new(lent.clone()), RefCell::new(None), RefCell::new(vec![]));
+            let times = often(*n);
             let sides = [
                 original(&volume, &buf, &lent, &BlockCall::Test),
-                careful(&state, &lent),
-                library(&state, &lent, &BlockCall::Test),
+                careful(&state, &lent, times),
+                tested(&state, &lent, times),
             ];
             let [original, careful, port] = best(sides);
+            let [careful, port] = [careful, port].map(|time| time.map(|all| all / times as f64));
             println!(
                 "| {n} | {shape:?} | {} | {} | {} | {} |",
                 shown(original),
@@ -144,6 +161,9 @@ pub fn run(quick: bool) {
     let asked: Option<usize> = std::env::args().find_map(|word| word.strip_prefix("n=")?.parse().ok());
     let sizes: Vec<usize> = sizes.iter().copied().filter(|n| asked.is_none_or(|asked| asked == *n)).collect();
     tests(&sizes);
+    if super::said("tests") {
+        return;
+    }
     println!("\n### Block table: the calls\n");
     println!("| call | original | port | port's test | own | own / original |\n|---|---|---|---|---|---|");
     for n in &sizes {

@@ -6,6 +6,11 @@ pub mod whole;
 
 use std::time::{Duration, Instant};
 
+/// Whether a word stands on the command line.
+pub fn said(word: &str) -> bool {
+    std::env::args().any(|said| said == word)
+}
+
 /// One of the things that are measured beside each other. `ready` puts things back before each run and is not counted.
 pub struct Side<'a> {
     ready: Box<dyn FnMut() + 'a>,
