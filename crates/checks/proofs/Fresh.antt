@@ -2,22 +2,13 @@
 use mathlib.Core.Path.{_≡_, refl, sym, ap, subst, _∙_}
 use mathlib.Core.List.{List, [], _∷_}
 use mathlib.Core.Logic.{_⊎_, inl, inr, ⊎-elim}
-use mathlib.Core.Bool.{Bool, true, false}
 use Prim.Native.Nat.{ℕ, zero, suc, _<_, _≤_}
 use native.Mathlib.Omega.{arith}
-use lib.Dec.{eqb}
-use borrow.Author.Tests.{eqb-true, eqb-false}
 use Rattle.links.specs.Links.{_∈_, Distinct, Links, Holds}
 use Rattle.links.specs.Change.{walk}
+use Rattle.links.proofs.Held.{same-or}
 use Rattle.meta_table.specs.View.{View, parent, place, removedOf, LiveIn}
 use Rattle.meta_tree.specs.Sound.{Table, Sound, up, Reaches}
-
-pub same-or : (a b : ℕ) → (a ≡ b) ⊎ (a ≡ b → ⊥)
-same-or a b = go (eqb a b) refl
-  where
-    go : (t : Bool) → eqb a b ≡ t → (a ≡ b) ⊎ (a ≡ b → ⊥)
-    go true e = inl (eqb-true a b e)
-    go false e = inr (eqb-false a b e)
 
 walk-none : (next : ℕ → ℕ) (k x : ℕ) → x ≡ 0 → walk next k x ≡ []
 walk-none next zero x e = refl

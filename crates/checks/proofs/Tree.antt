@@ -48,7 +48,8 @@ use Rattle.checks.specs.Tree.{
   lookupRoot,
 }
 use Rattle.checks.proofs.Passes.{own-rows}
-use Rattle.checks.proofs.Fresh.{NoFiles, no-live, Fresh, fresh-sound, Second, second-sound, not-removed, same-or}
+use Rattle.links.proofs.Held.{same-or}
+use Rattle.checks.proofs.Fresh.{NoFiles, no-live, Fresh, fresh-sound, Second, second-sound, not-removed}
 
 pub shows-rootHash : Shows rootHash
 unfolding hashOf mix rotated

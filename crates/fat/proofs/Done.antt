@@ -22,7 +22,8 @@ use Rattle.fat.specs.Calls.{Create, createGives, createRows, createDone,
 use Rattle.fat.specs.Inner.{Volume, Standing, StandingAt, Chain, ChainFrom, joinAt, cutAt, Inside, LastIs, none, node, Beyond, SeekSays, LastAt}
 use Rattle.fat.specs.declared.Sought.{Sought}
 use Rattle.fat.specs.declared.Sought.the-variants.{Within, Past}
-use Rattle.fat.proofs.Joins.{mid-standing, mid-next, mid-size, mid-within, total-append}
+use Rattle.fat_table.proofs.Unchanged.{total-append}
+use Rattle.fat.proofs.Joins.{mid-standing, mid-next, mid-size, mid-within}
 use Rattle.fat.proofs.Few.{free-chain, file-chain, created-few, deleted-few, resized-few, resized-same, both-chain, both-bytes, file-fits}
 use Rattle.fat.proofs.Walks.{Named, named}
 use Rattle.fat.proofs.Hops.{whole-of}

@@ -35,7 +35,8 @@ use Rattle.fat_table.proofs.Writes.{cut-within, cut-between, lay-as, first-same
 use Rattle.fat_table.proofs.Files.{Whole, Seen, SeenFile, seen, seen-file, bytes-lay}
 use Rattle.fat.specs.Inner.{Standing, Chain, ChainFrom, joinAt, endAt, splitAt, cutAt}
 use Rattle.fat.proofs.Over.{Begins, here, there, begins-left, begins-right}
-use Rattle.fat.proofs.Joins.{mid-size, mid-pos, end-relaid, split-relaid, total-append, join-lay, join-chain, join-over}
+use Rattle.fat_table.proofs.Unchanged.{total-append}
+use Rattle.fat.proofs.Joins.{mid-size, mid-pos, end-relaid, split-relaid, join-lay, join-chain, join-over}
 
 -- a cut of two chains in a row, in the first or in the second
 pub cut-first : (F G : List Run) (c : ℕ) → c ≤ total F → (taken (F ++ G) c ≡ taken F c) × (left (F ++ G) c ≡ left F c ++ G)

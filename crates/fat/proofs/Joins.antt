@@ -18,14 +18,11 @@ use Rattle.fat_table.proofs.Layouts.{hits-in, hits-most, hits-split, covers-app
 use Rattle.fat_table.proofs.Laying.{length-lay, apart, keep-holds, inside-of, first-inside, laid-lay}
 use Rattle.fat_table.proofs.Stepped.{read-prev, read-next, read-size}
 use Rattle.fat_table.proofs.Sounds.{holds-node}
+use Rattle.fat_table.proofs.Resizes.{last-inside}
+use Rattle.fat_table.proofs.Unchanged.{total-append}
 use Rattle.fat_table.proofs.Writes.{lastOf, relink, lay-as, lay-after, lay-relink, keep-laid, laid-suffix, first-same}
 use Rattle.fat.specs.Inner.{Standing, Chain, withPrev, joinAt, endAt, splitAt, cutAt}
 use Rattle.fat.proofs.Over.{setNode-link, setNode-beside, Begins, here, there, begins-left, begins-right, begins-covers, relaid-over}
-
-pub last-inside : (n : ℕ) (l : List Run) (p : ℕ) → p ≤ n → empties l ≡ 0 → ((x : ℕ) → covers x l ≤ hits x (run 0 n)) → lastOf l p ≤ n
-last-inside n [] p h e c = h
-last-inside n (r ∷ l) p h e c =
-    last-inside n l (suc (r .start)) (omega (arith, inside-of n r (omega arith) (λ x. omega (arith, c x)))) (omega arith) (λ x. omega (arith, c x))
 
 -- the node x of a chain that stands: what is read of it
 module _ (n : ℕ) (t : Bytes) (P : List Run) (x : Run) (B : List Run) (c : Chain n t (P ++ x ∷ B)) where
@@ -137,10 +134,6 @@ module _ (n : ℕ) (t : Bytes) (g : words.Bytes t) (P : List Run) (x : Run) (B :
       (ap (λ (u : Bytes). setHead u j) (i ∙ ap (λ (u : Bytes). lay B j (setNode u x₂ 0 (first B))) (sym (lay-after t P x x₁ B [] 0 g refl (c .laid)))))
 
 -- join -----------------------------------------------------------------------------------------------
-
-pub total-append : (a b : List Run) → total (a ++ b) ≡ total a + total b
-total-append [] b = omega arith
-total-append (r ∷ a) b = omega (arith, total-append a b)
 
 relink-over : (t : Bytes) (G : List Run) (o p : ℕ) → words.Bytes t → Laid t G o → (file free : List Run) → empties file ≡ 0 → empties free ≡ 0
     → ((z : ℕ) → covers z file + covers z free ≤ 1) → ((b : ℕ) → first G ≡ suc b → Begins b file ⊎ Begins b free)

@@ -19,7 +19,8 @@ use Rattle.fat_table.specs.Chain.{total, sizeAt, chainAt, fileAt}
 use Rattle.fat_table.specs.Steps.{first}
 use Rattle.fat.specs.Blocks.{blocksFrom, blocksOf}
 use Rattle.fat.specs.Inner.{Standing, Chain, ChainFrom, Inside, Beyond, Least}
-use Rattle.fat.proofs.Joins.{mid-size, mid-next, mid-standing, mid-pos, mid-within, total-append}
+use Rattle.fat_table.proofs.Unchanged.{total-append}
+use Rattle.fat.proofs.Joins.{mid-size, mid-next, mid-standing, mid-pos, mid-within}
 use Rattle.fat.proofs.Walks.{Named, named, ended}
 
 pub length-from : (s b : ℕ) → length (blocksFrom s b) ≡ s

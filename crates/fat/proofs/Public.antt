@@ -17,6 +17,7 @@ use Rattle.order.proofs.Beside as rows
 use Rattle.order.proofs.Gate.{gate-given}
 use Rattle.fat_node.specs.Entry.{Bytes}
 use Rattle.fat_node.specs.Sizes.{blocks, Misfit, Outside}
+use Rattle.fat_node.proofs.Sizes.{fit, inside}
 use Rattle.fat_node.proofs.Nodes.{le-or-lt}
 use Rattle.fat_table.specs.Sound.{Sound}
 use Rattle.fat_test.specs.Gate.{blockGate}
@@ -42,20 +43,14 @@ module _ {A : Type 0} (refuse : Answer → A) (t : Bytes) (d l : ℕ) (work : Li
 
 -- what an open gate says of the sizes
 module _ (t : Bytes) (d l : ℕ) (work work′ : List ℕ) (free files : ℕ) (g : Opened t d l work work′ free files) where
-  fits : (length t < 8 → ⊥) × ((length t % 8 ≡ 0 → ⊥) → ⊥)
-  fits = ((λ h. g .none .0 (inl (inl h))), (λ h. g .none .0 (inl (inr h))))
+  fits : length t ≡ 8 * (blocks t + 1)
+  fits = fit t (λ m. g .none .0 (inl m))
 
   pub open-eight : 8 ≤ length t
-  open-eight = ⊎-elim (λ h. h) (λ h. absurd (fits .0 h)) (le-or-lt 8 (length t))
-
-  open-even : length t % 8 ≡ 0
-  open-even = ⊎-elim (λ h. absurd (fits .1 (λ e. omega (arith, h, e)))) (λ h. omega (arith, h)) (le-or-lt 1 (length t % 8))
-
-  open-few : blocks t ≤ 1000000
-  open-few = ⊎-elim (λ h. h) (λ h. absurd (g .none .1 .0 (inl (inr h)))) (le-or-lt (blocks t) 1000000)
+  open-eight = omega (arith, fits)
 
   pub open-volume : Volume (blocks t) t
-  open-volume = record { few = open-few; room = omega (arith, open-eight, open-even); sound = g .sound }
+  open-volume = record { few = inside t (λ o. g .none .1 .0 (inl o)) .1; room = fits; sound = g .sound }
 
   -- data and block length, for read and write
   pub open-data : d ≡ blocks t * l

@@ -22,7 +22,8 @@ use Rattle.fat.specs.Calls.{Change, changeGives, resizeRows, resizeDone}
 use Rattle.fat.specs.Inner.{Volume, Standing, StandingAt, Chain, ChainFrom, joinAt, cutAt, Inside, Beyond, LastAt, CutAt, PlanSays}
 use Rattle.fat.specs.declared.Planned.{Planned}
 use Rattle.fat.specs.declared.Planned.the-variants.{Cut, Same, Full}
-use Rattle.fat.proofs.Joins.{mid-next, total-append}
+use Rattle.fat_table.proofs.Unchanged.{total-append}
+use Rattle.fat.proofs.Joins.{mid-next}
 use Rattle.fat.proofs.Few.{both-is, both-chain, both-bytes, resized-few, resized-same}
 use Rattle.fat.proofs.Walks.{ended}
 use Rattle.fat.proofs.Done.{inside-standing, inside-next, inside-part, inside-size, inside-count}

@@ -11,7 +11,8 @@ use Rattle.fat_node.specs.Node.{Run, run, prevAt, nextAt}
 use Rattle.fat_table.specs.Chain.{total, sizeAt}
 use Rattle.fat_table.specs.Steps.{first}
 use Rattle.fat.specs.Inner.{Standing, Chain, Inside, LastIs, none, node, Beyond}
-use Rattle.fat.proofs.Joins.{mid-size, mid-next, mid-standing, mid-first, mid-pos, total-append}
+use Rattle.fat_table.proofs.Unchanged.{total-append}
+use Rattle.fat.proofs.Joins.{mid-size, mid-next, mid-standing, mid-first, mid-pos}
 
 -- a walk along l that seeks block k₀, at index i, with k blocks to go
 pub record Seeking (l : List Run) (k₀ i last k : ℕ) : Type 0 where

@@ -29,7 +29,8 @@ use Rattle.fat.specs.declared.Sought.{Sought}
 use Rattle.fat.specs.declared.Sought.the-variants.{Within, Past}
 use Rattle.fat_test.specs.Promise.{Opened}
 use Rattle.fat.proofs.Public.{open-data, open-block}
-use Rattle.fat.proofs.Joins.{mid-size, mid-next, mid-standing, mid-pos, mid-within, total-append}
+use Rattle.fat_table.proofs.Unchanged.{total-append}
+use Rattle.fat.proofs.Joins.{mid-size, mid-next, mid-standing, mid-pos, mid-within}
 use Rattle.fat.proofs.Cases.{standing-size}
 use Rattle.fat.proofs.Done.{inside-count, says-within, says-past}
 use Rattle.fat.proofs.Lists.{sets-append}

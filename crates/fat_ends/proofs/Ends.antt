@@ -10,6 +10,8 @@ use lib.ListN.{length, getD, set, replicate, length-set, length-replicate}
 use lib.Seq.{getD-set-same}
 use Rattle.fat_node.specs.Entry.{top, uAt, vAt}
 use Rattle.fat_node.specs.Node.{prevAt, nextAt, NodeAt}
+use Rattle.fat_node.proofs.Nodes.{le-or-lt}
+use Rattle.links.proofs.Held.{same-or}
 use Rattle.fat_table.specs.Sound.{Starts, IsNode, Covered, Path, Reached, Sound, Along, Counted, File}
 use Rattle.fat_table.specs.Sound.Starts.{begin, after}
 use Rattle.fat_table.specs.Sound.Path.{here, on}
@@ -19,17 +21,6 @@ use Rattle.fat_ends.specs.Ends.Packed.{small, one, more}
 use Rattle.fat_ends.proofs.Laws.{none-or-some, inside, set-cases, total-in, total-zeros, zeros-at, one-size, Tiling, tiling-none, tiling-more, tiled, covered}
 
 -- ---- numbers and places
-pub same-or : (x y : ℕ) → (x ≡ y) ⊎ (x ≡ y → ⊥)
-same-or zero zero = inl refl
-same-or zero (suc y) = inr (λ e. omega arith)
-same-or (suc x) zero = inr (λ e. omega arith)
-same-or (suc x) (suc y) = ⊎-elim (λ e. inl (ap suc e)) (λ f. inr (λ e. f (omega arith))) (same-or x y)
-
-pub le-or-lt : (x y : ℕ) → (x ≤ y) ⊎ (y < x)
-le-or-lt zero y = inl (omega arith)
-le-or-lt (suc x) zero = inr (omega arith)
-le-or-lt (suc x) (suc y) = ⊎-elim (λ e. inl (omega arith)) (λ f. inr (omega arith)) (le-or-lt x y)
-
 other : (l : List ℕ) (i v x : ℕ) → (x ≡ i → ⊥) → getD (set l i v) x 0 ≡ getD l x 0
 other l i v x f = ⊎-elim (λ e. absurd (f e)) (λ g. g) (set-cases l i v x)
 

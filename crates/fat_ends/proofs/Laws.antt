@@ -16,9 +16,6 @@ use Rattle.fat_table.specs.Sound.Starts.{begin, after}
 use Rattle.fat_ends.specs.Marks.{total, Tiled}
 
 -- ---- tests
-pub untrue : {A : Type 0} → false ≡ true → A
-untrue e = let z : _≡_ {A = ℕ} 0 1 = cc in absurd (omega arith)
-
 pub none-or-some : (x : ℕ) → (x ≡ 0) ⊎ (0 < x)
 none-or-some zero = inl refl
 none-or-some (suc x) = inr (omega arith)

@@ -1,13 +1,10 @@
 -- What an outcome of each call says, and that a call which may be done is. Assumes nothing.
 use mathlib.Core.Path.{_≡_, refl, sym, ap, subst, subst⁻¹, _∙_}
 use mathlib.Core.List.{List, [], _∷_, _++_}
-use mathlib.Core.Bool.{Bool, true, false}
 use mathlib.Core.Logic.{_≢_, _⊎_, inl, inr, ⊎-elim}
 use Prim.Native.Nat.{ℕ, zero, suc, _+_, _-_, _*_, _/_, _%_, _≤_, _<_}
 use native.Mathlib.Omega.{arith}
-use lib.Dec.{eqb}
 use lib.ListN.{length, getD, replicate, length-replicate}
-use borrow.Author.Tests.{eqb-true, eqb-false}
 use Rattle.words.proofs.Laws as words
 use Rattle.order.specs.First.{Row, row, First}
 use Rattle.order.specs.Given.{None}
@@ -31,6 +28,7 @@ use Rattle.fat_node.specs.Sizes.{blocks, Misfit, Outside}
 use Rattle.fat_node.specs.Format.{formatted, formatGives, formatRows, formatDone, FormatPromise}
 use Rattle.fat_node.specs.declared.Formatted.{Formatted}
 use Rattle.fat_node.proofs.Nodes.{le-or-lt}
+use Rattle.links.proofs.Held.{same-or}
 use Rattle.fat_table.specs.Sound.{Sound, File}
 use Rattle.fat_table.specs.Chain.{total, freeAt, fileAt}
 use Rattle.fat_table.specs.Steps.{created, createdAt, resized, deleted}
@@ -73,16 +71,9 @@ are-bytes t g = record { byte = g }
 pub not-done : (a : Answer) → 1 ≤ numberOf a → a ≡ Done → ⊥
 not-done a h e = omega (arith, h, ap numberOf e)
 
-same-or-not : (a b : ℕ) → (a ≡ b) ⊎ (a ≢ b)
-same-or-not a b = go (eqb a b) refl
-  where
-    go : (x : Bool) → eqb a b ≡ x → (a ≡ b) ⊎ (a ≢ b)
-    go true e = inl (eqb-true a b e)
-    go false e = inr (eqb-false a b e)
-
 -- a number that is not otherwise is so
 pub not-not : (a b : ℕ) → ((a ≡ b → ⊥) → ⊥) → a ≡ b
-not-not a b h = ⊎-elim (λ e. e) (λ e. absurd (h e)) (same-or-not a b)
+not-not a b h = ⊎-elim (λ e. e) (λ e. absurd (h e)) (same-or a b)
 
 pub not-less : (a b : ℕ) → (a < b → ⊥) → b ≤ a
 not-less a b h = ⊎-elim (λ e. e) (λ e. absurd (h e)) (le-or-lt b a)

@@ -1,7 +1,7 @@
 -- Each way out of the test and of the gate, as a fact about the rows. Assumes nothing.
 use mathlib.Core.Path.{_≡_, refl, sym, ap, subst, _∙_}
 use mathlib.Core.List.{List}
-use mathlib.Core.Bool.{Bool, true, false}
+use mathlib.Core.Bool.{true, false}
 use mathlib.Core.Logic.{_⊎_, inl, inr, ⊎-elim}
 use Prim.Native.Nat.{ℕ, _+_, _*_, _/_, _%_, _<_, _≤_}
 use native.Mathlib.Nat.{zero-mul, mul-mod-right, mul-div-right, div-add-mod}
@@ -15,20 +15,14 @@ use Rattle.fat_node.specs.Entry.{Bytes}
 use Rattle.fat_node.specs.Sizes.{blocks, Misfit, Outside}
 use Rattle.fat_table.specs.Sound.{Sound}
 use Rattle.fat_table.specs.Counts.{freeBlocks, otherChains}
-use Rattle.fat_ends.proofs.Ends.{same-or, le-or-lt}
+use Rattle.fat_node.proofs.Cases.{untrue}
 use Rattle.fat_test.specs.Gate.{testGate, blockGate}
 use Rattle.fat_test.specs.Promise.{tested, testRefused, testDone}
 use Rattle.fat_test.specs.declared.Tested.{Tested}
 
-pub untrue : {A : Type 0} → false ≡ true → A
-untrue e = let z : _≡_ {A = ℕ} 0 1 = cc in absurd (omega arith)
-
+-- true is not false
 pub unfalse : {A : Type 0} → true ≡ false → A
-unfalse e = let z : _≡_ {A = ℕ} 0 1 = cc in absurd (omega arith)
-
--- what a test that failed would have shown
-pub unless : {P : Type 0} {r : Bool} → (P → r ≡ true) → r ≡ false → P → ⊥
-unless f e p = unfalse (sym (f p) ∙ e)
+unfalse e = untrue (sym e)
 
 -- ---- d is n times l
 module _ (d n l : ℕ) where
@@ -43,19 +37,6 @@ module _ (d n l : ℕ) where
 
   pub even : d % n ≡ 0 → d / n ≡ l → d ≡ n * l
   even r q = omega (arith, div-add-mod d n, ap (λ (x : ℕ). n * x) q)
-
--- ---- a table whose sizes fit
-pub fits : (t : Bytes) → (Misfit t → ⊥) → (8 ≤ length t) × (length t % 8 ≡ 0)
-fits t f = (
-  ⊎-elim (λ h. h) (λ h. absurd (f (inl h))) (le-or-lt 8 (length t)),
-  ⊎-elim (λ e. e) (λ h. absurd (f (inr h))) (same-or (length t % 8) 0),
-)
-
-pub within : (t : Bytes) → (Outside t → ⊥) → (1 ≤ blocks t) × (blocks t ≤ 1000000)
-within t f = (
-  ⊎-elim (λ h. h) (λ h. absurd (f (inl h))) (le-or-lt 1 (blocks t)),
-  ⊎-elim (λ h. h) (λ h. absurd (f (inr h))) (le-or-lt (blocks t) 1000000),
-)
 
 -- ---- the test
 module _ (t : Bytes) (work : List ℕ) where

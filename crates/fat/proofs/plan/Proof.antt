@@ -34,7 +34,7 @@ head-of-requires : tie.Need-head-of-requires
 head-of-requires c κs = search needs
 
 seek-requires-2 : tie.Need-seek-requires-2
-seek-requires-2 c κs = ((head-chain _ _ (c .before .before .before .before .before .before .pre .0) (record { byte = λ k. omega (arith, c .before .before .before .before .before .shared-slice-known .given k) }) _ (c .head-of .ensures)), (says-past _ _ _ _ _ (c .before .before .before .before .seek .ensures) (c .before .before .sought2 .given .1)) .some)
+seek-requires-2 c κs = ((head-chain _ _ (c .before .before .before .before .before .before .pre .0) (record { byte = λ k. omega (arith, c .before .before .before .before .before .shared-slice-known .given k) }) _ (c .head-of .ensures)), omega (arith, (says-past _ _ _ _ _ (c .before .before .before .before .seek .ensures) (c .before .before .sought2 .given .1)) .some))
 
 enum-known-more : tie.Need-enum-known-more
 enum-known-more c = search needs

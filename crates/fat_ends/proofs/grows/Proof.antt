@@ -1,7 +1,7 @@
 -- `fat_ends::grows` meets its contract. Assumes nothing.
 use native.Mathlib.Omega.{arith}
 use borrow.Author.Needs.{needs}
-use Rattle.fat_ends.proofs.Laws.{untrue}
+use Rattle.fat_node.proofs.Cases.{untrue}
 use Rattle.fat_ends.proofs.grows.Statement.{statement}
 use Rattle.fat_ends.proofs.grows.Tie as tie
 

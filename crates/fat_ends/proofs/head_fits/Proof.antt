@@ -1,5 +1,6 @@
 -- `fat_ends::head_fits` meets its contract. Assumes nothing.
-use Rattle.fat_ends.proofs.Laws.{untrue, inside}
+use Rattle.fat_node.proofs.Cases.{untrue}
+use Rattle.fat_ends.proofs.Laws.{inside}
 use Rattle.fat_node.specs.Node.{prevAt}
 use borrow.Author.Tests.{eqb-true, eq-eqb}
 use lib.ListN.{getD}

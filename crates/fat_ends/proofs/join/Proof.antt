@@ -1,7 +1,7 @@
 -- `fat_ends::join` meets its contract. Assumes nothing.
 use Prim.Native.Nat.{_-_}
 use native.Mathlib.Omega.{arith}
-use Rattle.fat_ends.proofs.Laws.{untrue}
+use Rattle.fat_node.proofs.Cases.{untrue}
 use Rattle.fat_ends.proofs.Ends.{start-of, end-of, ring-broken}
 use borrow.Author.Needs.{needs}
 use Rattle.fat_ends.proofs.join.Statement.{statement}

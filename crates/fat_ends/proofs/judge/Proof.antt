@@ -1,6 +1,6 @@
 -- `fat_ends::judge` meets its contract. Assumes nothing.
 use Rattle.fat_ends.proofs.Ends.{links-ready, head-is, head-fits, tile-covered, free-ready, all-good, sound-long, backs-long}
-use Rattle.fat_ends.proofs.Laws.{untrue}
+use Rattle.fat_node.proofs.Cases.{untrue}
 use Rattle.fat_ends.specs.Ends.{TiledAs}
 use Rattle.fat_table.specs.Sound.{Counted, File}
 use Rattle.fat_node.specs.Reads.{HeadReads}

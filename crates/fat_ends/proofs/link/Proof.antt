@@ -2,7 +2,7 @@
 use mathlib.Core.Path.{sym, _∙_}
 use native.Mathlib.Omega.{arith}
 use borrow.Author.Needs.{needs}
-use Rattle.fat_ends.proofs.Laws.{untrue}
+use Rattle.fat_node.proofs.Cases.{untrue}
 use Rattle.fat_ends.proofs.Ends.{link-none}
 use Rattle.fat_ends.proofs.link.Statement.{statement}
 use Rattle.fat_ends.proofs.link.Tie as tie

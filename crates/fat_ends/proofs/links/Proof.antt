@@ -5,7 +5,7 @@ use native.Mathlib.Omega.{arith}
 use borrow.Author.Needs.{needs}
 use Rattle.fat_table.specs.Sound.{IsNode, Starts}
 use Rattle.fat_ends.specs.Ends.{State}
-use Rattle.fat_ends.proofs.Laws.{untrue}
+use Rattle.fat_node.proofs.Cases.{untrue}
 use Rattle.fat_table.specs.Sound.Starts.{begin, after}
 use Rattle.fat_ends.proofs.Ends.{state-long, linked-on, past-joined, sound-long, ends-differ-n, ends-agree-n}
 use Rattle.fat_ends.proofs.links.Statement.{statement}

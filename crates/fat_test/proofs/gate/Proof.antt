@@ -1,6 +1,7 @@
 -- `fat_test::gate` meets its contract. Assumes nothing.
-use Rattle.fat_test.proofs.Cases.{fits, unless, gate-misfit, gate-uneven, gate-outside, gate-block, gate-short, gate-broken, gate-open}
+use Rattle.fat_test.proofs.Cases.{gate-misfit, gate-uneven, gate-outside, gate-block, gate-short, gate-broken, gate-open}
 use Rattle.fat_node.specs.Sizes.{blocks}
+use Rattle.fat_node.proofs.Sizes.{denied, fit}
 use Rattle.fat_ends.specs.Promise.{Judged}
 use native.Mathlib.Omega.{arith}
 use mathlib.Core.Path.{subst}
@@ -17,7 +18,7 @@ returns c =
     gate-misfit (args .table .now) _ _ (args .work .now) (c .before .misfit .ensures .0 (c .if1 .taken))
 
 sub-n : tie.Need-sub-n
-sub-n c = omega (arith, fits (c .before .before .before .before .args .table .now) (unless (c .before .misfit .ensures .1) (c .if1 .left)))
+sub-n c = omega (arith, fit (c .before .before .before .before .args .table .now) (denied _ (c .before .misfit .ensures .1) (c .if1 .left)))
 
 uneven-requires : tie.Need-uneven-requires
 uneven-requires c κs = search needs
@@ -34,7 +35,7 @@ returns-3 : tie.Need-returns-3
 returns-3 c =
     let args = c .before .before .before .before .before .before .before .before .args in
     let at-misfit = c .before .before .before .before .before .misfit in
-    gate-outside (args .table .now) _ _ (args .work .now) (unless (at-misfit .ensures .1) (c .before .before .before .before .if1 .left)) (c .before .before .before .uneven .ensures .1 (c .before .before .if2 .left)) (c .before .outside .ensures .0 (c .if3 .taken))
+    gate-outside (args .table .now) _ _ (args .work .now) (denied _ (at-misfit .ensures .1) (c .before .before .before .before .if1 .left)) (c .before .before .before .uneven .ensures .1 (c .before .before .if2 .left)) (c .before .outside .ensures .0 (c .if3 .taken))
 
 unfit-requires : tie.Need-unfit-requires
 unfit-requires c κs = search needs
@@ -45,7 +46,7 @@ returns-4 c =
     let at-misfit = c .before .before .before .before .before .before .before .misfit in
     let at-if1 = c .before .before .before .before .before .before .if1 in
     let at-uneven = c .before .before .before .before .before .uneven in
-    gate-block (args .table .now) _ _ (args .work .now) (unless (at-misfit .ensures .1) (at-if1 .left)) (at-uneven .ensures .1 (c .before .before .before .before .if2 .left)) (c .before .unfit .ensures .0 (c .if4 .taken))
+    gate-block (args .table .now) _ _ (args .work .now) (denied _ (at-misfit .ensures .1) (at-if1 .left)) (at-uneven .ensures .1 (c .before .before .before .before .if2 .left)) (c .before .unfit .ensures .0 (c .if4 .taken))
 
 returns-5 : tie.Need-returns-5
 returns-5 c =
@@ -54,11 +55,11 @@ returns-5 c =
     let at-if1 = c .before .before .before .before .before .before .before .if1 in
     let at-uneven = c .before .before .before .before .before .before .uneven in
     let at-if2 = c .before .before .before .before .before .if2 in
-    gate-short (args .table .now) _ _ (args .work .now) (unless (at-misfit .ensures .1) (at-if1 .left)) (at-uneven .ensures .1 (at-if2 .left))
-    (unless (c .before .before .before .before .outside .ensures .1) (c .before .before .before .if3 .left)) (c .before .before .unfit .ensures .1 (c .before .if4 .left)) (c .if5 .taken)
+    gate-short (args .table .now) _ _ (args .work .now) (denied _ (at-misfit .ensures .1) (at-if1 .left)) (at-uneven .ensures .1 (at-if2 .left))
+    (denied _ (c .before .before .before .before .outside .ensures .1) (c .before .before .before .if3 .left)) (c .before .before .unfit .ensures .1 (c .before .if4 .left)) (c .if5 .taken)
 
 verdict-requires : tie.Need-verdict-requires
-verdict-requires c κs = (unless (c .before .before .before .before .before .before .before .before .before .misfit .ensures .1) (c .before .before .before .before .before .before .before .before .if1 .left), (unless (c .before .before .before .before .before .outside .ensures .1) (c .before .before .before .before .if3 .left), omega arith))
+verdict-requires c κs = (denied _ (c .before .before .before .before .before .before .before .before .before .misfit .ensures .1) (c .before .before .before .before .before .before .before .before .if1 .left), (denied _ (c .before .before .before .before .before .outside .ensures .1) (c .before .before .before .before .if3 .left), omega arith))
 
 enum-known-r : tie.Need-enum-known-r
 enum-known-r c = search needs
@@ -71,8 +72,8 @@ same-length c = search needs
 
 returns-6 : tie.Need-returns-6
 returns-6 c =
-    gate-broken (c .before .before .before .before .before .before .before .before .before .before .before .before .before .before .before .before .before .args .table .now) _ _ (c .before .before .before .before .before .before .before .before .before .before .before .before .before .before .before .before .before .args .work .now) (unless (c .before .before .before .before .before .before .before .before .before .before .before .before .before .before .misfit .ensures .1) (c .before .before .before .before .before .before .before .before .before .before .before .before .before .if1 .left)) (c .before .before .before .before .before .before .before .before .before .before .before .before .uneven .ensures .1 (c .before .before .before .before .before .before .before .before .before .before .before .if2 .left))
-    (unless (c .before .before .before .before .before .before .before .before .before .before .outside .ensures .1) (c .before .before .before .before .before .before .before .before .before .if3 .left)) (c .before .before .before .before .before .before .before .before .unfit .ensures .1 (c .before .before .before .before .before .before .before .if4 .left)) (λ s. omega (arith, c .before .before .before .before .before .before .if5 .left)) (c .before .before .before .before .verdict .ensures .1)
+    gate-broken (c .before .before .before .before .before .before .before .before .before .before .before .before .before .before .before .before .before .args .table .now) _ _ (c .before .before .before .before .before .before .before .before .before .before .before .before .before .before .before .before .before .args .work .now) (denied _ (c .before .before .before .before .before .before .before .before .before .before .before .before .before .before .misfit .ensures .1) (c .before .before .before .before .before .before .before .before .before .before .before .before .before .if1 .left)) (c .before .before .before .before .before .before .before .before .before .before .before .before .uneven .ensures .1 (c .before .before .before .before .before .before .before .before .before .before .before .if2 .left))
+    (denied _ (c .before .before .before .before .before .before .before .before .before .before .outside .ensures .1) (c .before .before .before .before .before .before .before .before .before .if3 .left)) (c .before .before .before .before .before .before .before .before .unfit .ensures .1 (c .before .before .before .before .before .before .before .if4 .left)) (λ s. omega (arith, c .before .before .before .before .before .before .if5 .left)) (c .before .before .before .before .verdict .ensures .1)
     (subst (Judged (c .before .before .before .before .before .before .before .before .before .before .before .before .before .before .before .before .before .args .table .now) (blocks (c .before .before .before .before .before .before .before .before .before .before .before .before .before .before .before .before .before .args .table .now))) (c .enum-told .given .1) (c .before .before .before .before .verdict .ensures .0))
 
 cast-t12 : tie.Need-cast-t12
@@ -89,8 +90,8 @@ returns-7 c =
     let v = subst (Judged (c .before .before .before .before .before .before .before .before .before .before .before .before .before .before .before .before .before .before .args .table .now) (blocks (c .before .before .before .before .before .before .before .before .before .before .before .before .before .before .before .before .before .before .args .table .now))) (c .before .r .given .1) (c .before .before .before .before .before .verdict .ensures .0) in
     record {
       none =
-          gate-open (c .before .before .before .before .before .before .before .before .before .before .before .before .before .before .before .before .before .before .args .table .now) _ _ (c .before .before .before .before .before .before .before .before .before .before .before .before .before .before .before .before .before .before .args .work .now) (unless (c .before .before .before .before .before .before .before .before .before .before .before .before .before .before .before .misfit .ensures .1) (c .before .before .before .before .before .before .before .before .before .before .before .before .before .before .if1 .left)) (c .before .before .before .before .before .before .before .before .before .before .before .before .before .uneven .ensures .1 (c .before .before .before .before .before .before .before .before .before .before .before .before .if2 .left))
-          (unless (c .before .before .before .before .before .before .before .before .before .before .before .outside .ensures .1) (c .before .before .before .before .before .before .before .before .before .before .if3 .left)) (c .before .before .before .before .before .before .before .before .before .unfit .ensures .1 (c .before .before .before .before .before .before .before .before .if4 .left)) (λ s. omega (arith, c .before .before .before .before .before .before .before .if5 .left)) (v .0);
+          gate-open (c .before .before .before .before .before .before .before .before .before .before .before .before .before .before .before .before .before .before .args .table .now) _ _ (c .before .before .before .before .before .before .before .before .before .before .before .before .before .before .before .before .before .before .args .work .now) (denied _ (c .before .before .before .before .before .before .before .before .before .before .before .before .before .before .before .misfit .ensures .1) (c .before .before .before .before .before .before .before .before .before .before .before .before .before .before .if1 .left)) (c .before .before .before .before .before .before .before .before .before .before .before .before .before .uneven .ensures .1 (c .before .before .before .before .before .before .before .before .before .before .before .before .if2 .left))
+          (denied _ (c .before .before .before .before .before .before .before .before .before .before .before .outside .ensures .1) (c .before .before .before .before .before .before .before .before .before .before .if3 .left)) (c .before .before .before .before .before .before .before .before .before .unfit .ensures .1 (c .before .before .before .before .before .before .before .before .if4 .left)) (λ s. omega (arith, c .before .before .before .before .before .before .before .if5 .left)) (v .0);
       sound = v .0;
       clear = c .before .before .before .before .before .verdict .ensures .1;
       count = v .1;

@@ -1,6 +1,7 @@
 -- `fat_test::test` meets its contract. Assumes nothing.
-use Rattle.fat_test.proofs.Cases.{fits, unless, test-misfit, test-outside, test-short, test-broken, test-sound}
+use Rattle.fat_test.proofs.Cases.{test-misfit, test-outside, test-short, test-broken, test-sound}
 use Rattle.fat_node.specs.Sizes.{blocks}
+use Rattle.fat_node.proofs.Sizes.{denied, fit}
 use Rattle.fat_ends.specs.Promise.{Judged}
 use native.Mathlib.Omega.{arith}
 use mathlib.Core.Path.{subst}
@@ -20,7 +21,7 @@ returns c =
     test-misfit (args .table .now) (args .work .now) (c .before .before .misfit .ensures .0 (c .before .if1 .taken)) (c .refused .ensures)
 
 sub-n : tie.Need-sub-n
-sub-n c = omega (arith, fits (c .before .before .before .before .args .table .now) (unless (c .before .misfit .ensures .1) (c .if1 .left)))
+sub-n c = omega (arith, fit (c .before .before .before .before .args .table .now) (denied _ (c .before .misfit .ensures .1) (c .if1 .left)))
 
 outside-requires : tie.Need-outside-requires
 outside-requires c κs = search needs
@@ -31,7 +32,7 @@ refused-requires-2 c κs = search needs
 returns-2 : tie.Need-returns-2
 returns-2 c =
     let args = c .before .before .before .before .before .before .before .args in
-    test-outside (args .table .now) (args .work .now) (unless (c .before .before .before .before .misfit .ensures .1) (c .before .before .before .if1 .left)) (c .before .before .outside .ensures .0 (c .before .if2 .taken)) (c .refused2 .ensures)
+    test-outside (args .table .now) (args .work .now) (denied _ (c .before .before .before .before .misfit .ensures .1) (c .before .before .before .if1 .left)) (c .before .before .outside .ensures .0 (c .before .if2 .taken)) (c .refused2 .ensures)
 
 refused-requires-3 : tie.Need-refused-requires-3
 refused-requires-3 c κs = search needs
@@ -40,10 +41,10 @@ returns-3 : tie.Need-returns-3
 returns-3 c =
     let args = c .before .before .before .before .before .before .before .before .args in
     let at-misfit = c .before .before .before .before .before .misfit in
-    test-short (args .table .now) (args .work .now) (unless (at-misfit .ensures .1) (c .before .before .before .before .if1 .left)) (unless (c .before .before .before .outside .ensures .1) (c .before .before .if2 .left)) (c .before .if3 .taken) (c .refused3 .ensures)
+    test-short (args .table .now) (args .work .now) (denied _ (at-misfit .ensures .1) (c .before .before .before .before .if1 .left)) (denied _ (c .before .before .before .outside .ensures .1) (c .before .before .if2 .left)) (c .before .if3 .taken) (c .refused3 .ensures)
 
 verdict-requires : tie.Need-verdict-requires
-verdict-requires c κs = (unless (c .before .before .before .before .before .misfit .ensures .1) (c .before .before .before .before .if1 .left), (unless (c .before .before .before .outside .ensures .1) (c .before .before .if2 .left), omega arith))
+verdict-requires c κs = (denied _ (c .before .before .before .before .before .misfit .ensures .1) (c .before .before .before .before .if1 .left), (denied _ (c .before .before .before .outside .ensures .1) (c .before .before .if2 .left), omega arith))
 
 enum-known-r : tie.Need-enum-known-r
 enum-known-r c = search needs
@@ -59,7 +60,7 @@ same-length c = search needs
 
 returns-4 : tie.Need-returns-4
 returns-4 c =
-    test-broken (c .before .before .before .before .before .before .before .before .before .before .before .before .before .before .args .table .now) (c .before .before .before .before .before .before .before .before .before .before .before .before .before .before .args .work .now) (unless (c .before .before .before .before .before .before .before .before .before .before .before .misfit .ensures .1) (c .before .before .before .before .before .before .before .before .before .before .if1 .left)) (unless (c .before .before .before .before .before .before .before .before .before .outside .ensures .1) (c .before .before .before .before .before .before .before .before .if2 .left))
+    test-broken (c .before .before .before .before .before .before .before .before .before .before .before .before .before .before .args .table .now) (c .before .before .before .before .before .before .before .before .before .before .before .before .before .before .args .work .now) (denied _ (c .before .before .before .before .before .before .before .before .before .before .before .misfit .ensures .1) (c .before .before .before .before .before .before .before .before .before .before .if1 .left)) (denied _ (c .before .before .before .before .before .before .before .before .before .outside .ensures .1) (c .before .before .before .before .before .before .before .before .if2 .left))
     (λ s. omega (arith, c .before .before .before .before .before .before .before .if3 .left)) (c .before .before .before .before .before .verdict .ensures .1)
     (subst (Judged (c .before .before .before .before .before .before .before .before .before .before .before .before .before .before .args .table .now) (blocks (c .before .before .before .before .before .before .before .before .before .before .before .before .before .before .args .table .now))) (c .before .enum-told .given .1) (c .before .before .before .before .before .verdict .ensures .0))
     (c .refused4 .ensures)
@@ -78,7 +79,7 @@ same-length-2 c = search needs
 
 returns-5 : tie.Need-returns-5
 returns-5 c =
-    test-sound (c .before .before .before .before .before .before .before .before .before .before .before .before .before .before .before .args .table .now) (c .before .before .before .before .before .before .before .before .before .before .before .before .before .before .before .args .work .now) (unless (c .before .before .before .before .before .before .before .before .before .before .before .before .misfit .ensures .1) (c .before .before .before .before .before .before .before .before .before .before .before .if1 .left)) (unless (c .before .before .before .before .before .before .before .before .before .before .outside .ensures .1) (c .before .before .before .before .before .before .before .before .before .if2 .left))
+    test-sound (c .before .before .before .before .before .before .before .before .before .before .before .before .before .before .before .args .table .now) (c .before .before .before .before .before .before .before .before .before .before .before .before .before .before .before .args .work .now) (denied _ (c .before .before .before .before .before .before .before .before .before .before .before .before .misfit .ensures .1) (c .before .before .before .before .before .before .before .before .before .before .before .if1 .left)) (denied _ (c .before .before .before .before .before .before .before .before .before .before .outside .ensures .1) (c .before .before .before .before .before .before .before .before .before .if2 .left))
     (λ s. omega (arith, c .before .before .before .before .before .before .before .before .if3 .left)) (c .before .before .before .before .before .before .verdict .ensures .1)
     (subst (Judged (c .before .before .before .before .before .before .before .before .before .before .before .before .before .before .before .args .table .now) (blocks (c .before .before .before .before .before .before .before .before .before .before .before .before .before .before .before .args .table .now))) (c .before .before .r .given .1) (c .before .before .before .before .before .before .verdict .ensures .0))
     (c .done .ensures)

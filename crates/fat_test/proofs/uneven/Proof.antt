@@ -1,5 +1,6 @@
 -- `fat_test::uneven` meets its contract. Assumes nothing.
-use Rattle.fat_test.proofs.Cases.{untrue, unfalse, none-even, even-rem, even-div, even}
+use Rattle.fat_node.proofs.Cases.{untrue}
+use Rattle.fat_test.proofs.Cases.{unfalse, none-even, even-rem, even-div, even}
 use native.Mathlib.Omega.{arith}
 use borrow.Author.Needs.{needs}
 use Rattle.fat_test.proofs.uneven.Statement.{statement}

@@ -1,5 +1,6 @@
 -- `fat_test::unfit` meets its contract. Assumes nothing.
-use Rattle.fat_test.proofs.Cases.{untrue, unfalse}
+use Rattle.fat_node.proofs.Cases.{untrue}
+use Rattle.fat_test.proofs.Cases.{unfalse}
 use native.Mathlib.Omega.{arith}
 use mathlib.Core.Logic.{inl, inr, ⊎-elim}
 use Rattle.fat_test.proofs.unfit.Statement.{statement}

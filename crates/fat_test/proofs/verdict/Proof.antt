@@ -1,5 +1,5 @@
 -- `fat_test::verdict` meets its contract. Assumes nothing.
-use Rattle.fat_test.proofs.Cases.{fits, within}
+use Rattle.fat_node.proofs.Sizes.{fit, inside}
 use Rattle.fat_ends.specs.Promise.{Judged}
 use lib.Seq.{length-take-le}
 use lib.ListN.{length, take, drop, replicate}
@@ -12,7 +12,7 @@ use Rattle.fat_test.proofs.verdict.Statement.{statement}
 use Rattle.fat_test.proofs.verdict.Tie as tie
 
 sub-n : tie.Need-sub-n
-sub-n c = omega (arith, fits (c .before .before .args .table .now) (c .before .before .pre .0))
+sub-n c = omega (arith, fit (c .before .before .args .table .now) (c .before .before .pre .0))
 
 slice-relend-prefix-run : tie.Need-slice-relend-prefix-run
 slice-relend-prefix-run c = search needs
@@ -23,8 +23,8 @@ slice-aggregate-run c = sym (length-take-le (length (c .before .before .before .
 run-requires : tie.Need-run-requires
 run-requires c κs =
     let l : length (take (length (c .before .before .before .args .table .now) / 8 - 1) (c .before .before .before .args .work .now)) ≡ length (c .before .before .before .args .table .now) / 8 - 1 = length-take-le (length (c .before .before .before .args .table .now) / 8 - 1) (c .before .before .before .args .work .now) (omega arith) in
-    let f = fits (c .before .before .before .args .table .now) (c .before .before .before .pre .0) in
-    let g = within (c .before .before .before .args .table .now) (c .before .before .before .pre .1 .0) in
+    let f = fit (c .before .before .before .args .table .now) (c .before .before .before .pre .0) in
+    let g = inside (c .before .before .before .args .table .now) (c .before .before .before .pre .1 .0) in
     (omega arith, (omega arith, omega arith))
 
 same-length : tie.Need-same-length
