@@ -1,5 +1,5 @@
 -- The promise of the name's export, from that of the call and by the kind. Assumes nothing.
-use mathlib.Core.Path.{_≡_, refl, ap, subst⁻¹}
+use mathlib.Core.Path.{_≡_, refl, ap, _∙_, subst⁻¹}
 use mathlib.Core.Bool.{Bool, true, false, not}
 use mathlib.Core.List.{List, [], _∷_}
 use mathlib.Core.Logic.{_⊎_, inl, inr, ⊎-elim}
@@ -13,12 +13,16 @@ use Rattle.order.specs.Answer.{numberOf}
 use Rattle.order.specs.declared.Answer.{Answer}
 use Rattle.order.specs.declared.Answer.the-variants.{Done, NotFound, BrokenTree, SizeMismatch, InvalidValue}
 use Rattle.meta_tree.specs.Sizes.{Misfit, rooms}
+use Rattle.meta_test.specs.Gate.{treeGate}
+use Rattle.meta_test.specs.Promise.{tested, testDone}
+use Rattle.meta_test.specs.declared.Tested.{Tested}
 use Rattle.fs_meta.specs.Tables.{Tables}
 use Rattle.fs_meta.specs.Ready.{LiveAt}
 use Rattle.meta_marks.specs.Marks.{Tells}
 use Rattle.meta_test.proofs.Cases.{tells-not}
 use Rattle.fs_meta.specs.declared.Kind.the-variants.{Directory, File}
 use Rattle.fs_name.specs.Name.{NameAnswerPromise}
+use Rattle.mukthiban.specs.Export.{Exported}
 use Rattle.mukthiban.specs.Name.{Naming, namedGives, placed, nameRows, nameDone, NamePromise}
 
 -- an answer with its place
@@ -46,10 +50,6 @@ pub place-none : (n m at : ℕ) → m ≡ n → (m ≡ 0 → ⊥) → (m ≡ n) 
 place-none zero m at e z = absurd (z e)
 place-none (suc n) m at e z = (e, refl)
 
--- there is an answer with the number n, of which P holds
-abbrev Exported : ℕ → (Answer → Type 0) → Type 0
-Exported n P = (a : Answer) × (n ≡ numberOf a) × P a
-
 module _ (s : Tables) (work w : List ℕ) (kind x n off : ℕ) (a : Answer) (number : n ≡ numberOf a) where
   -- the directories
   pub dir-named : kind ≡ 0 → NameAnswerPromise s work Directory x (beside a w) → off ≡ placed (numberOf a) (x * 40 + 4)
@@ -73,16 +73,40 @@ module _ (s : Tables) (work w : List ℕ) (kind x n off : ℕ) (a : Answer) (num
         (with-place (rooms (s .dirTable) (s .fileTable)) (x * 48 + 4) work w a (λ h. omega (arith, h)) p)),
   )
 
-module _ (s : Tables) (work : List ℕ) (kind x n off : ℕ) where
-  -- another kind: the sizes do not fit, or they do
-  pub other-misfit : Misfit (s .dirHash) (s .dirTable) (s .fileHash) (s .fileTable) → n ≡ 1 → off ≡ 0
-      → Exported n (λ a. NamePromise s work kind x (beside (namedGives a off) work))
-  other-misfit m e z = (SizeMismatch, e, inl (m, ap (λ (o : ℕ). beside (namedGives SizeMismatch o) work) z))
+-- no place goes with a refusal
+pub place-zero : (n : ℕ) → placed n 0 ≡ 0
+place-zero zero = refl
+place-zero (suc n) = refl
 
-  pub other-kind : (Misfit (s .dirHash) (s .dirTable) (s .fileHash) (s .fileTable) → ⊥) → (kind ≡ 0 → ⊥) → (kind ≡ 1 → ⊥) → n ≡ 2 → off ≡ 0
-      → Exported n (λ a. NamePromise s work kind x (beside (namedGives a off) work))
-  other-kind m k k′ e z =
-      (InvalidValue, e, inr (m, inl (inr (beyond-one kind k k′), ap (λ (o : ℕ). beside (namedGives InvalidValue o) work) z)))
+-- the test's first row, from the number that it gives
+module _ (s : Tables) (work : List ℕ) (r : Tested) (w : List ℕ) (n : ℕ) (number : n ≡ numberOf (r .answer)) where
+  abbrev Says : Type 0
+  Says =
+      First (treeGate tested (s .dirHash) (s .dirTable) (s .fileHash) (s .fileTable) work) (testDone (s .dirTable) (s .fileTable) work) (r, w)
+
+  number-of : (o : Tested × List ℕ) → (r, w) ≡ o → n ≡ numberOf (o .0 .answer)
+  number-of o e = number ∙ ap (λ (z : Tested × List ℕ). numberOf (z .0 .answer)) e
+
+  pub one-misfit : n ≡ 1 → Says → Misfit (s .dirHash) (s .dirTable) (s .fileHash) (s .fileTable)
+  one-misfit e (inl p) = p .0
+  one-misfit e (inr (m, inl p)) = absurd (omega (arith, number-of _ (p .1)))
+  one-misfit e (inr (m, inr (i, inl p))) = absurd (omega (arith, number-of _ (p .1)))
+  one-misfit e (inr (m, inr (i, inr (s, inl p)))) = absurd (omega (arith, number-of _ (p .1)))
+  one-misfit e (inr (m, inr (i, inr (s, inr (u, p))))) = absurd (omega (arith, number-of _ p))
+
+  pub other-fits : (n ≡ 1 → ⊥) → Says → Misfit (s .dirHash) (s .dirTable) (s .fileHash) (s .fileTable) → ⊥
+  other-fits f (inl p) m = f (number-of _ (p .1))
+  other-fits f (inr p) m = p .0 m
+
+-- another kind: the sizes do not fit, or they do
+module _ (s : Tables) (work : List ℕ) (kind x n off : ℕ) (a : Answer) (number : n ≡ numberOf a) (place : off ≡ placed (numberOf a) 0) where
+  gives : (b : Answer) → a ≡ b → beside (namedGives a off) work ≡ beside (namedGives b 0) work
+  gives b e = ap (λ (z : Answer). beside (namedGives z off) work) e ∙ ap (λ (o : ℕ). beside (namedGives b o) work) (place ∙ place-zero (numberOf a))
+
+  pub other-named : First (row (Misfit (s .dirHash) (s .dirTable) (s .fileHash) (s .fileTable)) SizeMismatch ∷ []) InvalidValue a
+      → (kind ≡ 0 → ⊥) → (kind ≡ 1 → ⊥) → Exported n (λ a. NamePromise s work kind x (beside (namedGives a off) work))
+  other-named (inl p) k k′ = (a, number, inl (p .0, gives SizeMismatch (p .1)))
+  other-named (inr p) k k′ = (a, number, inr (p .0, inl (inr (beyond-one kind k k′), gives InvalidValue (p .1))))
     where
       beyond-one : (k : ℕ) → (k ≡ 0 → ⊥) → (k ≡ 1 → ⊥) → 1 < k
       beyond-one zero p q = absurd (p refl)

@@ -3,11 +3,11 @@ ghost use mathlib.Core.Path.{_≡_};
 ghost use lib.ListN.{length};
 ghost use Rattle.order.specs.Answer.{numberOf};
 ghost use Rattle.fat.specs.Promise.{beside};
-ghost use Rattle.order.specs.declared.Answer.{Answer};
 ghost use Rattle.fat_node.specs.Format.{FormatPromise};
 ghost use Rattle.fat_node.specs.declared.Formatted.{Formatted};
 ghost use Rattle.fat_test.specs.Promise.{TestPromise, tested};
 ghost use Rattle.fat.specs.Calls.{CreatePromise, createGives, ResizePromise, DeletePromise, changeGives, ListPromise, listGives, ReadPromise, WritePromise, carryGives};
+ghost use Rattle.mukthiban.specs.Export.{Exported};
 use crate::Created;
 use crate::Listed;
 use crate::Plain;
@@ -26,7 +26,7 @@ pub extern "C" fn mukthiban_fat_format(table: &mut [u8]) -> Plain
 
 #[no_mangle]
 pub extern "C" fn mukthiban_fat_test(table: &[u8], work: &mut [u32]) -> Tested
-    ensures { λ p. ⌜ ((a : Answer) × (p .answer ≡ numberOf a) × TestPromise (now (table .entry)) (now (work .entry)) (tested a (p .free) (p .files), now (work .exit))) ⌝ }
+    ensures { λ p. ⌜ Exported (p .answer) (λ a. TestPromise (now (table .entry)) (now (work .entry)) (tested a (p .free) (p .files), now (work .exit))) ⌝ }
 {
     let r = fat_test::test(table, work);
     let answer = r.answer;
@@ -45,7 +45,7 @@ pub extern "C" fn mukthiban_fat_create(
     work: &mut [u32],
     block_count: usize,
 ) -> Created
-    ensures { λ p. ⌜ ((a : Answer) × (p .answer ≡ numberOf a) × CreatePromise (now (table .entry)) (length (now («data» .entry))) «block_len» (now (work .entry)) «block_count» (beside (createGives a (p .«first_block») (now (table .exit))) (now (work .exit)))) ⌝ }
+    ensures { λ p. ⌜ Exported (p .answer) (λ a. CreatePromise (now (table .entry)) (length (now («data» .entry))) «block_len» (now (work .entry)) «block_count» (beside (createGives a (p .«first_block») (now (table .exit))) (now (work .exit)))) ⌝ }
 {
     let r = fat::create(table, data, block_len, work, block_count);
     let answer = r.answer;
@@ -64,7 +64,7 @@ pub extern "C" fn mukthiban_fat_resize(
     first_block: usize,
     block_count: usize,
 ) -> Plain
-    ensures { λ p. ⌜ ((a : Answer) × (p .answer ≡ numberOf a) × ResizePromise (now (table .entry)) (length (now («data» .entry))) «block_len» (now (work .entry)) «first_block» «block_count» (beside (changeGives a (now (table .exit))) (now (work .exit)))) ⌝ }
+    ensures { λ p. ⌜ Exported (p .answer) (λ a. ResizePromise (now (table .entry)) (length (now («data» .entry))) «block_len» (now (work .entry)) «first_block» «block_count» (beside (changeGives a (now (table .exit))) (now (work .exit)))) ⌝ }
 {
     let r = fat::resize(table, data, block_len, work, first_block, block_count);
     let answer = r.answer;
@@ -81,7 +81,7 @@ pub extern "C" fn mukthiban_fat_delete(
     work: &mut [u32],
     first_block: usize,
 ) -> Plain
-    ensures { λ p. ⌜ ((a : Answer) × (p .answer ≡ numberOf a) × DeletePromise (now (table .entry)) (length (now («data» .entry))) «block_len» (now (work .entry)) «first_block» (beside (changeGives a (now (table .exit))) (now (work .exit)))) ⌝ }
+    ensures { λ p. ⌜ Exported (p .answer) (λ a. DeletePromise (now (table .entry)) (length (now («data» .entry))) «block_len» (now (work .entry)) «first_block» (beside (changeGives a (now (table .exit))) (now (work .exit)))) ⌝ }
 {
     let r = fat::delete(table, data, block_len, work, first_block);
     let answer = r.answer;
@@ -99,7 +99,7 @@ pub extern "C" fn mukthiban_fat_open_list(
     first_block: usize,
     list: &mut [u32],
 ) -> Listed
-    ensures { λ p. ⌜ ((a : Answer) × (p .answer ≡ numberOf a) × ListPromise (now (table .entry)) (length (now («data» .entry))) «block_len» (now (work .entry)) «first_block» (now (list .entry)) (beside (listGives a (p .count) (now (list .exit))) (now (work .exit)))) ⌝ }
+    ensures { λ p. ⌜ Exported (p .answer) (λ a. ListPromise (now (table .entry)) (length (now («data» .entry))) «block_len» (now (work .entry)) «first_block» (now (list .entry)) (beside (listGives a (p .count) (now (list .exit))) (now (work .exit)))) ⌝ }
 {
     let r = fat::open_list(table, data, block_len, work, first_block, list);
     let answer = r.answer;
@@ -119,7 +119,7 @@ pub extern "C" fn mukthiban_fat_read(
     pos: usize,
     buf: &mut [u8],
 ) -> Plain
-    ensures { λ p. ⌜ ((a : Answer) × (p .answer ≡ numberOf a) × ReadPromise (now (table .entry)) (now («data» .entry)) «block_len» (now (work .entry)) «first_block» pos (now (buf .entry)) (beside (carryGives a (now (buf .exit))) (now (work .exit)))) ⌝ }
+    ensures { λ p. ⌜ Exported (p .answer) (λ a. ReadPromise (now (table .entry)) (now («data» .entry)) «block_len» (now (work .entry)) «first_block» pos (now (buf .entry)) (beside (carryGives a (now (buf .exit))) (now (work .exit)))) ⌝ }
 {
     let r = fat_data::read(table, data, block_len, work, first_block, pos, buf);
     let answer = r.answer;
@@ -138,7 +138,7 @@ pub extern "C" fn mukthiban_fat_write(
     pos: usize,
     buf: &[u8],
 ) -> Plain
-    ensures { λ p. ⌜ ((a : Answer) × (p .answer ≡ numberOf a) × WritePromise (now (table .entry)) (now («data» .entry)) «block_len» (now (work .entry)) «first_block» pos (now (buf .entry)) (beside (carryGives a (now («data» .exit))) (now (work .exit)))) ⌝ }
+    ensures { λ p. ⌜ Exported (p .answer) (λ a. WritePromise (now (table .entry)) (now («data» .entry)) «block_len» (now (work .entry)) «first_block» pos (now (buf .entry)) (beside (carryGives a (now («data» .exit))) (now (work .exit)))) ⌝ }
 {
     let r = fat_data::write(table, data, block_len, work, first_block, pos, buf);
     let answer = r.answer;

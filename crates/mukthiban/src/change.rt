@@ -1,11 +1,9 @@
 // The calls that change the entry tables: make, rename and delete.
-ghost use mathlib.Core.Path.{_≡_};
-ghost use Rattle.order.specs.Answer.{numberOf};
-ghost use Rattle.order.specs.declared.Answer.{Answer};
 ghost use Rattle.order.specs.Beside.{beside};
 ghost use Rattle.fs_meta.specs.Tables.{tables};
 ghost use Rattle.fs_meta.specs.Calls.{makeGives, changeGives};
 ghost use Rattle.fs_meta.specs.Public.{MakeDirPromise, MakeFilePromise, RenameDirPromise, RenameFilePromise, DeleteDirPromise, DeleteFilePromise};
+ghost use Rattle.mukthiban.specs.Export.{Exported};
 use crate::Made;
 use crate::Plain;
 
@@ -21,7 +19,7 @@ pub extern "C" fn mukthiban_tree_make_dir(
     name: &[u8; 16],
     carried: &[u8; 4],
 ) -> Made
-    ensures { λ p. ⌜ ((a : Answer) × (p .answer ≡ numberOf a) × MakeDirPromise (tables (now («dir_hash» .entry)) (now («dir_table» .entry)) (now («file_hash» .entry)) (now («file_table» .entry))) (now (opens .entry)) (now (work .entry)) parent (now (name .entry)) (now (carried .entry)) (beside (makeGives a (p .inode) (tables (now («dir_hash» .exit)) (now («dir_table» .exit)) (now («file_hash» .entry)) (now («file_table» .entry))) (now (opens .exit))) (now (work .exit)))) ⌝ }
+    ensures { λ p. ⌜ Exported (p .answer) (λ a. MakeDirPromise (tables (now («dir_hash» .entry)) (now («dir_table» .entry)) (now («file_hash» .entry)) (now («file_table» .entry))) (now (opens .entry)) (now (work .entry)) parent (now (name .entry)) (now (carried .entry)) (beside (makeGives a (p .inode) (tables (now («dir_hash» .exit)) (now («dir_table» .exit)) (now («file_hash» .entry)) (now («file_table» .entry))) (now (opens .exit))) (now (work .exit)))) ⌝ }
 {
     let r = fs_changes::make_dir(
         dir_hash,
@@ -53,7 +51,7 @@ pub extern "C" fn mukthiban_tree_make_file(
     name: &[u8; 16],
     carried: &[u8; 20],
 ) -> Made
-    ensures { λ p. ⌜ ((a : Answer) × (p .answer ≡ numberOf a) × MakeFilePromise (tables (now («dir_hash» .entry)) (now («dir_table» .entry)) (now («file_hash» .entry)) (now («file_table» .entry))) (now (opens .entry)) (now (work .entry)) parent (now (name .entry)) (now (carried .entry)) (beside (makeGives a (p .inode) (tables (now («dir_hash» .entry)) (now («dir_table» .exit)) (now («file_hash» .exit)) (now («file_table» .exit))) (now (opens .exit))) (now (work .exit)))) ⌝ }
+    ensures { λ p. ⌜ Exported (p .answer) (λ a. MakeFilePromise (tables (now («dir_hash» .entry)) (now («dir_table» .entry)) (now («file_hash» .entry)) (now («file_table» .entry))) (now (opens .entry)) (now (work .entry)) parent (now (name .entry)) (now (carried .entry)) (beside (makeGives a (p .inode) (tables (now («dir_hash» .entry)) (now («dir_table» .exit)) (now («file_hash» .exit)) (now («file_table» .exit))) (now (opens .exit))) (now (work .exit)))) ⌝ }
 {
     let r = fs_changes::make_file(
         dir_hash,
@@ -85,7 +83,7 @@ pub extern "C" fn mukthiban_tree_rename_dir(
     parent: u32,
     name: &[u8; 16],
 ) -> Plain
-    ensures { λ p. ⌜ ((a : Answer) × (p .answer ≡ numberOf a) × RenameDirPromise (tables (now («dir_hash» .entry)) (now («dir_table» .entry)) (now («file_hash» .entry)) (now («file_table» .entry))) (now (opens .entry)) (now (work .entry)) inode parent (now (name .entry)) (beside (changeGives a (tables (now («dir_hash» .exit)) (now («dir_table» .exit)) (now («file_hash» .entry)) (now («file_table» .entry))) (now (opens .entry))) (now (work .exit)))) ⌝ }
+    ensures { λ p. ⌜ Exported (p .answer) (λ a. RenameDirPromise (tables (now («dir_hash» .entry)) (now («dir_table» .entry)) (now («file_hash» .entry)) (now («file_table» .entry))) (now (opens .entry)) (now (work .entry)) inode parent (now (name .entry)) (beside (changeGives a (tables (now («dir_hash» .exit)) (now («dir_table» .exit)) (now («file_hash» .entry)) (now («file_table» .entry))) (now (opens .entry))) (now (work .exit)))) ⌝ }
 {
     let answer = fs_changes::rename_dir(
         dir_hash,
@@ -115,7 +113,7 @@ pub extern "C" fn mukthiban_tree_rename_file(
     parent: u32,
     name: &[u8; 16],
 ) -> Plain
-    ensures { λ p. ⌜ ((a : Answer) × (p .answer ≡ numberOf a) × RenameFilePromise (tables (now («dir_hash» .entry)) (now («dir_table» .entry)) (now («file_hash» .entry)) (now («file_table» .entry))) (now (opens .entry)) (now (work .entry)) inode parent (now (name .entry)) (beside (changeGives a (tables (now («dir_hash» .entry)) (now («dir_table» .exit)) (now («file_hash» .exit)) (now («file_table» .exit))) (now (opens .entry))) (now (work .exit)))) ⌝ }
+    ensures { λ p. ⌜ Exported (p .answer) (λ a. RenameFilePromise (tables (now («dir_hash» .entry)) (now («dir_table» .entry)) (now («file_hash» .entry)) (now («file_table» .entry))) (now (opens .entry)) (now (work .entry)) inode parent (now (name .entry)) (beside (changeGives a (tables (now («dir_hash» .entry)) (now («dir_table» .exit)) (now («file_hash» .exit)) (now («file_table» .exit))) (now (opens .entry))) (now (work .exit)))) ⌝ }
 {
     let answer = fs_changes::rename_file(
         dir_hash,
@@ -143,7 +141,7 @@ pub extern "C" fn mukthiban_tree_delete_dir(
     opens: &mut [u32],
     inode: u32,
 ) -> Plain
-    ensures { λ p. ⌜ ((a : Answer) × (p .answer ≡ numberOf a) × DeleteDirPromise (tables (now («dir_hash» .entry)) (now («dir_table» .entry)) (now («file_hash» .entry)) (now («file_table» .entry))) (now (opens .entry)) (now (work .entry)) inode (beside (changeGives a (tables (now («dir_hash» .exit)) (now («dir_table» .exit)) (now («file_hash» .entry)) (now («file_table» .entry))) (now (opens .exit))) (now (work .exit)))) ⌝ }
+    ensures { λ p. ⌜ Exported (p .answer) (λ a. DeleteDirPromise (tables (now («dir_hash» .entry)) (now («dir_table» .entry)) (now («file_hash» .entry)) (now («file_table» .entry))) (now (opens .entry)) (now (work .entry)) inode (beside (changeGives a (tables (now («dir_hash» .exit)) (now («dir_table» .exit)) (now («file_hash» .entry)) (now («file_table» .entry))) (now (opens .exit))) (now (work .exit)))) ⌝ }
 {
     let answer = fs_changes::delete_dir(
         dir_hash,
@@ -169,7 +167,7 @@ pub extern "C" fn mukthiban_tree_delete_file(
     opens: &mut [u32],
     inode: u32,
 ) -> Plain
-    ensures { λ p. ⌜ ((a : Answer) × (p .answer ≡ numberOf a) × DeleteFilePromise (tables (now («dir_hash» .entry)) (now («dir_table» .entry)) (now («file_hash» .entry)) (now («file_table» .entry))) (now (opens .entry)) (now (work .entry)) inode (beside (changeGives a (tables (now («dir_hash» .entry)) (now («dir_table» .exit)) (now («file_hash» .exit)) (now («file_table» .exit))) (now (opens .exit))) (now (work .exit)))) ⌝ }
+    ensures { λ p. ⌜ Exported (p .answer) (λ a. DeleteFilePromise (tables (now («dir_hash» .entry)) (now («dir_table» .entry)) (now («file_hash» .entry)) (now («file_table» .entry))) (now (opens .entry)) (now (work .entry)) inode (beside (changeGives a (tables (now («dir_hash» .entry)) (now («dir_table» .exit)) (now («file_hash» .exit)) (now («file_table» .exit))) (now (opens .exit))) (now (work .exit)))) ⌝ }
 {
     let answer = fs_changes::delete_file(
         dir_hash,

@@ -1,11 +1,9 @@
 // The calls that look at the entry tables, and those that touch open counts and carried bytes alone.
-ghost use mathlib.Core.Path.{_≡_};
-ghost use Rattle.order.specs.Answer.{numberOf};
-ghost use Rattle.order.specs.declared.Answer.{Answer};
 ghost use Rattle.order.specs.Beside.{beside};
 ghost use Rattle.fs_meta.specs.Tables.{tables, dirs, files};
 ghost use Rattle.fs_meta.specs.Calls.{lookupGives, listGives, statGives, shownGives, carryGives, openingGives};
 ghost use Rattle.fs_meta.specs.Public.{LookupPromise, ListPromise, StatPromise, CarriedDirPromise, CarriedFilePromise, SetCarriedDirPromise, SetCarriedFilePromise, OpenDirPromise, OpenFilePromise, CloseDirPromise, CloseFilePromise};
+ghost use Rattle.mukthiban.specs.Export.{Exported};
 use crate::Found;
 use crate::Listed;
 use crate::Plain;
@@ -21,7 +19,7 @@ pub extern "C" fn mukthiban_tree_lookup_dir(
     parent: u32,
     name: &[u8; 16],
 ) -> Found
-    ensures { λ p. ⌜ ((a : Answer) × (p .answer ≡ numberOf a) × LookupPromise (tables (now («dir_hash» .entry)) (now («dir_table» .entry)) (now («file_hash» .entry)) (now («file_table» .entry))) (dirs (tables (now («dir_hash» .entry)) (now («dir_table» .entry)) (now («file_hash» .entry)) (now («file_table» .entry)))) (now (work .entry)) parent (now (name .entry)) (beside (lookupGives a (p .inode) (p .compared)) (now (work .exit)))) ⌝ }
+    ensures { λ p. ⌜ Exported (p .answer) (λ a. LookupPromise (tables (now («dir_hash» .entry)) (now («dir_table» .entry)) (now («file_hash» .entry)) (now («file_table» .entry))) (dirs (tables (now («dir_hash» .entry)) (now («dir_table» .entry)) (now («file_hash» .entry)) (now («file_table» .entry)))) (now (work .entry)) parent (now (name .entry)) (beside (lookupGives a (p .inode) (p .compared)) (now (work .exit)))) ⌝ }
 {
     let r = fs_calls::lookup_dir(
         dir_hash,
@@ -50,7 +48,7 @@ pub extern "C" fn mukthiban_tree_list_dirs(
     inode: u32,
     list: &mut [u32],
 ) -> Listed
-    ensures { λ p. ⌜ ((a : Answer) × (p .answer ≡ numberOf a) × ListPromise (tables (now («dir_hash» .entry)) (now («dir_table» .entry)) (now («file_hash» .entry)) (now («file_table» .entry))) (dirs (tables (now («dir_hash» .entry)) (now («dir_table» .entry)) (now («file_hash» .entry)) (now («file_table» .entry)))) (now (work .entry)) inode (now (list .entry)) (beside (listGives a (p .count) (now (list .exit))) (now (work .exit)))) ⌝ }
+    ensures { λ p. ⌜ Exported (p .answer) (λ a. ListPromise (tables (now («dir_hash» .entry)) (now («dir_table» .entry)) (now («file_hash» .entry)) (now («file_table» .entry))) (dirs (tables (now («dir_hash» .entry)) (now («dir_table» .entry)) (now («file_hash» .entry)) (now («file_table» .entry)))) (now (work .entry)) inode (now (list .entry)) (beside (listGives a (p .count) (now (list .exit))) (now (work .exit)))) ⌝ }
 {
     let r = fs_calls::list_dirs(
         dir_hash,
@@ -78,7 +76,7 @@ pub extern "C" fn mukthiban_tree_carried_dir(
     inode: u32,
     carried: &mut [u8; 4],
 ) -> Plain
-    ensures { λ p. ⌜ ((a : Answer) × (p .answer ≡ numberOf a) × CarriedDirPromise (tables (now («dir_hash» .entry)) (now («dir_table» .entry)) (now («file_hash» .entry)) (now («file_table» .entry))) (now (work .entry)) inode (beside (shownGives a (now (carried .exit))) (now (work .exit)))) ⌝ }
+    ensures { λ p. ⌜ Exported (p .answer) (λ a. CarriedDirPromise (tables (now («dir_hash» .entry)) (now («dir_table» .entry)) (now («file_hash» .entry)) (now («file_table» .entry))) (now (work .entry)) inode (beside (shownGives a (now (carried .exit))) (now (work .exit)))) ⌝ }
 {
     let r = fs_calls::carried_dir(dir_hash, dir_table, file_hash, file_table, work, inode);
     let bytes = r.bytes;
@@ -99,7 +97,7 @@ pub extern "C" fn mukthiban_tree_set_carried_dir(
     inode: u32,
     carried: &[u8; 4],
 ) -> Plain
-    ensures { λ p. ⌜ ((a : Answer) × (p .answer ≡ numberOf a) × SetCarriedDirPromise (tables (now («dir_hash» .entry)) (now («dir_table» .entry)) (now («file_hash» .entry)) (now («file_table» .entry))) (now (work .entry)) inode (now (carried .entry)) (beside (carryGives a (tables (now («dir_hash» .entry)) (now («dir_table» .exit)) (now («file_hash» .entry)) (now («file_table» .entry)))) (now (work .exit)))) ⌝ }
+    ensures { λ p. ⌜ Exported (p .answer) (λ a. SetCarriedDirPromise (tables (now («dir_hash» .entry)) (now («dir_table» .entry)) (now («file_hash» .entry)) (now («file_table» .entry))) (now (work .entry)) inode (now (carried .entry)) (beside (carryGives a (tables (now («dir_hash» .entry)) (now («dir_table» .exit)) (now («file_hash» .entry)) (now («file_table» .entry)))) (now (work .exit)))) ⌝ }
 {
     let bytes = *carried;
     let answer = fs_calls::set_carried_dir(
@@ -126,7 +124,7 @@ pub extern "C" fn mukthiban_tree_open_dir(
     opens: &mut [u32],
     inode: u32,
 ) -> Plain
-    ensures { λ p. ⌜ ((a : Answer) × (p .answer ≡ numberOf a) × OpenDirPromise (tables (now («dir_hash» .entry)) (now («dir_table» .entry)) (now («file_hash» .entry)) (now («file_table» .entry))) (now (opens .entry)) (now (work .entry)) inode (beside (openingGives a (now (opens .exit))) (now (work .exit)))) ⌝ }
+    ensures { λ p. ⌜ Exported (p .answer) (λ a. OpenDirPromise (tables (now («dir_hash» .entry)) (now («dir_table» .entry)) (now («file_hash» .entry)) (now («file_table» .entry))) (now (opens .entry)) (now (work .entry)) inode (beside (openingGives a (now (opens .exit))) (now (work .exit)))) ⌝ }
 {
     let answer = fs_calls::open_dir(
         dir_hash,
@@ -152,7 +150,7 @@ pub extern "C" fn mukthiban_tree_close_dir(
     opens: &mut [u32],
     inode: u32,
 ) -> Plain
-    ensures { λ p. ⌜ ((a : Answer) × (p .answer ≡ numberOf a) × CloseDirPromise (tables (now («dir_hash» .entry)) (now («dir_table» .entry)) (now («file_hash» .entry)) (now («file_table» .entry))) (now (opens .entry)) (now (work .entry)) inode (beside (openingGives a (now (opens .exit))) (now (work .exit)))) ⌝ }
+    ensures { λ p. ⌜ Exported (p .answer) (λ a. CloseDirPromise (tables (now («dir_hash» .entry)) (now («dir_table» .entry)) (now («file_hash» .entry)) (now («file_table» .entry))) (now (opens .entry)) (now (work .entry)) inode (beside (openingGives a (now (opens .exit))) (now (work .exit)))) ⌝ }
 {
     let answer = fs_calls::close_dir(
         dir_hash,
@@ -178,7 +176,7 @@ pub extern "C" fn mukthiban_tree_lookup_file(
     parent: u32,
     name: &[u8; 16],
 ) -> Found
-    ensures { λ p. ⌜ ((a : Answer) × (p .answer ≡ numberOf a) × LookupPromise (tables (now («dir_hash» .entry)) (now («dir_table» .entry)) (now («file_hash» .entry)) (now («file_table» .entry))) (files (tables (now («dir_hash» .entry)) (now («dir_table» .entry)) (now («file_hash» .entry)) (now («file_table» .entry)))) (now (work .entry)) parent (now (name .entry)) (beside (lookupGives a (p .inode) (p .compared)) (now (work .exit)))) ⌝ }
+    ensures { λ p. ⌜ Exported (p .answer) (λ a. LookupPromise (tables (now («dir_hash» .entry)) (now («dir_table» .entry)) (now («file_hash» .entry)) (now («file_table» .entry))) (files (tables (now («dir_hash» .entry)) (now («dir_table» .entry)) (now («file_hash» .entry)) (now («file_table» .entry)))) (now (work .entry)) parent (now (name .entry)) (beside (lookupGives a (p .inode) (p .compared)) (now (work .exit)))) ⌝ }
 {
     let r = fs_calls::lookup_file(
         dir_hash,
@@ -207,7 +205,7 @@ pub extern "C" fn mukthiban_tree_list_files(
     inode: u32,
     list: &mut [u32],
 ) -> Listed
-    ensures { λ p. ⌜ ((a : Answer) × (p .answer ≡ numberOf a) × ListPromise (tables (now («dir_hash» .entry)) (now («dir_table» .entry)) (now («file_hash» .entry)) (now («file_table» .entry))) (files (tables (now («dir_hash» .entry)) (now («dir_table» .entry)) (now («file_hash» .entry)) (now («file_table» .entry)))) (now (work .entry)) inode (now (list .entry)) (beside (listGives a (p .count) (now (list .exit))) (now (work .exit)))) ⌝ }
+    ensures { λ p. ⌜ Exported (p .answer) (λ a. ListPromise (tables (now («dir_hash» .entry)) (now («dir_table» .entry)) (now («file_hash» .entry)) (now («file_table» .entry))) (files (tables (now («dir_hash» .entry)) (now («dir_table» .entry)) (now («file_hash» .entry)) (now («file_table» .entry)))) (now (work .entry)) inode (now (list .entry)) (beside (listGives a (p .count) (now (list .exit))) (now (work .exit)))) ⌝ }
 {
     let r = fs_calls::list_files(
         dir_hash,
@@ -235,7 +233,7 @@ pub extern "C" fn mukthiban_tree_carried_file(
     inode: u32,
     carried: &mut [u8; 20],
 ) -> Plain
-    ensures { λ p. ⌜ ((a : Answer) × (p .answer ≡ numberOf a) × CarriedFilePromise (tables (now («dir_hash» .entry)) (now («dir_table» .entry)) (now («file_hash» .entry)) (now («file_table» .entry))) (now (work .entry)) inode (beside (shownGives a (now (carried .exit))) (now (work .exit)))) ⌝ }
+    ensures { λ p. ⌜ Exported (p .answer) (λ a. CarriedFilePromise (tables (now («dir_hash» .entry)) (now («dir_table» .entry)) (now («file_hash» .entry)) (now («file_table» .entry))) (now (work .entry)) inode (beside (shownGives a (now (carried .exit))) (now (work .exit)))) ⌝ }
 {
     let r = fs_calls::carried_file(dir_hash, dir_table, file_hash, file_table, work, inode);
     let bytes = r.bytes;
@@ -256,7 +254,7 @@ pub extern "C" fn mukthiban_tree_set_carried_file(
     inode: u32,
     carried: &[u8; 20],
 ) -> Plain
-    ensures { λ p. ⌜ ((a : Answer) × (p .answer ≡ numberOf a) × SetCarriedFilePromise (tables (now («dir_hash» .entry)) (now («dir_table» .entry)) (now («file_hash» .entry)) (now («file_table» .entry))) (now (work .entry)) inode (now (carried .entry)) (beside (carryGives a (tables (now («dir_hash» .entry)) (now («dir_table» .entry)) (now («file_hash» .entry)) (now («file_table» .exit)))) (now (work .exit)))) ⌝ }
+    ensures { λ p. ⌜ Exported (p .answer) (λ a. SetCarriedFilePromise (tables (now («dir_hash» .entry)) (now («dir_table» .entry)) (now («file_hash» .entry)) (now («file_table» .entry))) (now (work .entry)) inode (now (carried .entry)) (beside (carryGives a (tables (now («dir_hash» .entry)) (now («dir_table» .entry)) (now («file_hash» .entry)) (now («file_table» .exit)))) (now (work .exit)))) ⌝ }
 {
     let bytes = *carried;
     let answer = fs_calls::set_carried_file(
@@ -283,7 +281,7 @@ pub extern "C" fn mukthiban_tree_open_file(
     opens: &mut [u32],
     inode: u32,
 ) -> Plain
-    ensures { λ p. ⌜ ((a : Answer) × (p .answer ≡ numberOf a) × OpenFilePromise (tables (now («dir_hash» .entry)) (now («dir_table» .entry)) (now («file_hash» .entry)) (now («file_table» .entry))) (now (opens .entry)) (now (work .entry)) inode (beside (openingGives a (now (opens .exit))) (now (work .exit)))) ⌝ }
+    ensures { λ p. ⌜ Exported (p .answer) (λ a. OpenFilePromise (tables (now («dir_hash» .entry)) (now («dir_table» .entry)) (now («file_hash» .entry)) (now («file_table» .entry))) (now (opens .entry)) (now (work .entry)) inode (beside (openingGives a (now (opens .exit))) (now (work .exit)))) ⌝ }
 {
     let answer = fs_calls::open_file(
         dir_hash,
@@ -309,7 +307,7 @@ pub extern "C" fn mukthiban_tree_close_file(
     opens: &mut [u32],
     inode: u32,
 ) -> Plain
-    ensures { λ p. ⌜ ((a : Answer) × (p .answer ≡ numberOf a) × CloseFilePromise (tables (now («dir_hash» .entry)) (now («dir_table» .entry)) (now («file_hash» .entry)) (now («file_table» .entry))) (now (opens .entry)) (now (work .entry)) inode (beside (openingGives a (now (opens .exit))) (now (work .exit)))) ⌝ }
+    ensures { λ p. ⌜ Exported (p .answer) (λ a. CloseFilePromise (tables (now («dir_hash» .entry)) (now («dir_table» .entry)) (now («file_hash» .entry)) (now («file_table» .entry))) (now (opens .entry)) (now (work .entry)) inode (beside (openingGives a (now (opens .exit))) (now (work .exit)))) ⌝ }
 {
     let answer = fs_calls::close_file(
         dir_hash,
@@ -333,7 +331,7 @@ pub extern "C" fn mukthiban_tree_stat(
     file_table: &[u8],
     work: &mut [u32],
 ) -> Stat
-    ensures { λ p. ⌜ ((a : Answer) × (p .answer ≡ numberOf a) × StatPromise (tables (now («dir_hash» .entry)) (now («dir_table» .entry)) (now («file_hash» .entry)) (now («file_table» .entry))) (now (work .entry)) (beside (statGives a (p .«dir_total») (p .«dir_free») (p .«file_total») (p .«file_free»)) (now (work .exit)))) ⌝ }
+    ensures { λ p. ⌜ Exported (p .answer) (λ a. StatPromise (tables (now («dir_hash» .entry)) (now («dir_table» .entry)) (now («file_hash» .entry)) (now («file_table» .entry))) (now (work .entry)) (beside (statGives a (p .«dir_total») (p .«dir_free») (p .«file_total») (p .«file_free»)) (now (work .exit)))) ⌝ }
 {
     let r = fs_calls::stat(dir_hash, dir_table, file_hash, file_table, work);
     let answer = r.answer;

@@ -5,13 +5,12 @@ ghost use Prim.Native.Nat.{_≤_};
 ghost use Rattle.order.specs.Answer.{numberOf};
 ghost use Rattle.order.specs.First.{First, row};
 ghost use Rattle.order.specs.Beside.{beside};
-ghost use Rattle.order.specs.declared.Answer.{Answer};
-ghost use Rattle.order.specs.declared.Answer.the-variants.{Done, NotFound};
-ghost use Rattle.meta_marks.specs.Marks.{Tells};
+ghost use Rattle.order.specs.declared.Answer.the-variants.{Done, NotFound, SizeMismatch, InvalidValue};
 ghost use Rattle.meta_tree.specs.Sizes.{Misfit};
 ghost use Rattle.fs_meta.specs.Tables.{tables};
 ghost use Rattle.fs_meta.specs.Ready.{Ready, Single, LiveAt};
 ghost use Rattle.mukthiban.specs.Name.{namedGives, placed, nameRows, nameDone, NamePromise};
+ghost use Rattle.mukthiban.specs.Export.{Exported};
 use crate::Named;
 use fs_meta::Kind;
 use meta_key::SaveExtDirEntry;
@@ -38,23 +37,18 @@ fn named(answer: Answer, at: usize) -> Named
     }
 }
 
-// Whether one of the four does not fit.
-fn misfit(dir_hash: &[u8], dir_table: &[u8], file_hash: &[u8], file_table: &[u8]) -> bool
-    ensures { λ r. ⌜ Tells (Misfit (now («dir_hash» .entry)) (now («dir_table» .entry)) (now («file_hash» .entry)) (now («file_table» .entry))) r ⌝ }
+// The answer to a kind that is neither: whether the sizes fit. No two tables have so little room that one place of work is enough, so the test ends there.
+fn other_kind(dir_hash: &[u8], dir_table: &[u8], file_hash: &[u8], file_table: &[u8]) -> Answer
+    ensures { λ r. ⌜ First (row (Misfit (now («dir_hash» .entry)) (now («dir_table» .entry)) (now («file_hash» .entry)) (now («file_table» .entry))) SizeMismatch ∷ []) InvalidValue r ⌝ }
 {
-    if meta_test::hash_misfit(dir_hash) {
-        return true;
+    let mut work = [0u32; 1];
+    let r = meta_test::test(dir_hash, dir_table, file_hash, file_table, &mut work);
+    let answer = r.answer;
+    let number = order::number(answer);
+    if number == 1 {
+        return Answer::SizeMismatch;
     }
-    if dir_table.len() < SaveExtDirEntry::WIDTH {
-        return true;
-    }
-    if meta_test::hash_misfit(file_hash) {
-        return true;
-    }
-    if file_table.len() < SaveExtFileEntry::WIDTH {
-        return true;
-    }
-    false
+    Answer::InvalidValue
 }
 
 #[no_mangle]
@@ -67,7 +61,7 @@ pub extern "C" fn mukthiban_tree_name(
     kind: u32,
     inode: u32,
 ) -> Named
-    ensures { λ p. ⌜ ((a : Answer) × (p .answer ≡ numberOf a) × NamePromise (tables (now («dir_hash» .entry)) (now («dir_table» .entry)) (now («file_hash» .entry)) (now («file_table» .entry))) (now (work .entry)) kind inode (beside (namedGives a (p .offset)) (now (work .exit)))) ⌝ }
+    ensures { λ p. ⌜ Exported (p .answer) (λ a. NamePromise (tables (now («dir_hash» .entry)) (now («dir_table» .entry)) (now («file_hash» .entry)) (now («file_table» .entry))) (now (work .entry)) kind inode (beside (namedGives a (p .offset)) (now (work .exit)))) ⌝ }
 {
     if kind == 0 {
         let r = fs_name::name_answer(
@@ -95,16 +89,14 @@ pub extern "C" fn mukthiban_tree_name(
         let answer = r.answer;
         return named(answer, inode as usize * SaveExtFileEntry::WIDTH + NAME);
     }
-    if misfit(dir_hash, dir_table, file_hash, file_table) {
-        return named(Answer::SizeMismatch, 0);
-    }
-    named(Answer::InvalidValue, 0)
+    let answer = other_kind(dir_hash, dir_table, file_hash, file_table);
+    named(answer, 0)
 }
 
 // The name of entry x of a sound table of width w, which stands at `at`.
 fn name_in(hash: &[u8], table: &[u8], w: usize, x: u32, at: usize) -> Named
     requires { ⌜ Single (now hash) (now table) w ⌝ }
-    ensures { λ p. ⌜ ((a : Answer) × (p .answer ≡ numberOf a) × First (row (LiveAt w (now (table .entry)) x → ⊥) (namedGives NotFound 0) ∷ []) (namedGives Done at) (namedGives a (p .offset))) ⌝ }
+    ensures { λ p. ⌜ Exported (p .answer) (λ a. First (row (LiveAt w (now (table .entry)) x → ⊥) (namedGives NotFound 0) ∷ []) (namedGives Done at) (namedGives a (p .offset))) ⌝ }
 {
     if !fs_meta::look::live(hash, table, w, x) {
         return named(Answer::NotFound, 0);
@@ -123,7 +115,7 @@ pub extern "C" fn mukthiban_tested_tree_name(
     inode: u32,
 ) -> Named
     requires { ⌜ Ready (tables (now «dir_hash») (now «dir_table») (now «file_hash») (now «file_table»)) × (kind ≤ 1) ⌝ }
-    ensures { λ p. ⌜ ((a : Answer) × (p .answer ≡ numberOf a) × First (nameRows (tables (now («dir_hash» .entry)) (now («dir_table» .entry)) (now («file_hash» .entry)) (now («file_table» .entry))) kind inode) (nameDone kind inode) (namedGives a (p .offset))) ⌝ }
+    ensures { λ p. ⌜ Exported (p .answer) (λ a. First (nameRows (tables (now («dir_hash» .entry)) (now («dir_table» .entry)) (now («file_hash» .entry)) (now («file_table» .entry))) kind inode) (nameDone kind inode) (namedGives a (p .offset))) ⌝ }
 {
     if kind == 0 {
         let at = inode as usize * SaveExtDirEntry::WIDTH + NAME;

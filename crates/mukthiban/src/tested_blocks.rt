@@ -1,12 +1,10 @@
 // The inner calls on the block table, for a side that has tested its table once and keeps it sound. Each requires what the test tells, and tests nothing.
-ghost use mathlib.Core.Path.{_≡_};
 ghost use lib.ListN.{length};
-ghost use Rattle.order.specs.Answer.{numberOf};
-ghost use Rattle.order.specs.declared.Answer.{Answer};
 ghost use Rattle.order.specs.First.{First};
 ghost use Rattle.fat.specs.Inner.{Volume};
 ghost use Rattle.fat_data.specs.Stretches.{Data};
 ghost use Rattle.fat.specs.Calls.{createRows, createDone, createGives, resizeRows, resizeDone, deleteRows, deleteDone, changeGives, listRows, listDone, listGives, carryRows, readDone, writeDone, carryGives};
+ghost use Rattle.mukthiban.specs.Export.{Exported};
 use crate::Created;
 use crate::Listed;
 use crate::Plain;
@@ -18,7 +16,7 @@ pub extern "C" fn mukthiban_tested_fat_create(
     block_count: usize,
 ) -> Created
     requires { ⌜ Volume n (now table) ⌝ }
-    ensures { λ p. ⌜ ((a : Answer) × (p .answer ≡ numberOf a) × First (createRows n (now (table .entry)) «block_count») (createDone n (now (table .entry)) «block_count») (createGives a (p .«first_block») (now (table .exit)))) ⌝ }
+    ensures { λ p. ⌜ Exported (p .answer) (λ a. First (createRows n (now (table .entry)) «block_count») (createDone n (now (table .entry)) «block_count») (createGives a (p .«first_block») (now (table .exit)))) ⌝ }
 {
     let r = fat::create_sound(table, n, block_count);
     let answer = r.answer;
@@ -36,7 +34,7 @@ pub extern "C" fn mukthiban_tested_fat_resize(
     block_count: usize,
 ) -> Plain
     requires { ⌜ Volume n (now table) ⌝ }
-    ensures { λ p. ⌜ ((a : Answer) × (p .answer ≡ numberOf a) × First (resizeRows n (now (table .entry)) «first_block» «block_count») (resizeDone n (now (table .entry)) «first_block» «block_count») (changeGives a (now (table .exit)))) ⌝ }
+    ensures { λ p. ⌜ Exported (p .answer) (λ a. First (resizeRows n (now (table .entry)) «first_block» «block_count») (resizeDone n (now (table .entry)) «first_block» «block_count») (changeGives a (now (table .exit)))) ⌝ }
 {
     let r = fat::resize_sound(table, n, first_block, block_count);
     let answer = r.answer;
@@ -52,7 +50,7 @@ pub extern "C" fn mukthiban_tested_fat_delete(
     first_block: usize,
 ) -> Plain
     requires { ⌜ Volume n (now table) ⌝ }
-    ensures { λ p. ⌜ ((a : Answer) × (p .answer ≡ numberOf a) × First (deleteRows n (now (table .entry)) «first_block») (deleteDone n (now (table .entry)) «first_block») (changeGives a (now (table .exit)))) ⌝ }
+    ensures { λ p. ⌜ Exported (p .answer) (λ a. First (deleteRows n (now (table .entry)) «first_block») (deleteDone n (now (table .entry)) «first_block») (changeGives a (now (table .exit)))) ⌝ }
 {
     let r = fat::delete_sound(table, n, first_block);
     let answer = r.answer;
@@ -69,7 +67,7 @@ pub extern "C" fn mukthiban_tested_fat_open_list(
     list: &mut [u32],
 ) -> Listed
     requires { ⌜ Volume n (now table) ⌝ }
-    ensures { λ p. ⌜ ((a : Answer) × (p .answer ≡ numberOf a) × First (listRows n (now (table .entry)) «first_block» (now (list .entry))) (listDone n (now (table .entry)) «first_block» (now (list .entry))) (listGives a (p .count) (now (list .exit)))) ⌝ }
+    ensures { λ p. ⌜ Exported (p .answer) (λ a. First (listRows n (now (table .entry)) «first_block» (now (list .entry))) (listDone n (now (table .entry)) «first_block» (now (list .entry))) (listGives a (p .count) (now (list .exit)))) ⌝ }
 {
     let r = fat::open_list_sound(table, n, first_block, list);
     let answer = r.answer;
@@ -91,7 +89,7 @@ pub extern "C" fn mukthiban_tested_fat_read(
 ) -> Plain
     requires { ⌜ Volume n (now table) ⌝ }
     requires { ⌜ Data n (length (now «data»)) «block_len» ⌝ }
-    ensures { λ p. ⌜ ((a : Answer) × (p .answer ≡ numberOf a) × First (carryRows n (now (table .entry)) «block_len» «first_block» pos (length (now (buf .entry))) (now (buf .entry))) (readDone n (now (table .entry)) (now («data» .entry)) «block_len» «first_block» pos (now (buf .entry))) (carryGives a (now (buf .exit)))) ⌝ }
+    ensures { λ p. ⌜ Exported (p .answer) (λ a. First (carryRows n (now (table .entry)) «block_len» «first_block» pos (length (now (buf .entry))) (now (buf .entry))) (readDone n (now (table .entry)) (now («data» .entry)) «block_len» «first_block» pos (now (buf .entry))) (carryGives a (now (buf .exit)))) ⌝ }
 {
     let r = fat_data::read_sound(table, data, block_len, n, first_block, pos, buf);
     let answer = r.answer;
@@ -112,7 +110,7 @@ pub extern "C" fn mukthiban_tested_fat_write(
 ) -> Plain
     requires { ⌜ Volume n (now table) ⌝ }
     requires { ⌜ Data n (length (now «data»)) «block_len» ⌝ }
-    ensures { λ p. ⌜ ((a : Answer) × (p .answer ≡ numberOf a) × First (carryRows n (now (table .entry)) «block_len» «first_block» pos (length (now (buf .entry))) (now («data» .entry))) (writeDone n (now (table .entry)) (now («data» .entry)) «block_len» «first_block» pos (now (buf .entry))) (carryGives a (now («data» .exit)))) ⌝ }
+    ensures { λ p. ⌜ Exported (p .answer) (λ a. First (carryRows n (now (table .entry)) «block_len» «first_block» pos (length (now (buf .entry))) (now («data» .entry))) (writeDone n (now (table .entry)) (now («data» .entry)) «block_len» «first_block» pos (now (buf .entry))) (carryGives a (now («data» .exit)))) ⌝ }
 {
     let r = fat_data::write_sound(table, data, block_len, n, first_block, pos, buf);
     let answer = r.answer;

@@ -1,13 +1,12 @@
 // The inner calls that look at the entry tables, for a side that has tested its tables once and keeps them sound. Each requires what the test tells, and
 // tests nothing.
 ghost use mathlib.Core.Path.{_≡_};
-ghost use Rattle.order.specs.Answer.{numberOf};
-ghost use Rattle.order.specs.declared.Answer.{Answer};
 ghost use Rattle.order.specs.First.{First};
 ghost use Rattle.meta_key.specs.Key.{nameKey};
 ghost use Rattle.fs_meta.specs.Ready.{Ready};
 ghost use Rattle.fs_meta.specs.Tables.{tables, dirs, files};
 ghost use Rattle.fs_meta.specs.Calls.{lookupRows, lookupDone, lookupGives, ListDirs, ListFiles, listGives, statGives, statDone};
+ghost use Rattle.mukthiban.specs.Export.{Exported};
 use crate::Found;
 use crate::Listed;
 use crate::Stat;
@@ -25,7 +24,7 @@ pub extern "C" fn mukthiban_tested_tree_lookup_dir(
     name: &[u8; 16],
 ) -> Found
     requires { ⌜ Ready (tables (now «dir_hash») (now «dir_table») (now «file_hash») (now «file_table»)) ⌝ }
-    ensures { λ p. ⌜ ((a : Answer) × (p .answer ≡ numberOf a) × First (lookupRows (dirs (tables (now («dir_hash» .entry)) (now («dir_table» .entry)) (now («file_hash» .entry)) (now («file_table» .entry)))) (nameKey parent (now (name .entry)))) (lookupDone (dirs (tables (now («dir_hash» .entry)) (now («dir_table» .entry)) (now («file_hash» .entry)) (now («file_table» .entry)))) (nameKey parent (now (name .entry)))) (lookupGives a (p .inode) (p .compared))) ⌝ }
+    ensures { λ p. ⌜ Exported (p .answer) (λ a. First (lookupRows (dirs (tables (now («dir_hash» .entry)) (now («dir_table» .entry)) (now («file_hash» .entry)) (now («file_table» .entry)))) (nameKey parent (now (name .entry)))) (lookupDone (dirs (tables (now («dir_hash» .entry)) (now («dir_table» .entry)) (now («file_hash» .entry)) (now («file_table» .entry)))) (nameKey parent (now (name .entry)))) (lookupGives a (p .inode) (p .compared))) ⌝ }
 {
     let key = SaveExtKey::new(parent, name);
     let r = fs_meta::look::lookup(dir_hash, dir_table, SaveExtDirEntry::WIDTH, key);
@@ -47,7 +46,7 @@ pub extern "C" fn mukthiban_tested_tree_lookup_file(
     name: &[u8; 16],
 ) -> Found
     requires { ⌜ Ready (tables (now «dir_hash») (now «dir_table») (now «file_hash») (now «file_table»)) ⌝ }
-    ensures { λ p. ⌜ ((a : Answer) × (p .answer ≡ numberOf a) × First (lookupRows (files (tables (now («dir_hash» .entry)) (now («dir_table» .entry)) (now («file_hash» .entry)) (now («file_table» .entry)))) (nameKey parent (now (name .entry)))) (lookupDone (files (tables (now («dir_hash» .entry)) (now («dir_table» .entry)) (now («file_hash» .entry)) (now («file_table» .entry)))) (nameKey parent (now (name .entry)))) (lookupGives a (p .inode) (p .compared))) ⌝ }
+    ensures { λ p. ⌜ Exported (p .answer) (λ a. First (lookupRows (files (tables (now («dir_hash» .entry)) (now («dir_table» .entry)) (now («file_hash» .entry)) (now («file_table» .entry)))) (nameKey parent (now (name .entry)))) (lookupDone (files (tables (now («dir_hash» .entry)) (now («dir_table» .entry)) (now («file_hash» .entry)) (now («file_table» .entry)))) (nameKey parent (now (name .entry)))) (lookupGives a (p .inode) (p .compared))) ⌝ }
 {
     let key = SaveExtKey::new(parent, name);
     let r = fs_meta::look::lookup(file_hash, file_table, SaveExtFileEntry::WIDTH, key);
@@ -69,7 +68,7 @@ pub extern "C" fn mukthiban_tested_tree_list_dirs(
     list: &mut [u32],
 ) -> Listed
     requires { ⌜ Ready (tables (now «dir_hash») (now «dir_table») (now «file_hash») (now «file_table»)) ⌝ }
-    ensures { λ p. ⌜ ((a : Answer) × (p .answer ≡ numberOf a) × ListDirs (tables (now («dir_hash» .entry)) (now («dir_table» .entry)) (now («file_hash» .entry)) (now («file_table» .entry))) inode (now (list .entry)) (listGives a (p .count) (now (list .exit)))) ⌝ }
+    ensures { λ p. ⌜ Exported (p .answer) (λ a. ListDirs (tables (now («dir_hash» .entry)) (now («dir_table» .entry)) (now («file_hash» .entry)) (now («file_table» .entry))) inode (now (list .entry)) (listGives a (p .count) (now (list .exit)))) ⌝ }
 {
     let r = fs_meta::look::list_dirs(dir_hash, dir_table, file_hash, file_table, inode, list);
     let answer = r.answer;
@@ -89,7 +88,7 @@ pub extern "C" fn mukthiban_tested_tree_list_files(
     list: &mut [u32],
 ) -> Listed
     requires { ⌜ Ready (tables (now «dir_hash») (now «dir_table») (now «file_hash») (now «file_table»)) ⌝ }
-    ensures { λ p. ⌜ ((a : Answer) × (p .answer ≡ numberOf a) × ListFiles (tables (now («dir_hash» .entry)) (now («dir_table» .entry)) (now («file_hash» .entry)) (now («file_table» .entry))) inode (now (list .entry)) (listGives a (p .count) (now (list .exit)))) ⌝ }
+    ensures { λ p. ⌜ Exported (p .answer) (λ a. ListFiles (tables (now («dir_hash» .entry)) (now («dir_table» .entry)) (now («file_hash» .entry)) (now («file_table» .entry))) inode (now (list .entry)) (listGives a (p .count) (now (list .exit)))) ⌝ }
 {
     let r = fs_meta::look::list_files(dir_hash, dir_table, file_hash, file_table, inode, list);
     let answer = r.answer;
@@ -107,7 +106,7 @@ pub extern "C" fn mukthiban_tested_tree_stat(
     file_table: &[u8],
 ) -> Stat
     requires { ⌜ Ready (tables (now «dir_hash») (now «dir_table») (now «file_hash») (now «file_table»)) ⌝ }
-    ensures { λ p. ⌜ ((a : Answer) × (p .answer ≡ numberOf a) × (statGives a (p .«dir_total») (p .«dir_free») (p .«file_total») (p .«file_free») ≡ statDone (tables (now («dir_hash» .entry)) (now («dir_table» .entry)) (now («file_hash» .entry)) (now («file_table» .entry))))) ⌝ }
+    ensures { λ p. ⌜ Exported (p .answer) (λ a. (statGives a (p .«dir_total») (p .«dir_free») (p .«file_total») (p .«file_free») ≡ statDone (tables (now («dir_hash» .entry)) (now («dir_table» .entry)) (now («file_hash» .entry)) (now («file_table» .entry))))) ⌝ }
 {
     let r = fs_meta::look::stat(dir_hash, dir_table, file_hash, file_table);
     let answer = r.answer;

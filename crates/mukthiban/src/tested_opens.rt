@@ -1,14 +1,12 @@
 // The inner calls on the entry tables that touch open counts, for a side that has tested its tables once and keeps them sound.
-ghost use mathlib.Core.Path.{_≡_};
 ghost use Prim.Native.Nat.{_≤_};
 ghost use lib.ListN.{length};
-ghost use Rattle.order.specs.Answer.{numberOf};
 ghost use Rattle.order.specs.First.{First};
-ghost use Rattle.order.specs.declared.Answer.{Answer};
 ghost use Rattle.meta_tree.specs.Sizes.{dirRoom, fileRoom};
 ghost use Rattle.fs_meta.specs.Ready.{Ready};
 ghost use Rattle.fs_meta.specs.Tables.{tables, dirs, files};
 ghost use Rattle.fs_meta.specs.Calls.{openRows, openDone, closeRows, closeDone, openingGives};
+ghost use Rattle.mukthiban.specs.Export.{Exported};
 use crate::Plain;
 use meta_key::SaveExtDirEntry;
 use meta_key::SaveExtFileEntry;
@@ -24,7 +22,7 @@ pub extern "C" fn mukthiban_tested_tree_open_dir(
 ) -> Plain
     requires { ⌜ Ready (tables (now «dir_hash») (now «dir_table») (now «file_hash») (now «file_table»)) ⌝ }
     requires { ⌜ dirRoom (now «dir_table») ≤ length (now opens) ⌝ }
-    ensures { λ p. ⌜ ((a : Answer) × (p .answer ≡ numberOf a) × First (openRows (dirs (tables (now («dir_hash» .entry)) (now («dir_table» .entry)) (now («file_hash» .entry)) (now («file_table» .entry)))) (now (opens .entry)) inode) (openDone (now (opens .entry)) inode) (openingGives a (now (opens .exit)))) ⌝ }
+    ensures { λ p. ⌜ Exported (p .answer) (λ a. First (openRows (dirs (tables (now («dir_hash» .entry)) (now («dir_table» .entry)) (now («file_hash» .entry)) (now («file_table» .entry)))) (now (opens .entry)) inode) (openDone (now (opens .entry)) inode) (openingGives a (now (opens .exit)))) ⌝ }
 {
     let answer = fs_meta::look::open(dir_hash, dir_table, SaveExtDirEntry::WIDTH, opens, inode);
     Plain {
@@ -43,7 +41,7 @@ pub extern "C" fn mukthiban_tested_tree_open_file(
 ) -> Plain
     requires { ⌜ Ready (tables (now «dir_hash») (now «dir_table») (now «file_hash») (now «file_table»)) ⌝ }
     requires { ⌜ fileRoom (now «file_table») ≤ length (now opens) ⌝ }
-    ensures { λ p. ⌜ ((a : Answer) × (p .answer ≡ numberOf a) × First (openRows (files (tables (now («dir_hash» .entry)) (now («dir_table» .entry)) (now («file_hash» .entry)) (now («file_table» .entry)))) (now (opens .entry)) inode) (openDone (now (opens .entry)) inode) (openingGives a (now (opens .exit)))) ⌝ }
+    ensures { λ p. ⌜ Exported (p .answer) (λ a. First (openRows (files (tables (now («dir_hash» .entry)) (now («dir_table» .entry)) (now («file_hash» .entry)) (now («file_table» .entry)))) (now (opens .entry)) inode) (openDone (now (opens .entry)) inode) (openingGives a (now (opens .exit)))) ⌝ }
 {
     let answer = fs_meta::look::open(file_hash, file_table, SaveExtFileEntry::WIDTH, opens, inode);
     Plain {
@@ -62,7 +60,7 @@ pub extern "C" fn mukthiban_tested_tree_close_dir(
 ) -> Plain
     requires { ⌜ Ready (tables (now «dir_hash») (now «dir_table») (now «file_hash») (now «file_table»)) ⌝ }
     requires { ⌜ dirRoom (now «dir_table») ≤ length (now opens) ⌝ }
-    ensures { λ p. ⌜ ((a : Answer) × (p .answer ≡ numberOf a) × First (closeRows (dirs (tables (now («dir_hash» .entry)) (now («dir_table» .entry)) (now («file_hash» .entry)) (now («file_table» .entry)))) (now (opens .entry)) inode) (closeDone (now (opens .entry)) inode) (openingGives a (now (opens .exit)))) ⌝ }
+    ensures { λ p. ⌜ Exported (p .answer) (λ a. First (closeRows (dirs (tables (now («dir_hash» .entry)) (now («dir_table» .entry)) (now («file_hash» .entry)) (now («file_table» .entry)))) (now (opens .entry)) inode) (closeDone (now (opens .entry)) inode) (openingGives a (now (opens .exit)))) ⌝ }
 {
     let answer = fs_meta::look::close(dir_hash, dir_table, SaveExtDirEntry::WIDTH, opens, inode);
     Plain {
@@ -81,7 +79,7 @@ pub extern "C" fn mukthiban_tested_tree_close_file(
 ) -> Plain
     requires { ⌜ Ready (tables (now «dir_hash») (now «dir_table») (now «file_hash») (now «file_table»)) ⌝ }
     requires { ⌜ fileRoom (now «file_table») ≤ length (now opens) ⌝ }
-    ensures { λ p. ⌜ ((a : Answer) × (p .answer ≡ numberOf a) × First (closeRows (files (tables (now («dir_hash» .entry)) (now («dir_table» .entry)) (now («file_hash» .entry)) (now («file_table» .entry)))) (now (opens .entry)) inode) (closeDone (now (opens .entry)) inode) (openingGives a (now (opens .exit)))) ⌝ }
+    ensures { λ p. ⌜ Exported (p .answer) (λ a. First (closeRows (files (tables (now («dir_hash» .entry)) (now («dir_table» .entry)) (now («file_hash» .entry)) (now («file_table» .entry)))) (now (opens .entry)) inode) (closeDone (now (opens .entry)) inode) (openingGives a (now (opens .exit)))) ⌝ }
 {
     let answer = fs_meta::look::close(file_hash, file_table, SaveExtFileEntry::WIDTH, opens, inode);
     Plain {

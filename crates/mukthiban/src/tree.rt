@@ -1,13 +1,11 @@
 // The calls on the entry tables.
-ghost use mathlib.Core.Path.{_≡_};
-ghost use Rattle.order.specs.Answer.{numberOf};
-ghost use Rattle.order.specs.declared.Answer.{Answer};
 ghost use Rattle.order.specs.First.{First};
 ghost use Rattle.meta_test.specs.Gate.{treeGate};
 ghost use Rattle.meta_test.specs.Promise.{tested, testDone};
 ghost use Rattle.fs_meta.specs.Tables.{tables};
 ghost use Rattle.fs_meta.specs.Calls.{carryGives};
 ghost use Rattle.fs_meta.specs.Format.{FormatPromise};
+ghost use Rattle.mukthiban.specs.Export.{Exported};
 use crate::Plain;
 
 #[no_mangle]
@@ -19,7 +17,7 @@ pub extern "C" fn mukthiban_tree_format(
     file_table: &mut [u8],
     file_max: usize,
 ) -> Plain
-    ensures { λ p. ⌜ ((a : Answer) × (p .answer ≡ numberOf a) × FormatPromise (tables (now («dir_hash» .entry)) (now («dir_table» .entry)) (now («file_hash» .entry)) (now («file_table» .entry))) «dir_max» «file_max» (carryGives a (tables (now («dir_hash» .exit)) (now («dir_table» .exit)) (now («file_hash» .exit)) (now («file_table» .exit))))) ⌝ }
+    ensures { λ p. ⌜ Exported (p .answer) (λ a. FormatPromise (tables (now («dir_hash» .entry)) (now («dir_table» .entry)) (now («file_hash» .entry)) (now («file_table» .entry))) «dir_max» «file_max» (carryGives a (tables (now («dir_hash» .exit)) (now («dir_table» .exit)) (now («file_hash» .exit)) (now («file_table» .exit))))) ⌝ }
 {
     let answer = fs_format::format(
         dir_hash,
@@ -42,7 +40,7 @@ pub extern "C" fn mukthiban_tree_test(
     file_table: &[u8],
     work: &mut [u32],
 ) -> Plain
-    ensures { λ p. ⌜ ((a : Answer) × (p .answer ≡ numberOf a) × First (treeGate tested (now («dir_hash» .entry)) (now («dir_table» .entry)) (now («file_hash» .entry)) (now («file_table» .entry)) (now (work .entry))) (testDone (now («dir_table» .entry)) (now («file_table» .entry)) (now (work .entry))) (tested a (now (work .exit)))) ⌝ }
+    ensures { λ p. ⌜ Exported (p .answer) (λ a. First (treeGate tested (now («dir_hash» .entry)) (now («dir_table» .entry)) (now («file_hash» .entry)) (now («file_table» .entry)) (now (work .entry))) (testDone (now («dir_table» .entry)) (now («file_table» .entry)) (now (work .entry))) (tested a (now (work .exit)))) ⌝ }
 {
     let r = meta_test::test(dir_hash, dir_table, file_hash, file_table, work);
     let answer = r.answer;

@@ -3,28 +3,19 @@ use Rattle.mukthiban.proofs.Names.{inner-none, inner-done}
 use borrow.Author.Needs.{needs}
 use Rattle.mukthiban.proofs.name.name_in.Statement.{statement}
 use Rattle.mukthiban.proofs.name.name_in.Tie as tie
-use Rattle.mukthiban.proofs.name.name_in.Reads as reads
-use Rattle.mukthiban.proofs.name.name_in.Lts as lts
-use Rattle.fs_meta.proofs.look.live.Reads as live-reads
-use Rattle.mukthiban.proofs.name.named.Reads as named-reads
 
--- src/name.rt:109:9
 live-requires : tie.Need-live-requires
 live-requires c κs = search needs
 
--- src/name.rt:110:9
 named-requires : tie.Need-named-requires
 named-requires c κs = search needs
 
--- src/name.rt:110:9
 returns : tie.Need-returns
 returns c = inner-none (c .before .before .live .ensures) (c .before .before .before .before .before .args .at) _ _ (c .before .if1 .taken) (c .named .ensures .0) (c .named .ensures .1)
 
--- src/name.rt:112:5
 named-requires-2 : tie.Need-named-requires-2
 named-requires-2 c κs = search needs
 
--- src/name.rt:105:1
 returns-2 : tie.Need-returns-2
 returns-2 c = inner-done (c .before .before .live .ensures) (c .before .before .before .before .before .args .at) _ _ (c .before .if1 .left) (c .named2 .ensures .0) (c .named2 .ensures .1)
 

@@ -4,19 +4,13 @@ use Rattle.mukthiban.proofs.Names.{place-none}
 use borrow.Author.Needs.{needs}
 use Rattle.mukthiban.proofs.name.named.Statement.{statement}
 use Rattle.mukthiban.proofs.name.named.Tie as tie
-use Rattle.mukthiban.proofs.name.named.Reads as reads
-use Rattle.mukthiban.proofs.name.named.Lts as lts
-use Rattle.order.proofs.number.Reads as number-reads
 
--- src/name.rt:28:9
 number-requires : tie.Need-number-requires
 number-requires c κs = search needs
 
--- src/name.rt:30:9
 returns : tie.Need-returns
 returns c = search needs
 
--- src/name.rt:25:1
 returns-2 : tie.Need-returns-2
 returns-2 c = place-none (numberOf (c .before .before .args .answer)) _ (c .before .before .args .at) (c .before .number .ensures) (c .if1 .left)
 
