@@ -73,7 +73,8 @@ impl std::error::Error for NotSound {}
 /// A whole volume in memory, tested once.
 ///
 /// [`Volume::open`] hands the tables to both proved tests. After that each call is the inner call, which does not test
-/// again: a create costs the nodes that it touches, not a walk over the whole table.
+/// again: a create costs the nodes that it touches, not a test of the whole table. A call on a file hops over the nodes
+/// before it besides, to see that the given block begins one.
 ///
 /// # Why that is right
 ///
