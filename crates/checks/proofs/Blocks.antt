@@ -1,5 +1,5 @@
 -- The checks of the block table's history. Assumes nothing.
-use mathlib.Core.Path.{_≡_, refl, sym, ap, _∙_}
+use mathlib.Core.Path.{_≡_, refl, ap}
 use mathlib.Core.List.{List, [], _∷_}
 use mathlib.Core.Logic.{inl, inr}
 use Prim.Native.Nat.{ℕ, _+_, _*_, _<_, _≤_}
@@ -7,7 +7,6 @@ use native.Mathlib.Omega.{arith}
 use lib.ListN.{length, replicate}
 use Rattle.words.specs.Word.{word, putWord}
 use Rattle.order.specs.Answer.{numberOf}
-use Rattle.order.specs.declared.Answer.{Answer}
 use Rattle.order.specs.declared.Answer.the-variants.{NoSpace, OutOfBound}
 use Rattle.order.proofs.One.{settled, refused}
 use Rattle.fat_node.specs.Entry.{Bytes, get, put}
@@ -22,7 +21,6 @@ use Rattle.fat_test.specs.Gate.{testGate}
 use Rattle.fat_test.specs.Promise.{testRefused, testDone, TestPromise}
 use Rattle.fat_test.specs.declared.Tested.{Tested}
 use Rattle.order.specs.Beside.{Beside}
-use Rattle.fat.specs.Blocks.{placeOf}
 use Rattle.fat.specs.Calls.{
   Create,
   createGives,
@@ -48,7 +46,7 @@ use Rattle.fat.specs.Calls.{
   readDone,
   ReadPromise,
 }
-use Rattle.checks.specs.Check.{Check, Shows, entries}
+use Rattle.checks.specs.Check.{Shows, entries}
 use Rattle.checks.specs.Blocks.{
   t0,
   t1,

@@ -1,5 +1,5 @@
 -- The checks of format. Assumes nothing.
-use mathlib.Core.Path.{_≡_, refl, ap, _∙_}
+use mathlib.Core.Path.{_≡_, refl, ap}
 use mathlib.Core.Logic.{inl, inr, ⊎-elim}
 use Prim.Native.Nat.{ℕ, _+_, _*_, _≤_, _<_}
 use native.Mathlib.Omega.{arith}
@@ -12,8 +12,8 @@ use Rattle.fat_node.specs.Node.{setNode, setHead, prevHalf, nextHalf}
 use Rattle.fat_node.specs.Sizes.{blocks, Misfit, Outside}
 use Rattle.fat_node.specs.Format.{formatted, formatRows, formatDone, formatGives, FormatPromise}
 use Rattle.fat_node.specs.declared.Formatted.{Formatted}
-use Rattle.checks.specs.Check.{Check, Shows}
-use Rattle.checks.specs.Blocks.{zeros, formats, format4, format1}
+use Rattle.checks.specs.Check.{Shows}
+use Rattle.checks.specs.Blocks.{zeros, format4, format1}
 
 -- a table of n blocks passes the sizes
 module _ (t : Bytes) (n : ℕ) (len : length t ≡ 8 * (n + 1)) (some : 1 ≤ n) (few : n ≤ 1000000) where

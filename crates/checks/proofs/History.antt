@@ -1,15 +1,14 @@
 -- The tables of the history are whole, and which of their blocks are files' first ones. Assumes nothing.
-use mathlib.Core.Path.{_≡_, refl, sym, ap, _∙_}
-use mathlib.Core.List.{List, [], _∷_}
-use Prim.Native.Nat.{ℕ, zero, suc, _+_, _*_, _<_, _≤_}
+use mathlib.Core.Path.{_≡_, refl, sym, _∙_}
+use Prim.Native.Nat.{ℕ, zero, suc, _+_, _<_, _≤_}
 use native.Mathlib.Omega.{arith}
-use lib.ListN.{length, getD, replicate}
+use lib.ListN.{getD, replicate}
 use Rattle.words.specs.Word.{word, putWord}
 use Rattle.words.proofs.Laws as words
 use Rattle.fat_node.specs.Entry.{Bytes, get, put, uAt, vAt}
 use Rattle.fat_node.specs.Node.{NodeAt, prevAt, setNode, setHead, prevHalf, nextHalf}
 use Rattle.fat_node.specs.Format.{formatted}
-use Rattle.fat_table.specs.Sound.{Starts, IsNode, File}
+use Rattle.fat_table.specs.Sound.{Starts, File}
 use Rattle.fat_table.specs.Chain.{total, freeAt, fileAt}
 use Rattle.fat_table.specs.Steps.{created, deleted, shrunk, grown, resized}
 use Rattle.fat_table.proofs.Files.{Whole, whole-formatted, whole-created, whole-deleted, whole-resized}

@@ -1,8 +1,8 @@
 -- The checks of the entry tables. Assumes nothing.
 use mathlib.Core.Path.{_≡_, refl, sym, ap, _∙_}
 use mathlib.Core.List.{List, [], _∷_, _++_}
-use mathlib.Core.Logic.{_⊎_, inl, inr, ⊎-elim}
-use Prim.Native.Nat.{ℕ, zero, suc, _+_, _*_, _/_, _%_, _<_, _≤_}
+use mathlib.Core.Logic.{inl, inr, ⊎-elim}
+use Prim.Native.Nat.{ℕ, zero, suc, _/_, _<_}
 use native.Mathlib.Omega.{arith}
 use lib.ListN.{length, replicate}
 use Rattle.words.specs.Word.{word, putWord}
@@ -12,13 +12,12 @@ use Rattle.order.specs.Given.{None}
 use Rattle.order.specs.declared.Answer.{Answer}
 use Rattle.order.specs.declared.Answer.the-variants.{Done, NoSpace}
 use Rattle.order.proofs.One.{settled, refused}
-use Rattle.links.specs.Links.{_∈_}
 use Rattle.meta_key.specs.Key.{nameKey}
 use Rattle.meta_key.specs.Hash.{hashOf, mix, rotated}
 use Rattle.meta_table.specs.Field.{field}
-use Rattle.meta_table.specs.View.{View, place, parent, LiveIn}
+use Rattle.meta_table.specs.View.{parent, LiveIn}
 use Rattle.meta_table.specs.Steps.{freeOf}
-use Rattle.meta_tree.specs.Sizes.{Misfit, Outside, Beyond, rooms}
+use Rattle.meta_tree.specs.Sizes.{Misfit, Outside}
 use Rattle.meta_tree.specs.Sound.{Sound}
 use Rattle.meta_test.specs.Gate.{treeGate, openGate}
 use Rattle.fs_meta.specs.Tables.{Tables, tables, dirs, files, Has}
@@ -26,7 +25,7 @@ use Rattle.fs_meta.specs.Calls.{Carry, carryGives, Make, makeGives, makeRows, m
 use Rattle.fs_meta.specs.Format.{formatRows, formatted, FormatMisfit, FormatOutside}
 use Rattle.fs_meta.specs.Promise.{worked}
 use Rattle.fs_meta.specs.Public.{LookupPromise}
-use Rattle.checks.specs.Check.{Check, Shows}
+use Rattle.checks.specs.Check.{Shows}
 use Rattle.checks.specs.Tree.{
   s0,
   s1,
@@ -48,7 +47,6 @@ use Rattle.checks.specs.Tree.{
   lookupRoot,
 }
 use Rattle.checks.proofs.Passes.{own-rows}
-use Rattle.links.proofs.Held.{same-or}
 use Rattle.checks.proofs.Fresh.{NoFiles, no-live, Fresh, fresh-sound, Second, second-sound, not-removed}
 
 pub shows-rootHash : Shows rootHash

@@ -1,7 +1,7 @@
 -- The checks of the block table, in document 01's order: each call goes on from the table of the one before. Assumes nothing.
-use mathlib.Core.List.{List, [], _∷_, _++_}
+use mathlib.Core.List.{List, [], _∷_}
 use Prim.Native.Nat.{ℕ, _+_, _*_}
-use lib.ListN.{length, replicate}
+use lib.ListN.{replicate}
 use Rattle.order.specs.Answer.{numberOf}
 use Rattle.fat_node.specs.Entry.{Bytes}
 use Rattle.fat_node.specs.Format.{FormatPromise, formatted}

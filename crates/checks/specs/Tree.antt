@@ -1,8 +1,8 @@
 -- The checks of the entry tables, in document 01's order: each call goes on from the tables of the one before. Assumes nothing.
 use mathlib.Core.Path.{_≡_}
 use mathlib.Core.List.{List, [], _∷_, _++_}
-use Prim.Native.Nat.{ℕ, zero, suc, _+_, _*_, _%_}
-use lib.ListN.{length, replicate}
+use Prim.Native.Nat.{ℕ, zero, suc, _+_, _%_}
+use lib.ListN.{replicate}
 use Rattle.words.specs.Word.{word}
 use Rattle.order.specs.Answer.{numberOf}
 use Rattle.order.specs.Beside.{Beside}

@@ -1,16 +1,12 @@
 -- What the writers of links return, from what they call. Assumes nothing.
-use mathlib.Core.Path.{_≡_, refl, sym, ap, subst, _∙_}
-use mathlib.Core.List.{List, [], _∷_, _++_}
-use mathlib.Core.Logic.{_≢_, _⊎_, inl, inr, ⊎-elim}
-use Prim.Native.Nat.{ℕ, zero, suc, _+_, _-_, _*_, _≤_, _<_}
+use mathlib.Core.Path.{_≡_, refl, sym, ap, _∙_}
+use Prim.Native.Nat.{ℕ, zero, suc, _+_, _-_, _*_, _≤_}
 use native.Mathlib.Omega.{arith}
-use native.Mathlib.Numerals.{add-one}
-use lib.Dec.{eqb}
 use lib.ListN.{length}
 use borrow.Author.Tests.{eq-eqb, ne-eqb}
 use Rattle.fat_node.specs.Entry.{Bytes}
-use Rattle.fat_node.specs.Node.{Run, run, NodeAt, prevAt, nextAt, setNode, setHead}
-use Rattle.fat_node.proofs.Nodes.{length-setNode, length-setHead}
+use Rattle.fat_node.specs.Node.{run, NodeAt, prevAt, nextAt, setNode, setHead}
+use Rattle.fat_node.proofs.Nodes.{length-setNode}
 use Rattle.fat_table.specs.Chain.{sizeAt}
 use Rattle.fat_table.proofs.Sounds.{node-size}
 use Rattle.fat.specs.Inner.{Standing, StandingAt, withPrev, joinAt, endAt, splitAt, cutAt}

@@ -1,31 +1,27 @@
 -- What the inner calls return, from what they call. Assumes nothing.
 use mathlib.Core.Path.{_≡_, refl, sym, ap, subst, subst⁻¹, _∙_}
-use mathlib.Core.List.{List, [], _∷_, _++_, append-nil, append-assoc}
-use mathlib.Core.Logic.{_≢_, _⊎_, inl, inr, ⊎-elim}
+use mathlib.Core.List.{List, [], _∷_, _++_, append-assoc}
+use mathlib.Core.Logic.{inl, inr}
 use mathlib.Core.Bool.{Bool, true, false}
-use Prim.Native.Nat.{ℕ, zero, suc, _+_, _-_, _*_, _≤_, _<_}
+use Prim.Native.Nat.{ℕ, _+_, _-_, _≤_}
 use native.Mathlib.Omega.{arith}
 use native.Mathlib.Numerals.{add-one}
-use lib.ListN.{length}
 use Rattle.words.proofs.Laws as words
-use Rattle.order.specs.First.{Row, row, First}
-use Rattle.order.specs.declared.Answer.{Answer}
+use Rattle.order.specs.First.{First}
 use Rattle.order.specs.declared.Answer.the-variants as is
 use Rattle.fat_node.specs.Entry.{Bytes}
-use Rattle.fat_node.specs.Node.{Run, run, nextAt, setHead}
+use Rattle.fat_node.specs.Node.{Run, nextAt, setHead}
 use Rattle.fat_table.specs.Sound.{File}
 use Rattle.fat_table.specs.Chain.{total, sizeAt, headAt, chainAt, freeAt, fileAt}
-use Rattle.fat_table.specs.Steps.{first, created, resized, deleted}
+use Rattle.fat_table.specs.Steps.{first, created, deleted}
 use Rattle.fat_table.proofs.Laying.{first-inside}
-use Rattle.fat_table.proofs.Files.{Whole}
-use Rattle.fat.specs.Calls.{Create, createGives, createRows, createDone, Change, changeGives, resizeRows, resizeDone, deleteRows, deleteDone}
+use Rattle.fat.specs.Calls.{createGives, createRows, createDone, changeGives, deleteRows, deleteDone}
 use Rattle.fat.specs.Inner.{Volume, Standing, StandingAt, Chain, ChainFrom, joinAt, cutAt, Inside, LastIs, none, node, Beyond, SeekSays, LastAt}
 use Rattle.fat.specs.declared.Sought.{Sought}
 use Rattle.fat.specs.declared.Sought.the-variants.{Within, Past}
 use Rattle.fat_table.proofs.Unchanged.{total-append}
-use Rattle.fat.proofs.Joins.{mid-standing, mid-next, mid-size, mid-within}
-use Rattle.fat.proofs.Few.{free-chain, file-chain, created-few, deleted-few, resized-few, resized-same, both-chain, both-bytes, file-fits}
-use Rattle.fat.proofs.Walks.{Named, named}
+use Rattle.fat.proofs.Joins.{mid-standing, mid-next, mid-size}
+use Rattle.fat.proofs.Few.{free-chain, file-chain, created-few, deleted-few}
 use Rattle.fat.proofs.Hops.{whole-of}
 
 -- chains and their nodes --------------------------------------------------------------------------------

@@ -1,23 +1,21 @@
 -- Each step on a sound table, as the few writes that the code makes. Assumes nothing.
-use mathlib.Core.Path.{_≡_, refl, sym, ap, subst, subst⁻¹, _∙_}
+use mathlib.Core.Path.{_≡_, refl, sym, ap, subst, _∙_}
 use mathlib.Core.List.{List, [], _∷_, _++_, append-nil, append-assoc, List·Permᴰ, List·Permᴰ·nil, List·Permᴰ·cons, List·Permᴰ·swap, List·Permᴰ·trans}
-use mathlib.Core.Logic.{_≢_, _⊎_, inl, inr, ⊎-elim}
-use Prim.Native.Nat.{ℕ, zero, suc, _+_, _-_, _*_, _≤_, _<_}
+use mathlib.Core.Logic.{_⊎_, inl, inr, ⊎-elim}
+use Prim.Native.Nat.{ℕ, zero, suc, _+_, _-_, _≤_}
 use native.Mathlib.Omega.{arith}
 use native.Mathlib.Numerals.{add-one}
-use lib.Dec.{eqb, leb}
 use lib.ListN.{length}
 use borrow.Author.Tests.{eq-eqb, ne-eqb, le-leb, lt-leb}
 use Rattle.words.proofs.Laws as words
-use Rattle.fat_node.specs.Entry.{Bytes, Entry, entry, get, put}
-use Rattle.fat_node.specs.Node.{Run, run, setNode, setHead}
+use Rattle.fat_node.specs.Entry.{Bytes, Entry, entry}
+use Rattle.fat_node.specs.Node.{Run, run, setHead}
 use Rattle.fat_node.proofs.Entries.{put-same}
 use Rattle.fat_node.proofs.Nodes.{le-or-lt}
 use Rattle.fat_table.specs.Sound.{File}
-use Rattle.fat_table.specs.Chain.{total, sizeAt, headAt, chainAt, freeAt, fileAt}
-use Rattle.fat_table.specs.Layout.{Layout, layout, taken, left, joined, hits, covers, empties, runs, Tiled}
+use Rattle.fat_table.specs.Chain.{total, sizeAt, headAt, freeAt, fileAt}
+use Rattle.fat_table.specs.Layout.{Layout, taken, left, joined, hits, covers, empties, runs, Tiled}
 use Rattle.fat_table.specs.Steps.{first, lay, relaid, created, grown, shrunk, resized, deleted}
-use Rattle.fat_table.specs.Holds.{HoldsNode, Laid, Holds}
 use Rattle.fat_table.proofs.Layouts.{
   EndToEnd,
   hits-most,
@@ -32,11 +30,11 @@ use Rattle.fat_table.proofs.Layouts.{
   sorted,
 }
 use Rattle.fat_table.proofs.Writes.{cut-within, cut-between, lay-as, first-same}
-use Rattle.fat_table.proofs.Files.{Whole, Seen, SeenFile, seen, seen-file, bytes-lay}
-use Rattle.fat.specs.Inner.{Standing, Chain, ChainFrom, joinAt, endAt, splitAt, cutAt}
-use Rattle.fat.proofs.Over.{Begins, here, there, begins-left, begins-right}
+use Rattle.fat_table.proofs.Files.{Whole, seen, seen-file, bytes-lay}
+use Rattle.fat.specs.Inner.{Chain, ChainFrom, joinAt, cutAt}
+use Rattle.fat.proofs.Over.{Begins, here, there, begins-right}
 use Rattle.fat_table.proofs.Unchanged.{total-append}
-use Rattle.fat.proofs.Joins.{mid-size, mid-pos, end-relaid, split-relaid, join-lay, join-chain, join-over}
+use Rattle.fat.proofs.Joins.{mid-size, end-relaid, split-relaid, join-lay, join-chain, join-over}
 
 -- a cut of two chains in a row, in the first or in the second
 pub cut-first : (F G : List Run) (c : ℕ) → c ≤ total F → (taken (F ++ G) c ≡ taken F c) × (left (F ++ G) c ≡ left F c ++ G)

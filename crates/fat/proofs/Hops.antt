@@ -1,24 +1,23 @@
 -- A walk over the nodes in the order of their blocks: whether one starts at a block. Assumes nothing.
 use mathlib.Core.Path.{_≡_, refl, sym, ap, subst, subst⁻¹, _∙_}
-use mathlib.Core.List.{List, [], _∷_, _++_, List·Permᴰ, List·Memᴰ·cases-cons}
-use mathlib.Core.Logic.{_≢_, _⊎_, inl, inr, ⊎-elim}
+use mathlib.Core.List.{List·Memᴰ·cases-cons}
+use mathlib.Core.Logic.{⊎-elim}
 use mathlib.Core.Bool.{Bool, true, false, not}
-use Prim.Native.Nat.{ℕ, zero, suc, _+_, _-_, _*_, _≤_, _<_}
+use Prim.Native.Nat.{ℕ, zero, suc, _+_, _≤_, _<_}
 use native.Mathlib.Omega.{arith}
 use lib.Dec.{eqb}
-use lib.ListN.{length, getD}
-use borrow.Author.Tests.{eq-eqb, ne-eqb, eqb-true, eqb-false}
+use borrow.Author.Tests.{eq-eqb, eqb-true, eqb-false}
 use Rattle.words.proofs.Laws as words
-use Rattle.fat_node.specs.Entry.{Bytes, vAt}
+use Rattle.fat_node.specs.Entry.{Bytes}
 use Rattle.fat_node.specs.Node.{Run, run, NodeAt, prevAt, nextAt}
 use Rattle.fat_node.proofs.Nodes.{node-one, le-or-lt}
-use Rattle.fat_table.specs.Sound.{Starts, begin, after, IsNode, Sound, File}
+use Rattle.fat_table.specs.Sound.{Starts, begin, after, IsNode, File}
 use Rattle.fat_table.specs.Chain.{sizeAt, headAt, freeAt}
-use Rattle.fat_table.specs.Layout.{Layout, layout, hits, covers, empties, runs}
+use Rattle.fat_table.specs.Layout.{Layout, layout, hits}
 use Rattle.fat_table.proofs.Layouts.{hits-in, hits-most, covers-perm}
-use Rattle.fat_table.proofs.Chains.{In, pick, mem-perm, mem-hits}
+use Rattle.fat_table.proofs.Chains.{pick, mem-perm, mem-hits}
 use Rattle.fat_table.proofs.Sounds.{node-size, run-node, node-run}
-use Rattle.fat_table.proofs.Files.{Whole, Seen, seen}
+use Rattle.fat_table.proofs.Files.{Whole, seen}
 use Rattle.fat.specs.Inner.{Volume, Standing}
 
 pub whole-of : (n : ℕ) (t : Bytes) → Volume n t → words.Bytes t → Whole n t

@@ -1,28 +1,27 @@
 -- Chains joined and cut by a few writes. Assumes nothing.
-use mathlib.Core.Path.{_≡_, refl, sym, ap, subst, subst⁻¹, _∙_}
-use mathlib.Core.List.{List, [], _∷_, _++_, append-nil, append-assoc}
-use mathlib.Core.Logic.{_≢_, _⊎_, inl, inr, ⊎-elim}
-use Prim.Native.Nat.{ℕ, zero, suc, _+_, _-_, _*_, _≤_, _<_}
+use mathlib.Core.Path.{_≡_, refl, sym, ap, _∙_}
+use mathlib.Core.List.{List, [], _∷_, _++_}
+use mathlib.Core.Logic.{_⊎_}
+use Prim.Native.Nat.{ℕ, suc, _+_, _-_, _≤_, _<_}
 use native.Mathlib.Omega.{arith}
 use native.Mathlib.Numerals.{add-one}
-use lib.ListN.{length}
 use Rattle.words.proofs.Laws as words
-use Rattle.fat_node.specs.Entry.{Bytes, Entry, entry, get, put}
-use Rattle.fat_node.specs.Node.{Run, run, NodeAt, prevAt, nextAt, startEntry, spanEntry, setNode, setHead}
-use Rattle.fat_node.proofs.Nodes.{le-or-lt, bytes-setNode, length-setNode}
+use Rattle.fat_node.specs.Entry.{Bytes}
+use Rattle.fat_node.specs.Node.{Run, run, NodeAt, prevAt, nextAt, startEntry, setNode, setHead}
+use Rattle.fat_node.proofs.Nodes.{bytes-setNode}
 use Rattle.fat_table.specs.Chain.{total, sizeAt}
 use Rattle.fat_table.specs.Layout.{hits, covers, empties}
 use Rattle.fat_table.specs.Steps.{first, lay, relaid}
 use Rattle.fat_table.specs.Holds.{HoldsNode, Laid}
 use Rattle.fat_table.proofs.Layouts.{hits-in, hits-most, hits-split, covers-append, empties-append}
-use Rattle.fat_table.proofs.Laying.{length-lay, apart, keep-holds, inside-of, first-inside, laid-lay}
+use Rattle.fat_table.proofs.Laying.{length-lay, inside-of, first-inside, laid-lay}
 use Rattle.fat_table.proofs.Stepped.{read-prev, read-next, read-size}
 use Rattle.fat_table.proofs.Sounds.{holds-node}
 use Rattle.fat_table.proofs.Resizes.{last-inside}
 use Rattle.fat_table.proofs.Unchanged.{total-append}
-use Rattle.fat_table.proofs.Writes.{lastOf, relink, lay-as, lay-after, lay-relink, keep-laid, laid-suffix, first-same}
-use Rattle.fat.specs.Inner.{Standing, Chain, withPrev, joinAt, endAt, splitAt, cutAt}
-use Rattle.fat.proofs.Over.{setNode-link, setNode-beside, Begins, here, there, begins-left, begins-right, begins-covers, relaid-over}
+use Rattle.fat_table.proofs.Writes.{lastOf, relink, lay-after, lay-relink, keep-laid, laid-suffix}
+use Rattle.fat.specs.Inner.{Standing, Chain, withPrev, joinAt, endAt, splitAt}
+use Rattle.fat.proofs.Over.{setNode-link, setNode-beside, Begins, relaid-over}
 
 -- the node x of a chain that stands: what is read of it
 module _ (n : ℕ) (t : Bytes) (P : List Run) (x : Run) (B : List Run) (c : Chain n t (P ++ x ∷ B)) where

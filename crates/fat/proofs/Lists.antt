@@ -1,20 +1,20 @@
 -- The blocks of a chain written into a list. Assumes nothing.
-use mathlib.Core.Path.{_≡_, refl, sym, ap, subst, subst⁻¹, _∙_}
-use mathlib.Core.List.{List, [], _∷_, _++_, append-nil, append-assoc}
-use mathlib.Core.Logic.{_≢_, _⊎_, inl, inr, ⊎-elim}
+use mathlib.Core.Path.{_≡_, refl, sym, ap, subst, _∙_}
+use mathlib.Core.List.{List, [], _∷_, _++_, append-assoc}
+use mathlib.Core.Logic.{inl, inr, ⊎-elim}
 use Prim.Native.Nat.{ℕ, zero, suc, _+_, _-_, _*_, _≤_, _<_}
 use native.Mathlib.Omega.{arith}
 use native.Mathlib.Numerals.{add-one}
-use lib.ListN.{length, set, take, drop, length-set, length-append}
+use lib.ListN.{length, set, drop, length-set, length-append}
 use lib.Seq.{sets, length-sets, sets-eq}
-use Rattle.order.specs.First.{Row, row, First}
+use Rattle.order.specs.First.{First}
 use Rattle.order.specs.declared.Answer.the-variants as is
 use Rattle.fat_node.specs.Entry.{Bytes}
 use Rattle.fat_node.proofs.Nodes.{le-or-lt}
 use Rattle.fat_table.specs.Sound.{File}
 use Rattle.fat.specs.Calls.{listGives, listRows, listDone}
 use Rattle.fat.proofs.Done.{inside-count}
-use Rattle.fat_node.specs.Node.{Run, run, nextAt}
+use Rattle.fat_node.specs.Node.{Run, nextAt}
 use Rattle.fat_table.specs.Chain.{total, sizeAt, chainAt, fileAt}
 use Rattle.fat_table.specs.Steps.{first}
 use Rattle.fat.specs.Blocks.{blocksFrom, blocksOf}

@@ -1,19 +1,18 @@
 -- Writes of start entries, and what writes them again. Assumes nothing.
-use mathlib.Core.Path.{_≡_, refl, sym, ap, subst, subst⁻¹, _∙_}
-use mathlib.Core.List.{List, [], _∷_, _++_, append-nil, append-assoc}
+use mathlib.Core.Path.{_≡_, refl, sym, ap, _∙_}
+use mathlib.Core.List.{List, [], _∷_, _++_}
 use mathlib.Core.Logic.{_≢_, _⊎_, inl, inr, ⊎-elim}
-use Prim.Native.Nat.{ℕ, zero, suc, _+_, _-_, _*_, _≤_, _<_}
+use Prim.Native.Nat.{ℕ, suc, _+_, _≤_, _<_}
 use native.Mathlib.Omega.{arith}
-use lib.ListN.{length}
 use Rattle.words.proofs.Laws as words
-use Rattle.fat_node.specs.Entry.{Bytes, Entry, entry, get, put}
-use Rattle.fat_node.specs.Node.{Run, run, startEntry, spanEntry, setNode, setHead}
+use Rattle.fat_node.specs.Entry.{Bytes, Entry, put}
+use Rattle.fat_node.specs.Node.{Run, startEntry, spanEntry, setNode, setHead}
 use Rattle.fat_node.proofs.Entries.{get-other, bytes-put, put-same, put-put, put-comm}
 use Rattle.fat_node.proofs.Nodes.{le-or-lt, one-or-more, setNode-one, setNode-more}
 use Rattle.fat_table.specs.Layout.{hits, covers, empties}
 use Rattle.fat_table.specs.Steps.{first, lay, relaid}
-use Rattle.fat_table.specs.Holds.{HoldsNode, Laid}
-use Rattle.fat_table.proofs.Layouts.{hits-in, covers-append, empties-append}
+use Rattle.fat_table.specs.Holds.{HoldsNode}
+use Rattle.fat_table.proofs.Layouts.{hits-in}
 
 module _ (t : Bytes) (r : Run) (p q : ℕ) where
   -- a node that stands gets other links: one entry is written

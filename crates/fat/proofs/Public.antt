@@ -1,16 +1,13 @@
 -- A public call is the gate, then the call that requires soundness. Assumes nothing.
-use mathlib.Core.Path.{_≡_, refl, sym, ap, subst, subst⁻¹, _∙_}
-use mathlib.Core.List.{List, [], _∷_, _++_}
+use mathlib.Core.Path.{_≡_, subst, subst⁻¹}
+use mathlib.Core.List.{List}
 use mathlib.Core.Logic.{_⊎_, inl, inr, ⊎-elim}
-use mathlib.Core.Bool.{Bool, true, false}
-use borrow.Author.Tests.{eqb-true, eqb-false}
-use Prim.Native.Nat.{ℕ, zero, suc, _+_, _-_, _*_, _/_, _%_, _≤_, _<_}
+use Prim.Native.Nat.{ℕ, _+_, _*_, _≤_, _<_}
 use native.Mathlib.Omega.{arith}
-use lib.Dec.{eqb}
 use lib.ListN.{length}
-use Rattle.order.specs.First.{Row, row, First}
-use Rattle.order.specs.Gate.{cleared, Refusal, refusal}
-use Rattle.order.specs.Given.{Given, None}
+use Rattle.order.specs.First.{Row, First}
+use Rattle.order.specs.Gate.{cleared, refusal}
+use Rattle.order.specs.Given.{Given}
 use Rattle.order.specs.declared.Answer.{Answer}
 use Rattle.order.specs.declared.Answer.the-variants.{BrokenFat}
 use Rattle.order.proofs.Beside as rows
@@ -19,12 +16,13 @@ use Rattle.fat_node.specs.Entry.{Bytes}
 use Rattle.fat_node.specs.Sizes.{blocks, Misfit, Outside}
 use Rattle.fat_node.proofs.Sizes.{fit, inside}
 use Rattle.fat_node.proofs.Nodes.{le-or-lt}
+use Rattle.links.proofs.Held.{same-or}
 use Rattle.fat_table.specs.Sound.{Sound}
 use Rattle.fat_test.specs.Gate.{blockGate}
 use Rattle.fat_test.specs.Promise.{Opened, GateOf}
 use Rattle.fat_test.specs.declared.Gated.{Gated}
 use Rattle.fat_test.specs.declared.Gated.the-variants.{Open, Refused}
-use Rattle.fat.specs.Promise.{Beside, beside, within, Promise}
+use Rattle.fat.specs.Promise.{beside, Promise}
 use Rattle.fat.specs.Inner.{Volume}
 
 module _ {A : Type 0} (refuse : Answer → A) (t : Bytes) (d l : ℕ) (work : List ℕ) (own : List (Row A)) (done : A) where
@@ -54,11 +52,7 @@ module _ (t : Bytes) (d l : ℕ) (work work′ : List ℕ) (free files : ℕ) (g
 
   -- data and block length, for read and write
   pub open-data : d ≡ blocks t * l
-  open-data = go (eqb d (blocks t * l)) refl
-    where
-      go : (b : Bool) → eqb d (blocks t * l) ≡ b → d ≡ blocks t * l
-      go true e = eqb-true d (blocks t * l) e
-      go false e = absurd (g .none .0 (inr (eqb-false d (blocks t * l) e)))
+  open-data = ⊎-elim (λ e. e) (λ f. absurd (g .none .0 (inr f))) (same-or d (blocks t * l))
 
   pub open-block : (1 ≤ l) × (l ≤ 65536)
   open-block = (

@@ -1,32 +1,30 @@
 -- What a resize plans and does. Assumes nothing.
 use mathlib.Core.Path.{_≡_, refl, sym, ap, subst, subst⁻¹, _∙_}
-use mathlib.Core.List.{List, [], _∷_, _++_, append-nil, append-assoc}
-use mathlib.Core.Logic.{_≢_, _⊎_, inl, inr, ⊎-elim}
-use mathlib.Core.Bool.{Bool, true, false}
-use Prim.Native.Nat.{ℕ, zero, suc, _+_, _-_, _*_, _≤_, _<_}
+use mathlib.Core.List.{List, [], _∷_, _++_, append-assoc}
+use mathlib.Core.Logic.{inl, inr}
+use mathlib.Core.Bool.{true, false}
+use Prim.Native.Nat.{ℕ, _+_, _≤_, _<_}
 use native.Mathlib.Omega.{arith}
 use native.Mathlib.Numerals.{add-one}
 use lib.Dec.{eqb}
-use lib.ListN.{length}
 use borrow.Author.Tests.{eqb-true}
 use Rattle.words.proofs.Laws as words
-use Rattle.order.specs.First.{Row, row, First}
-use Rattle.order.specs.declared.Answer.{Answer}
+use Rattle.order.specs.First.{First}
 use Rattle.order.specs.declared.Answer.the-variants as is
 use Rattle.fat_node.specs.Entry.{Bytes}
-use Rattle.fat_node.specs.Node.{Run, run, nextAt}
+use Rattle.fat_node.specs.Node.{Run, nextAt}
 use Rattle.fat_table.specs.Sound.{File}
 use Rattle.fat_table.specs.Chain.{total, sizeAt, headAt, chainAt, freeAt, fileAt}
 use Rattle.fat_table.specs.Steps.{first, resized}
-use Rattle.fat.specs.Calls.{Change, changeGives, resizeRows, resizeDone}
+use Rattle.fat.specs.Calls.{changeGives, resizeRows, resizeDone}
 use Rattle.fat.specs.Inner.{Volume, Standing, StandingAt, Chain, ChainFrom, joinAt, cutAt, Inside, Beyond, LastAt, CutAt, PlanSays}
 use Rattle.fat.specs.declared.Planned.{Planned}
 use Rattle.fat.specs.declared.Planned.the-variants.{Cut, Same, Full}
 use Rattle.fat_table.proofs.Unchanged.{total-append}
 use Rattle.fat.proofs.Joins.{mid-next}
-use Rattle.fat.proofs.Few.{both-is, both-chain, both-bytes, resized-few, resized-same}
+use Rattle.fat.proofs.Few.{both-is, both-chain, resized-few, resized-same}
 use Rattle.fat.proofs.Walks.{ended}
-use Rattle.fat.proofs.Done.{inside-standing, inside-next, inside-part, inside-size, inside-count}
+use Rattle.fat.proofs.Done.{inside-standing, inside-next, inside-part, inside-size}
 use Rattle.fat.proofs.Hops.{whole-of}
 
 pub end-yes : (t : Bytes) (b s q m : ℕ) → s ≡ sizeAt t b → q ≡ nextAt t b → m ≡ s → eqb q 0 ≡ true → (m ≡ sizeAt t b) × (nextAt t b ≡ 0)

@@ -1,18 +1,16 @@
 -- A walk along a chain that stands. Assumes nothing.
 use mathlib.Core.Path.{_≡_, refl, sym, ap, subst, subst⁻¹, _∙_}
 use mathlib.Core.List.{List, [], _∷_, _++_, append-nil, append-assoc}
-use mathlib.Core.Logic.{_≢_, _⊎_, inl, inr, ⊎-elim}
-use Prim.Native.Nat.{ℕ, zero, suc, _+_, _-_, _*_, _≤_, _<_}
+use Prim.Native.Nat.{ℕ, suc, _+_, _-_, _*_, _≤_, _<_}
 use native.Mathlib.Omega.{arith}
-use native.Mathlib.Numerals.{add-one}
 use lib.ListN.{length}
 use Rattle.fat_node.specs.Entry.{Bytes}
-use Rattle.fat_node.specs.Node.{Run, run, prevAt, nextAt}
+use Rattle.fat_node.specs.Node.{Run, nextAt}
 use Rattle.fat_table.specs.Chain.{total, sizeAt}
 use Rattle.fat_table.specs.Steps.{first}
 use Rattle.fat.specs.Inner.{Standing, Chain, Inside, LastIs, none, node, Beyond}
 use Rattle.fat_table.proofs.Unchanged.{total-append}
-use Rattle.fat.proofs.Joins.{mid-size, mid-next, mid-standing, mid-first, mid-pos}
+use Rattle.fat.proofs.Joins.{mid-size, mid-next, mid-standing, mid-pos}
 
 -- a walk along l that seeks block k₀, at index i, with k blocks to go
 pub record Seeking (l : List Run) (k₀ i last k : ℕ) : Type 0 where

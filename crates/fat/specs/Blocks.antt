@@ -1,9 +1,9 @@
 -- The blocks of a chain, and where the bytes of its file lie in the data. Assumes nothing.
 use mathlib.Core.List.{List, [], _∷_, _++_}
 use Prim.Native.Nat.{ℕ, zero, suc, _+_, _*_, _/_, _%_}
-use lib.ListN.{length, getD, set}
+use lib.ListN.{getD, set}
 use Rattle.fat_node.specs.Entry.{Bytes}
-use Rattle.fat_node.specs.Node.{Run, run}
+use Rattle.fat_node.specs.Node.{Run}
 
 -- s blocks, from block b on
 abbrev pub blocksFrom : ℕ → ℕ → List ℕ

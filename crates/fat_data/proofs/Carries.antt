@@ -1,29 +1,28 @@
 -- Read and write: along a chain, a node's share at a time. Assumes nothing.
 use mathlib.Core.Path.{_≡_, refl, sym, ap, subst, subst⁻¹, _∙_}
-use mathlib.Core.List.{List, [], _∷_, _++_, append-nil, append-assoc}
-use mathlib.Core.Logic.{_⊎_, inl, inr, ⊎-elim}
-use Prim.Native.Nat.{ℕ, zero, suc, _+_, _-_, _*_, _/_, _%_, _≤_, _<_}
+use mathlib.Core.List.{List, [], _∷_, _++_, append-assoc}
+use mathlib.Core.Logic.{inl, inr, ⊎-elim}
+use Prim.Native.Nat.{ℕ, suc, _+_, _-_, _*_, _/_, _%_, _≤_, _<_}
 use native.Mathlib.Omega.{arith}
 use native.Mathlib.Numerals.{add-one}
 use native.Mathlib.Nat.{add-mul, suc-mul, mod-lt, div-add-mod', div-lt-iff-lt-mul, mul-le-mul, mul-le-mul-right, one-le-mul}
 use mathlib.Core.Bool.{Bool, true, false}
 use lib.Dec.{ltb}
 use borrow.Author.Tests.{ltb-true, ltb-false}
-use lib.ListN.{length, getD, set, take, drop, length-drop}
+use lib.ListN.{length, take, drop, length-drop}
 use lib.Seq.{sets, length-sets, length-take-le, take-length, take-add}
 use Rattle.fat_node.specs.Entry.{Bytes}
-use Rattle.fat_node.specs.Node.{Run, run, nextAt}
+use Rattle.fat_node.specs.Node.{Run, nextAt}
 use Rattle.fat_node.proofs.Nodes.{le-or-lt}
-use Rattle.order.specs.First.{Row, row, First}
-use Rattle.order.specs.declared.Answer.{Answer}
+use Rattle.order.specs.First.{First}
 use Rattle.order.specs.declared.Answer.the-variants as is
 use Rattle.fat_node.specs.Sizes.{blocks}
 use Rattle.fat_table.specs.Sound.{File}
-use Rattle.fat_table.specs.Chain.{total, sizeAt, chainAt, fileAt}
+use Rattle.fat_table.specs.Chain.{total, sizeAt, chainAt}
 use Rattle.fat_table.specs.Steps.{first}
-use Rattle.fat.specs.Blocks.{blocksOf, placeOf, bytesAt, written}
+use Rattle.fat.specs.Blocks.{blocksOf, bytesAt, written}
 use Rattle.fat.specs.Calls.{Carry, carryGives, carryRows, readDone, writeDone, sizeOf}
-use Rattle.fat.specs.Inner.{Standing, Chain, ChainFrom, Inside, Beyond, SeekSays, Least}
+use Rattle.fat.specs.Inner.{Standing, Chain, ChainFrom, SeekSays, Least}
 use Rattle.fat_data.specs.Stretches.{Data, CursorAt, StretchOf}
 use Rattle.fat.specs.declared.Sought.{Sought}
 use Rattle.fat.specs.declared.Sought.the-variants.{Within, Past}

@@ -1,13 +1,13 @@
 -- The bytes of a file in a row, within one node of its chain: they lie in a row in the data. Assumes nothing.
-use mathlib.Core.Path.{_≡_, refl, sym, ap, subst, subst⁻¹, _∙_}
-use mathlib.Core.List.{List, [], _∷_, _++_, append-nil, append-assoc}
-use Prim.Native.Nat.{ℕ, zero, suc, _+_, _-_, _*_, _/_, _%_, _≤_, _<_}
+use mathlib.Core.Path.{_≡_, refl, sym, ap, _∙_}
+use mathlib.Core.List.{List, [], _∷_, _++_, append-assoc}
+use Prim.Native.Nat.{ℕ, zero, suc, _+_, _*_, _/_, _%_, _≤_, _<_}
 use native.Mathlib.Omega.{arith}
 use native.Mathlib.Nat.{mul-add-div-right, mul-add-mod-self-right, div-lt-iff-lt-mul, div-add-mod', add-mul}
-use lib.ListN.{length, getD, set, take, drop, length-append, List·getD-append}
+use lib.ListN.{length, getD, set, take, drop, List·getD-append}
 use lib.Seq.{sets, drop-cons, getD-append-add}
 use Rattle.fat_node.specs.Entry.{Bytes}
-use Rattle.fat_node.specs.Node.{Run, run}
+use Rattle.fat_node.specs.Node.{Run}
 use Rattle.fat_table.specs.Chain.{total}
 use Rattle.fat.proofs.Lists.{length-from, length-blocks}
 use Rattle.fat.specs.Blocks.{blocksFrom, blocksOf, placeOf, bytesAt, written}

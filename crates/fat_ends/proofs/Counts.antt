@@ -1,17 +1,16 @@
 -- The counts that the passes find are those that the table's rule defines: the sizes along the free chain, summed, and the number of other chains.
 -- Assumes nothing.
-use mathlib.Core.Path.{_≡_, refl, sym, ap, subst, _∙_}
-use mathlib.Core.List.{List, [], _∷_}
+use mathlib.Core.Path.{_≡_, refl, sym, subst}
 use mathlib.Core.Bool.{Bool, true, false, cond}
 use mathlib.Core.Logic.{_⊎_, inl, inr, ⊎-elim}
-use Prim.Native.Nat.{ℕ, zero, suc, _+_, _<_, _≤_}
+use Prim.Native.Nat.{ℕ, zero, suc, _+_, _≤_}
 use native.Mathlib.Nat.{eq-or-lt-of-le}
 use native.Mathlib.Numerals.{add-one}
 use native.Mathlib.Omega.{arith}
-use lib.Dec.{eqb, ltb}
+use lib.Dec.{eqb}
 use borrow.Author.Tests.{eqb-true, eqb-false, lt-ltb, le-ltb}
 use Rattle.fat_node.specs.Entry.{Bytes, vAt}
-use Rattle.fat_node.specs.Node.{NodeAt, prevAt, nextAt}
+use Rattle.fat_node.specs.Node.{prevAt}
 use Rattle.fat_table.specs.Sound.{Starts, Covered, Sound, Along, Counted, File}
 use Rattle.fat_table.specs.Sound.Starts.{begin, after}
 use Rattle.fat_table.specs.Sound.Along.{end, node}

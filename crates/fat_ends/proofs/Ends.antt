@@ -12,13 +12,13 @@ use Rattle.fat_node.specs.Entry.{top, uAt, vAt}
 use Rattle.fat_node.specs.Node.{prevAt, nextAt, NodeAt}
 use Rattle.fat_node.proofs.Nodes.{le-or-lt}
 use Rattle.links.proofs.Held.{same-or}
-use Rattle.fat_table.specs.Sound.{Starts, IsNode, Covered, Path, Reached, Sound, Along, Counted, File}
+use Rattle.fat_table.specs.Sound.{Starts, IsNode, Covered, Path, Sound, Along, Counted, File}
 use Rattle.fat_table.specs.Sound.Starts.{begin, after}
 use Rattle.fat_table.specs.Sound.Path.{here, on}
 use Rattle.fat_ends.specs.Marks.{total, Tiled, HeadFits}
 use Rattle.fat_ends.specs.Ends.{span, Packed, Fresh, Tail, Frag, State, Backs, TiedEnds, Tile, Joinable, Joined}
 use Rattle.fat_ends.specs.Ends.Packed.{small, one, more}
-use Rattle.fat_ends.proofs.Laws.{none-or-some, inside, set-cases, total-in, total-zeros, zeros-at, one-size, Tiling, tiling-none, tiling-more, tiled, covered}
+use Rattle.fat_ends.proofs.Laws.{none-or-some, set-cases, total-in, total-zeros, zeros-at, one-size, Tiling, tiling-none, tiling-more, tiled, covered}
 
 -- ---- numbers and places
 other : (l : List ℕ) (i v x : ℕ) → (x ≡ i → ⊥) → getD (set l i v) x 0 ≡ getD l x 0

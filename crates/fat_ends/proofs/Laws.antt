@@ -1,17 +1,15 @@
 -- The mathematics of the table's test.
 -- Assumes nothing.
 use mathlib.Core.Path.{_≡_, refl, sym, ap, subst, _∙_}
-use mathlib.Core.List.{List, [], _∷_, _++_}
+use mathlib.Core.List.{List, [], _∷_}
 use mathlib.Core.Logic.{_⊎_, inl, inr, ⊎-elim}
-use mathlib.Core.Bool.{Bool, true, false}
 use Prim.Native.Nat.{ℕ, zero, suc, _+_, _<_, _≤_}
 use native.Mathlib.Nat.{eq-or-lt-of-le}
 use native.Mathlib.Omega.{arith}
-use lib.ListN.{length, getD, set, replicate, length-set, getD-replicate}
+use lib.ListN.{length, getD, set, replicate, length-set}
 use lib.Seq.{getD-set-same}
-use Rattle.fat_node.specs.Entry.{top, uAt, vAt}
-use Rattle.fat_node.specs.Node.{prevAt, nextAt, NodeAt}
-use Rattle.fat_table.specs.Sound.{Starts, IsNode, Covered, Path, Reached, Sound, Along, Counted}
+use Rattle.fat_node.specs.Node.{NodeAt}
+use Rattle.fat_table.specs.Sound.{Starts, IsNode, Covered}
 use Rattle.fat_table.specs.Sound.Starts.{begin, after}
 use Rattle.fat_ends.specs.Marks.{total, Tiled}
 

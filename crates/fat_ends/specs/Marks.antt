@@ -3,9 +3,9 @@
 use mathlib.Core.Path.{_≡_}
 use mathlib.Core.List.{List, [], _∷_}
 use Prim.Native.Nat.{ℕ, _+_, _<_}
-use lib.ListN.{length, getD}
-use Rattle.fat_node.specs.Node.{NodeAt, prevAt, nextAt}
-use Rattle.fat_table.specs.Sound.{IsNode, Along, Reached}
+use lib.ListN.{getD}
+use Rattle.fat_node.specs.Node.{NodeAt, prevAt}
+use Rattle.fat_table.specs.Sound.{IsNode}
 
 unfoldable pub total : List ℕ → ℕ
 total [] = 0

@@ -1,8 +1,8 @@
 -- A file that no call names stays: its chain, and its bytes in the data. Assumes nothing.
 use mathlib.Core.Path.{_≡_, refl, sym, ap, subst, subst⁻¹, _∙_}
-use mathlib.Core.List.{List, [], _∷_, _++_, List·Permᴰ, List·Permᴰ·swap}
-use mathlib.Core.Logic.{_≢_, _⊎_, inl, inr, ⊎-elim}
-use Prim.Native.Nat.{ℕ, zero, suc, _+_, _-_, _*_, _/_, _≤_, _<_}
+use mathlib.Core.List.{List, _∷_, _++_, List·Permᴰ·swap}
+use mathlib.Core.Logic.{_≢_, ⊎-elim}
+use Prim.Native.Nat.{ℕ, suc, _+_, _-_, _*_, _≤_, _<_}
 use native.Mathlib.Omega.{arith}
 use lib.ListN.{length, getD}
 use Rattle.words.proofs.Laws as words
@@ -10,9 +10,9 @@ use Rattle.fat_node.specs.Entry.{Bytes}
 use Rattle.fat_node.specs.Node.{Run, run}
 use Rattle.fat_node.specs.Sizes.{blocks}
 use Rattle.fat_node.proofs.Nodes.{le-or-lt}
-use Rattle.fat_table.specs.Sound.{Sound, File}
+use Rattle.fat_table.specs.Sound.{File}
 use Rattle.fat_table.specs.Chain.{total, freeAt, fileAt}
-use Rattle.fat_table.specs.Layout.{Layout, layout, taken, left, joined, hits, covers}
+use Rattle.fat_table.specs.Layout.{layout, taken, left, joined, hits, covers}
 use Rattle.fat_table.specs.Steps.{first, created, resized, deleted}
 use Rattle.fat_table.specs.Holds.{Holds}
 use Rattle.fat_table.proofs.Layouts.{hits-most, hits-below, covers-append}
@@ -29,22 +29,14 @@ use Rattle.fat_table.proofs.Files.{
   whole-deleted,
 }
 use Rattle.fat.specs.Promise.{Beside}
-use Rattle.fat.specs.Blocks.{blocksOf, placeOf, bytesAt, written}
-use Rattle.fat.specs.Calls.{Create, CreatePromise, Change, ResizePromise, DeletePromise, Carry, WritePromise, sizeOf}
+use Rattle.fat.specs.Blocks.{blocksOf, placeOf, written}
+use Rattle.fat.specs.Calls.{Create, Change, Carry}
 use Rattle.fat.proofs.Lists.{length-blocks}
 use Rattle.fat_history.specs.Away.{Away, none, creates, resizes, deletes, writes}
 use Rattle.fat_history.proofs.Means.{MayCarry, create-keeps, resize-keeps, delete-keeps, write-keeps}
 use Rattle.fat_history.proofs.Honest.{blocks-of}
 use Rattle.fat_history.proofs.Lies.{seen-two, two-apart}
-use Rattle.fat_history.proofs.Places.{
-  occurs,
-  occurs-blocks,
-  places-apart,
-  places-differ,
-  place-low,
-  length-written,
-  written-other,
-}
+use Rattle.fat_history.proofs.Places.{occurs, occurs-blocks, places-apart, length-written, written-other}
 
 -- the file at b is in t′ what it is in t
 pub record SameFile (n : ℕ) (t t′ : Bytes) (b : ℕ) : Type 0 where

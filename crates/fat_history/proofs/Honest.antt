@@ -1,23 +1,20 @@
 -- Demand 3 over the calls' promises: what a run ends in is sound, and every sound table is what a run ends in, where the rules read. Assumes nothing.
 use mathlib.Core.Path.{_≡_, refl, sym, ap, subst, subst⁻¹, _∙_}
 use mathlib.Core.List.{List, [], _∷_, _++_}
-use mathlib.Core.Logic.{_≢_, _⊎_, inl, inr, ⊎-elim}
-use Prim.Native.Nat.{ℕ, zero, suc, _+_, _-_, _*_, _/_, _≤_, _<_}
+use Prim.Native.Nat.{ℕ, suc, _+_, _-_, _*_, _/_, _≤_}
 use native.Mathlib.Omega.{arith}
-use lib.ListN.{length, getD, replicate, length-replicate}
+use lib.ListN.{length, replicate, length-replicate}
 use Rattle.words.proofs.Laws as words
-use Rattle.order.specs.declared.Answer.{Answer}
 use Rattle.order.specs.declared.Answer.the-variants.{Done}
 use Rattle.fat_node.specs.Entry.{Bytes}
 use Rattle.fat_node.specs.Node.{Run, run}
 use Rattle.fat_node.specs.Sizes.{blocks}
 use Rattle.fat_node.specs.Format.{formatted}
-use Rattle.fat_node.specs.declared.Formatted.{Formatted}
 use Rattle.fat_table.specs.Sound.{Sound, File}
-use Rattle.fat_table.specs.Chain.{total, freeAt, fileAt}
+use Rattle.fat_table.specs.Chain.{total, freeAt}
 use Rattle.fat_table.specs.Layout.{Layout, layout, taken, left}
 use Rattle.fat_table.specs.Layout as layouts
-use Rattle.fat_table.specs.Steps.{first, created, resized, deleted}
+use Rattle.fat_table.specs.Steps.{created, resized, deleted}
 use Rattle.fat_table.specs.Holds.{Holds}
 use Rattle.fat_table.specs.Counts.{nodes}
 use Rattle.fat_table.specs.Agree.{Agree}

@@ -1,23 +1,22 @@
 -- Two files of a sound table lie apart, and each block lies in one chain. Assumes nothing.
-use mathlib.Core.Path.{_≡_, refl, sym, ap, subst, subst⁻¹, _∙_}
-use mathlib.Core.List.{List, [], _∷_, _++_, List·Permᴰ, List·Permᴰ·nil, List·Permᴰ·cons, List·Permᴰ·swap, List·Permᴰ·trans, Permᴰ·refl, Permᴰ·symm}
+use mathlib.Core.Path.{_≡_, refl, ap, subst⁻¹, _∙_}
+use mathlib.Core.List.{List, [], _∷_, _++_, List·Permᴰ, List·Permᴰ·cons, List·Permᴰ·swap, List·Permᴰ·trans, Permᴰ·refl}
 use mathlib.Core.Logic.{_≢_, _⊎_, inl, inr, ⊎-elim}
-use Prim.Native.Nat.{ℕ, zero, suc, _+_, _-_, _*_, _≤_, _<_}
+use Prim.Native.Nat.{ℕ, suc, _+_, _≤_, _<_}
 use native.Mathlib.Omega.{arith}
-use lib.ListN.{length}
-use Rattle.fat_node.specs.Entry.{Bytes, Entry, entry, get}
+use Rattle.fat_node.specs.Entry.{Bytes, Entry}
 use Rattle.fat_node.specs.Node.{Run, run, prevAt, nextAt}
 use Rattle.fat_node.proofs.Nodes.{le-or-lt}
-use Rattle.fat_table.specs.Sound.{Sound, File}
-use Rattle.fat_table.specs.Chain.{total, freeAt, fileAt}
-use Rattle.fat_table.specs.Layout.{Layout, layout, joined, hits, covers, empties, blanks, runs, Tiled}
+use Rattle.fat_table.specs.Sound.{File}
+use Rattle.fat_table.specs.Chain.{freeAt, fileAt}
+use Rattle.fat_table.specs.Layout.{Layout, layout, joined, hits, covers}
 use Rattle.fat_table.specs.Steps.{first}
 use Rattle.fat_table.specs.Holds.{Holds}
-use Rattle.fat_table.proofs.Layouts.{hits-in, hits-most, covers-append, joined-covers, blanks-perm}
-use Rattle.fat_table.proofs.Chains.{In, mem-either, chain-of, Linked, path-prev}
+use Rattle.fat_table.proofs.Layouts.{hits-in, covers-append}
+use Rattle.fat_table.proofs.Chains.{mem-either, chain-of, path-prev}
 use Rattle.fat_table.proofs.Stepped.{holds-order}
 use Rattle.fat_table.proofs.Sounds.{node-run}
-use Rattle.fat_table.proofs.Files.{Whole, Seen, seen, SeenFile, seen-file, some-first, free-path, file-path, is-file, file-is}
+use Rattle.fat_table.proofs.Files.{Whole, seen, seen-file, some-first, free-path, file-path, is-file, file-is}
 use Rattle.fat_history.specs.OneChain.{InFree, InFile, OneChain}
 
 -- another file of the table is among the other chains of the layout

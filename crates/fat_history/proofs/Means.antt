@@ -1,43 +1,32 @@
 -- What an outcome of each call says, and that a call which may be done is. Assumes nothing.
-use mathlib.Core.Path.{_≡_, refl, sym, ap, subst, subst⁻¹, _∙_}
-use mathlib.Core.List.{List, [], _∷_, _++_}
-use mathlib.Core.Logic.{_≢_, _⊎_, inl, inr, ⊎-elim}
-use Prim.Native.Nat.{ℕ, zero, suc, _+_, _-_, _*_, _/_, _%_, _≤_, _<_}
+use mathlib.Core.Path.{_≡_, refl, ap}
+use mathlib.Core.List.{List, _++_}
+use mathlib.Core.Logic.{_⊎_, inl, inr, ⊎-elim}
+use Prim.Native.Nat.{ℕ, _+_, _*_, _%_, _≤_, _<_}
 use native.Mathlib.Omega.{arith}
-use lib.ListN.{length, getD, replicate, length-replicate}
+use lib.ListN.{length}
 use Rattle.words.proofs.Laws as words
-use Rattle.order.specs.First.{Row, row, First}
+use Rattle.order.specs.First.{Row, First}
 use Rattle.order.specs.Given.{None}
 use Rattle.order.specs.Gate.{cleared}
 use Rattle.order.specs.Answer.{numberOf}
 use Rattle.order.proofs.One.{one}
 use Rattle.order.specs.declared.Answer.{Answer}
-use Rattle.order.specs.declared.Answer.the-variants.{
-  Done,
-  SizeMismatch,
-  InvalidValue,
-  WorkTooShort,
-  BrokenFat,
-  NotAFile,
-  NoSpace,
-  OutOfBound,
-  ListTooShort,
-}
+use Rattle.order.specs.declared.Answer.the-variants.{Done, SizeMismatch, InvalidValue, WorkTooShort, BrokenFat, NotAFile, NoSpace, OutOfBound}
 use Rattle.fat_node.specs.Entry.{Bytes}
 use Rattle.fat_node.specs.Sizes.{blocks, Misfit, Outside}
-use Rattle.fat_node.specs.Format.{formatted, formatGives, formatRows, formatDone, FormatPromise}
+use Rattle.fat_node.specs.Format.{formatted, formatRows, formatDone, FormatPromise}
 use Rattle.fat_node.specs.declared.Formatted.{Formatted}
 use Rattle.fat_node.proofs.Nodes.{le-or-lt}
 use Rattle.links.proofs.Held.{same-or}
 use Rattle.fat_table.specs.Sound.{Sound, File}
 use Rattle.fat_table.specs.Chain.{total, freeAt, fileAt}
-use Rattle.fat_table.specs.Steps.{created, createdAt, resized, deleted}
 use Rattle.fat_table.proofs.Files.{Whole}
 use Rattle.fat_table.proofs.Decided.{sound-decided, file-decided}
 use Rattle.fat_test.specs.Gate.{testGate, blockGate}
-use Rattle.fat_test.specs.Promise.{tested, testRefused, testDone}
+use Rattle.fat_test.specs.Promise.{testRefused, testDone}
 use Rattle.fat_test.specs.declared.Tested.{Tested}
-use Rattle.fat.specs.Promise.{Beside, beside, within, Promise}
+use Rattle.fat.specs.Promise.{Beside, beside, within}
 use Rattle.fat.specs.Calls.{
   sizeOf,
   Create,
@@ -62,7 +51,7 @@ use Rattle.fat.specs.Calls.{
   WritePromise,
 }
 use Rattle.fat_history.specs.Run.{AreBytes}
-use Rattle.fat_history.proofs.Rows.{AllGive, NoneGive, none-of, last-or, last-given}
+use Rattle.fat_history.proofs.Rows.{none-of, last-or, last-given}
 
 pub are-bytes : (t : Bytes) → AreBytes t → words.Bytes t
 are-bytes t g = record { byte = g }

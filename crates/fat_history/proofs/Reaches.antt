@@ -1,31 +1,12 @@
 -- Every tiled layout is reached from a formatted one by creates and deletes, at most three for each of its runs. No table here. Assumes nothing.
-use mathlib.Core.Path.{_≡_, refl, sym, ap, subst, _∙_}
-use mathlib.Core.List.{
-  List,
-  [],
-  _∷_,
-  _++_,
-  append-assoc,
-  append-nil,
-  Permᴰ·append-nil,
-  List·Permᴰ,
-  List·Permᴰ·nil,
-  List·Permᴰ·cons,
-  List·Permᴰ·swap,
-  List·Permᴰ·trans,
-  Permᴰ·refl,
-  Permᴰ·symm,
-  Permᴰ·middle,
-  Permᴰ·append-right,
-  List·Permᴰ·append-comm,
-}
-use mathlib.Core.Logic.{_⊎_, inl, inr, ⊎-elim}
+use mathlib.Core.Path.{_≡_, refl, sym, ap, _∙_}
+use mathlib.Core.List.{List, [], _∷_, _++_, append-assoc, append-nil, Permᴰ·append-nil, List·Permᴰ, List·Permᴰ·nil, List·Permᴰ·cons, List·Permᴰ·swap, List·Permᴰ·trans, Permᴰ·symm, Permᴰ·middle, List·Permᴰ·append-comm}
 use Prim.Native.Nat.{ℕ, zero, suc, _+_, _-_, _*_, _≤_, _<_}
 use native.Mathlib.Omega.{arith}
 use lib.ListN.{length, length-append}
 use Rattle.fat_node.specs.Node.{Run, run}
 use Rattle.fat_table.specs.Chain.{total}
-use Rattle.fat_table.specs.Layout.{Layout, layout, taken, left, joined, hits, covers, empties, blanks, runs, Tiled}
+use Rattle.fat_table.specs.Layout.{Layout, layout, taken, left, joined, empties, blanks, runs, Tiled}
 use Rattle.fat_table.proofs.Layouts.{EndToEnd, empties-append, taken-whole, taken-part, left-whole, left-part, sorted, end-after, length-perm}
 
 -- what k creates and deletes after a format reach; the order of the files is not seen

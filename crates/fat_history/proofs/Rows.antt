@@ -1,9 +1,9 @@
 -- What the rows of a promise say of an outcome. Assumes nothing.
-use mathlib.Core.Path.{_≡_, refl, sym, ap, subst, _∙_}
-use mathlib.Core.List.{List, [], _∷_, _++_}
+use mathlib.Core.Path.{_≡_, refl, sym, ap, _∙_}
+use mathlib.Core.List.{List, [], _∷_}
 use mathlib.Core.Logic.{_⊎_, inl, inr, ⊎-elim}
-use Rattle.order.specs.First.{Row, row, First}
-use Rattle.order.specs.Given.{Given, None}
+use Rattle.order.specs.First.{Row, First}
+use Rattle.order.specs.Given.{None}
 
 -- each row gives what has b at f
 abbrev pub AllGive : {A B : Type 0} → (A → B) → B → List (Row A) → Type 0

@@ -1,11 +1,10 @@
 -- The theorems of the block layer over whole histories. Their statements name definitions of specs/ alone. Assumes nothing.
-use mathlib.Core.Path.{_≡_, refl, sym, ap, subst, subst⁻¹, _∙_}
+use mathlib.Core.Path.{_≡_, sym, ap, subst⁻¹, _∙_}
 use mathlib.Core.List.{List, List·Memᴰ}
 use mathlib.Core.Logic.{_≢_, _⊎_, inl, inr, ⊎-elim}
 use Prim.Native.Nat.{ℕ, _+_, _*_, _≤_, _<_}
 use native.Mathlib.Omega.{arith}
 use lib.ListN.{length}
-use Rattle.order.specs.declared.Answer.{Answer}
 use Rattle.order.specs.declared.Answer.the-variants.{Done}
 use Rattle.fat_node.specs.Entry.{Bytes}
 use Rattle.fat_node.specs.Sizes.{blocks, Misfit, Outside}
@@ -13,7 +12,7 @@ use Rattle.fat_node.specs.Format.{formatted, FormatPromise}
 use Rattle.fat_node.specs.declared.Formatted.{Formatted}
 use Rattle.fat_node.specs.Node as nodes-of
 use Rattle.fat_table.specs.Sound.{Sound, File}
-use Rattle.fat_table.specs.Chain.{total, freeAt, fileAt}
+use Rattle.fat_table.specs.Chain.{total, fileAt}
 use Rattle.fat_table.specs.Counts.{nodes}
 use Rattle.fat_table.specs.Steps.{created, resized, deleted}
 use Rattle.fat_table.specs.Agree.{Agree}
@@ -27,31 +26,7 @@ use Rattle.fat_history.specs.Run.{AreBytes, Run, resizesIn}
 use Rattle.fat_history.specs.OneChain.{OneChain}
 use Rattle.fat_history.specs.Away.{Away, none, writes}
 use Rattle.fat_history.specs.KeptBy.{KeptBy}
-use Rattle.fat_history.proofs.Means.{
-  are-bytes,
-  Fits,
-  Passed,
-  MayCarry,
-  fits,
-  whole-of-fits,
-  format-means,
-  create-means,
-  create-keeps,
-  createLast,
-  resize-means,
-  resize-keeps,
-  resizeLast,
-  delete-means,
-  delete-keeps,
-  deleteLast,
-  read-means,
-  read-gives,
-  write-means,
-  write-keeps,
-  writeLast,
-  test-means,
-  test-accepts,
-}
+use Rattle.fat_history.proofs.Means.{are-bytes, Fits, Passed, MayCarry, fits, whole-of-fits, format-means, create-means, create-keeps, resize-means, resize-keeps, delete-means, delete-keeps, read-means, read-gives, write-means, write-keeps, test-means, test-accepts}
 use Rattle.fat_history.proofs.Honest.{blocks-of, as-blocks, run-sound, sound-run}
 use Rattle.fat_history.proofs.Lies.{one-chain-of}
 use Rattle.fat_history.proofs.Places.{occurs-mem, places-differ, place-low, length-written, written-other, written-at, read-same, read-is}

@@ -1,5 +1,4 @@
 -- Calls on a table and its data that do not name one file. Assumes nothing.
-use mathlib.Core.Path.{_≡_}
 use mathlib.Core.List.{List}
 use mathlib.Core.Logic.{_≢_}
 use Prim.Native.Nat.{ℕ}

@@ -1,16 +1,13 @@
 -- Two tables that hold one layout agree; a table that agrees with one that holds a layout holds it. Assumes nothing.
-use mathlib.Core.Path.{_≡_, refl, sym, ap, subst, subst⁻¹, _∙_}
-use mathlib.Core.List.{List, [], _∷_, _++_, List·Memᴰ, List·Memᴰ·head, List·Memᴰ·tail, List·Memᴰ·cases-cons, List·Memᴰ·not-nil}
-use mathlib.Core.Logic.{_≢_, _⊎_, inl, inr, ⊎-elim}
-use Prim.Native.Nat.{ℕ, zero, suc, _+_, _-_, _*_, _≤_, _<_}
+use mathlib.Core.Path.{refl, sym, subst, _∙_}
+use mathlib.Core.List.{List, [], _∷_, List·Memᴰ·head, List·Memᴰ·tail, List·Memᴰ·cases-cons, List·Memᴰ·not-nil}
+use mathlib.Core.Logic.{_≢_, ⊎-elim}
+use Prim.Native.Nat.{ℕ, suc, _≤_, _<_}
 use native.Mathlib.Omega.{arith}
-use lib.ListN.{length}
-use Rattle.fat_node.specs.Entry.{Bytes, Entry, entry, get}
-use Rattle.fat_node.specs.Node.{Run, run, NodeAt}
+use Rattle.fat_node.specs.Entry.{Bytes}
+use Rattle.fat_node.specs.Node.{Run, NodeAt}
 use Rattle.fat_node.proofs.Nodes.{node-one}
-use Rattle.fat_table.specs.Sound.{IsNode}
-use Rattle.fat_table.specs.Layout.{Layout, layout, joined, runs}
-use Rattle.fat_table.specs.Steps.{first}
+use Rattle.fat_table.specs.Layout.{Layout, joined, runs}
 use Rattle.fat_table.specs.Holds.{HoldsNode, Laid, AllLaid, Holds}
 use Rattle.fat_table.specs.Agree.{SameNode, Agree}
 use Rattle.fat_table.proofs.Chains.{In, mem-left, mem-right, mem-either}

@@ -1,34 +1,14 @@
 -- Chains from mutual links: nodes whose links name each other, each reached from one with no previous, fall into chains. No table here. Assumes nothing.
-use mathlib.Core.Path.{_≡_, refl, sym, ap, subst, _∙_}
-use mathlib.Core.List.{
-  List,
-  [],
-  _∷_,
-  _++_,
-  append-nil,
-  append-assoc,
-  List·Permᴰ,
-  List·Permᴰ·nil,
-  List·Permᴰ·cons,
-  List·Permᴰ·swap,
-  List·Permᴰ·trans,
-  Permᴰ·refl,
-  Permᴰ·symm,
-  Permᴰ·append-left,
-  List·Memᴰ,
-  List·Memᴰ·head,
-  List·Memᴰ·tail,
-  List·Memᴰ·cases-cons,
-  List·Memᴰ·not-nil,
-}
-use mathlib.Core.Bool.{Bool, true, false, cond}
+use mathlib.Core.Path.{_≡_, refl, sym, ap, _∙_}
+use mathlib.Core.List.{List, [], _∷_, _++_, List·Permᴰ, List·Permᴰ·nil, List·Permᴰ·cons, List·Permᴰ·swap, List·Permᴰ·trans, Permᴰ·refl, Permᴰ·symm, Permᴰ·append-left, List·Memᴰ, List·Memᴰ·head, List·Memᴰ·tail, List·Memᴰ·cases-cons, List·Memᴰ·not-nil}
+use mathlib.Core.Bool.{Bool, true, false}
 use mathlib.Core.Logic.{_≢_, _⊎_, inl, inr, ⊎-elim}
-use Prim.Native.Nat.{ℕ, zero, suc, _+_, _-_, _≤_, _<_}
+use Prim.Native.Nat.{ℕ, zero, suc, _≤_}
 use native.Mathlib.Omega.{arith}
 use lib.Dec.{eqb}
 use lib.ListN.{length, length-append}
 use borrow.Author.Tests.{eqb-true, eqb-false}
-use Rattle.fat_node.specs.Node.{Run, run}
+use Rattle.fat_node.specs.Node.{Run}
 use Rattle.fat_table.specs.Layout.{joined, hits, covers, empties, blanks}
 use Rattle.fat_table.specs.Steps.{first}
 use Rattle.fat_table.proofs.Layouts.{hits-in, covers-perm, empties-perm, length-perm}

@@ -1,19 +1,19 @@
 -- What the test answers: the free blocks are the sum along the free chain, and the other chains are as many as the files. Assumes nothing.
 use mathlib.Core.Path.{_≡_, refl, sym, ap, subst, subst⁻¹, _∙_}
-use mathlib.Core.List.{List, [], _∷_, _++_, List·Memᴰ, List·Memᴰ·head, List·Memᴰ·tail, List·Memᴰ·cases-cons, List·Memᴰ·not-nil, List·Permᴰ}
+use mathlib.Core.List.{List, [], _∷_, List·Memᴰ·head, List·Memᴰ·tail, List·Memᴰ·cases-cons}
 use mathlib.Core.Bool.{Bool, true, false, cond}
-use mathlib.Core.Logic.{_≢_, _⊎_, inl, inr, ⊎-elim}
-use Prim.Native.Nat.{ℕ, zero, suc, _+_, _-_, _*_, _≤_, _<_}
+use mathlib.Core.Logic.{_⊎_, inl, inr, ⊎-elim}
+use Prim.Native.Nat.{ℕ, zero, suc, _+_, _-_, _≤_, _<_}
 use native.Mathlib.Omega.{arith}
-use lib.Dec.{eqb, ltb}
+use lib.Dec.{eqb}
 use lib.ListN.{length}
-use borrow.Author.Tests.{eqb-true, eqb-false, eq-eqb, ne-eqb, lt-ltb, le-ltb}
-use Rattle.fat_node.specs.Entry.{Bytes, Entry, entry, get, vAt}
+use borrow.Author.Tests.{eqb-true, eqb-false, lt-ltb, le-ltb}
+use Rattle.fat_node.specs.Entry.{Bytes, Entry, vAt}
 use Rattle.fat_node.specs.Node.{Run, run, prevAt, nextAt, NodeAt}
-use Rattle.fat_node.proofs.Nodes.{le-or-lt, node-one}
-use Rattle.fat_table.specs.Sound.{Starts, IsNode, Sound, Along, end, node, Counted, none, one, skip, File}
-use Rattle.fat_table.specs.Chain.{total, headAt, sizeAt, chainAt, freeAt, fileAt}
-use Rattle.fat_table.specs.Layout.{Layout, layout, joined, hits, covers, empties, runs, Tiled}
+use Rattle.fat_node.proofs.Nodes.{node-one}
+use Rattle.fat_table.specs.Sound.{IsNode, Along, end, node, Counted, none, one, skip, File}
+use Rattle.fat_table.specs.Chain.{total, headAt, sizeAt, freeAt}
+use Rattle.fat_table.specs.Layout.{Layout, layout, joined, hits, covers, empties}
 use Rattle.fat_table.specs.Steps.{first}
 use Rattle.fat_table.specs.Holds.{Laid, Holds}
 use Rattle.fat_table.specs.Counts.{freeBlocks, scan, nodes, starts, startsOf, otherChains}
@@ -21,8 +21,8 @@ use Rattle.fat_table.proofs.Layouts.{EndToEnd, hits-in, hits-most, cove
 use Rattle.fat_table.proofs.Laying.{inside-of, first-inside}
 use Rattle.fat_table.proofs.Chains.{In, mem-perm, pick, mem-hits}
 use Rattle.fat_table.proofs.Stepped.{read-next}
-use Rattle.fat_table.proofs.Sounds.{node-size, holds-node, end-sizes, whole-covers, node-in, in-node, node-of, in-order}
-use Rattle.fat_table.proofs.Files.{Whole, Seen, seen}
+use Rattle.fat_table.proofs.Sounds.{node-size, holds-node, whole-covers, node-in, in-node, node-of, in-order}
+use Rattle.fat_table.proofs.Files.{Whole, seen}
 
 -- one sum, one count -----------------------------------------------------------------------------------
 

@@ -1,45 +1,38 @@
 -- Whether a table is sound is decided, by a test over the list of its nodes; and so is whether a block is a file's first. Assumes nothing.
 use mathlib.Core.Path.{_≡_, refl, sym, ap, subst, subst⁻¹, _∙_}
-use mathlib.Core.List.{List, [], _∷_, _++_, List·Permᴰ, List·Permᴰ·trans, Permᴰ·symm, List·Memᴰ, List·Memᴰ·head, List·Memᴰ·tail, List·Memᴰ·cases-cons, List·Memᴰ·not-nil}
-use mathlib.Core.Bool.{Bool, true, false, cond, not, _&&_, _||_, true≢false, false≢true}
+use mathlib.Core.List.{List, [], _∷_, List·Permᴰ, List·Memᴰ·head, List·Memᴰ·tail, List·Memᴰ·cases-cons, List·Memᴰ·not-nil}
+use mathlib.Core.Bool.{Bool, true, false, _&&_, _||_, false≢true}
 use mathlib.Core.Logic.{_≢_, _⊎_, inl, inr, ⊎-elim}
-use Prim.Native.Nat.{ℕ, zero, suc, _+_, _-_, _*_, _≤_, _<_}
+use Prim.Native.Nat.{ℕ, zero, suc, _+_, _*_, _≤_}
 use native.Mathlib.Omega.{arith}
-use lib.Dec.{leb, ltb, eqb}
-use lib.ListN.{length, length-append}
+use lib.Dec.{leb, eqb}
+use lib.ListN.{length}
 use borrow.Author.Tests.{eqb-true, eqb-false, eq-eqb, leb-true, le-leb}
 use Rattle.words.proofs.Laws as words
 use Rattle.fat_node.specs.Entry.{Bytes, Entry, entry, get, vAt}
 use Rattle.fat_node.specs.Node.{Run, run, prevAt, nextAt, startEntry, spanEntry}
+use Rattle.links.proofs.Held.{same-or}
 use Rattle.fat_table.specs.Sound.{IsNode, Sound, File}
-use Rattle.fat_table.specs.Chain.{total, headAt, sizeAt, chainAt, freeAt, fileAt}
-use Rattle.fat_table.specs.Layout.{Layout, layout, joined, hits, covers, empties, blanks, runs, Tiled}
+use Rattle.fat_table.specs.Chain.{headAt, chainAt, freeAt}
+use Rattle.fat_table.specs.Layout.{Layout, layout, joined, hits, covers, empties, runs}
 use Rattle.fat_table.specs.Steps.{first}
-use Rattle.fat_table.specs.Holds.{HoldsNode, Laid, AllLaid, Holds}
+use Rattle.fat_table.specs.Holds.{HoldsNode, Holds}
 use Rattle.fat_table.specs.Counts.{nodes}
-use Rattle.fat_table.proofs.Layouts.{EndToEnd, hits-most, covers-append, covers-perm, empties-append, empties-perm, blanks-perm, end-after, length-perm}
-use Rattle.fat_table.proofs.Stepped.{chain-read, few, all-laid-order}
+use Rattle.fat_table.proofs.Layouts.{EndToEnd, covers-append, empties-append, end-after}
 use Rattle.fat_table.proofs.Chains as chains
-use Rattle.fat_table.proofs.Chains.{In, mem-perm, mem-left, mem-right, chain-of, zero-or-not, Linked, AllPath, Named, Namer, into-chains, path-next, path-prev}
-use Rattle.fat_table.proofs.Sounds.{node-size, end-sizes, whole-covers, joined-perm, all-path-order, laid-path, all-path-laid, Place, place, sound-holds, holds-sound, node-of, in-order, run-node, node-run}
+use Rattle.fat_table.proofs.Chains.{In, mem-perm, mem-left, zero-or-not, Linked, Named, Namer, path-next, path-prev}
+use Rattle.fat_table.proofs.Sounds.{Tied, tied-holds, node-size, laid-path, place, sound-holds, holds-sound, node-of, in-order, run-node, node-run}
 use Rattle.fat_table.proofs.Counting.{scan-read}
 use Rattle.fat_table.proofs.Files.{Whole, seen}
 
 -- soundness over the list of the nodes -------------------------------------------------------------------
 
-pub record Listed (n : ℕ) (t : Bytes) (ns : List Run) : Type 0 where
-  pub room : length t ≡ 8 * (n + 1)
-  pub head : get t 0 .u ≡ 0
-  -- the nodes cover blocks 0 to n - 1 end to end, and each has its form
-  pub cover : EndToEnd 0 ns n
-  pub node : (r : Run) → In r ns → HoldsNode t r (prevAt t (r .start)) (nextAt t (r .start))
-  -- each next names a node whose previous names it back, and the reverse
-  pub next : (r : Run) → In r ns → nextAt t (r .start) ≢ 0 → Named (prevAt t) (nextAt t) ns (nextAt t (r .start)) (suc (r .start))
-  pub prev : (r : Run) → In r ns → prevAt t (r .start) ≢ 0 → Namer (prevAt t) (nextAt t) ns (prevAt t (r .start)) (suc (r .start))
-  -- every node is reached from a node with no previous
-  pub reached : (r : Run) → In r ns → (f : Run) × In f ns × (prevAt t (f .start) ≡ 0) × (s : Run) × In s (chainAt t n (suc (f .start))) × (s .start ≡ r .start)
-  -- the head names none or a node with no previous
-  pub free : headAt t ≢ 0 → Named (prevAt t) (nextAt t) ns (headAt t) 0
+-- a node is reached along the chain of a node with no previous
+abbrev pub ReachedBy : ℕ → Bytes → List Run → ℕ → Type 0
+ReachedBy n t l b = (f : Run) × In f l × (prevAt t (f .start) ≡ 0) × (s : Run) × In s (chainAt t n (suc (f .start))) × (s .start ≡ b)
+
+abbrev pub Listed : ℕ → Bytes → List Run → Type 0
+Listed n t ns = Tied (ReachedBy n t ns) n t ns
 
 chain-none : (t : Bytes) (k : ℕ) → chainAt t k 0 ≡ []
 chain-none t zero = refl
@@ -89,52 +82,11 @@ module _ (n : ℕ) (small : n ≤ 1000000) (t : Bytes) where
         (zero-or-not (nextAt t b)))
         (List·Memᴰ·cases-cons i)
 
-    sound-chains : (cs : List (List Run)) × List·Permᴰ ns (joined cs) × AllPath (prevAt t) (nextAt t) cs × (blanks cs ≡ 0)
-    sound-chains = into-chains (prevAt t) (nextAt t) ns (end-sizes 0 ns n (s .cover))
-        (λ x. omega (arith, whole-covers ns n (s .cover) x, hits-most x (run 0 n)))
-        (s .next) (s .prev)
-        (λ r m. let w = s .reached r m in
-        subst (chains.Reached (prevAt t) (nextAt t)) (w .5) (walk-reached n (w .0 .start) (w .0) (w .1) refl (chains.root (w .2)) (w .3) (w .4)))
-
-    tiled-by : (c : List Run) (rest : List (List Run)) → List·Permᴰ ns (c ++ joined rest) → blanks rest ≡ 0 → Tiled n (layout c rest)
-    tiled-by c rest π b = record {
-      positive = omega (arith, empties-perm π, end-sizes 0 ns n (s .cover));
-      once = λ x. sym (covers-perm x π) ∙ whole-covers ns n (s .cover) x;
-      nonempty = b;
-    }
-
-    module _ (cs : List (List Run)) (π : List·Permᴰ ns (joined cs)) (ps : AllPath (prevAt t) (nextAt t) cs) (b : blanks cs ≡ 0) where
-      laid-all : AllLaid t cs
-      laid-all = all-path-laid t cs ps (λ r m. s .node r (mem-perm (Permᴰ·symm π) m))
-
-      holds-none : headAt t ≡ 0 → Holds n t (layout [] cs)
-      holds-none z = record { room = s .room; head = λ i. entry (s .head i) (z i); free = tt; files = laid-all; tiled = tiled-by [] cs π b }
-
-      holds-some : (x : Run) (c : List Run) (rest : List (List Run)) → List·Permᴰ cs (c ∷ rest) → In x c → suc (x .start) ≡ headAt t → prevAt t (x .start) ≡ 0
-          → Holds n t (layout c rest)
-      holds-some x c rest ρ m e z =
-          let w : Laid t c 0 × AllLaid t rest = all-laid-order t ρ laid-all in
-          let p = path-prev (prevAt t) (nextAt t) 0 c (all-path-order (prevAt t) (nextAt t) ρ ps .0) x m in
-          let f : first c ≡ suc (x .start) = ⊎-elim (λ o. o .1) (λ o. let k : ⊥ = omega (arith, o .2, z) in absurd k) p in
-          let v : headAt t ≡ first c = sym e ∙ sym f in
-          record {
-            room = s .room;
-            head = λ i. entry (s .head i) (v i);
-            free = w .0;
-            files = w .1;
-            tiled = tiled-by c rest (List·Permᴰ·trans π (joined-perm ρ)) (omega (arith, b, blanks-perm ρ));
-          }
-
     of-listed : (L : Layout) × Holds n t L
     of-listed =
-        let g = sound-chains in
-        ⊎-elim
-        (λ z. (layout [] (g .0), holds-none (g .0) (g .1) (g .2) (g .3) z))
-        (λ h.
-        let w = s .free h in
-        let o = chain-of (w .0) (g .0) (mem-perm (g .1) (w .1)) in
-        (layout (o .0) (o .1), holds-some (g .0) (g .1) (g .2) (g .3) (w .0) (o .0) (o .1) (o .2) (o .3) (w .2) (w .3)))
-        (zero-or-not (headAt t))
+        tied-holds (ReachedBy n t ns) n t ns s
+        (λ r m. let w = s .reached r m in
+        subst (chains.Reached (prevAt t) (nextAt t)) (w .5) (walk-reached n (w .0 .start) (w .0) (w .1) refl (chains.root (w .2)) (w .3) (w .4)))
 
 -- tests that tell facts ---------------------------------------------------------------------------
 
@@ -245,9 +197,6 @@ tells-namer t l i q = tells-as
 abbrev pub isReached : ℕ → Bytes → List Run → ℕ → Bool
 isReached n t l b = anyRun (λ f. eqb (prevAt t (f .start)) 0 && anyRun (λ s. eqb (s .start) b) (chainAt t n (suc (f .start)))) l
 
-abbrev pub ReachedBy : ℕ → Bytes → List Run → ℕ → Type 0
-ReachedBy n t l b = (f : Run) × In f l × (prevAt t (f .start) ≡ 0) × (s : Run) × In s (chainAt t n (suc (f .start))) × (s .start ≡ b)
-
 tells-reached : (n : ℕ) (t : Bytes) (l : List Run) (b : ℕ) → Tells (isReached n t l b) (ReachedBy n t l b)
 tells-reached n t l b = tells-as
     (tells-any (λ f. eqb (prevAt t (f .start)) 0 && anyRun (λ s. eqb (s .start) b) (chainAt t n (suc (f .start))))
@@ -338,15 +287,8 @@ file-decided n t b w =
     (λ o.
     let i : IsNode t n b = subst (IsNode t n) (o .2) (run-node n (w .small) t L (s .holds) (o .0) (o .1) .0) in
     ⊎-elim
-    (λ p. ⊎-elim (λ h. inr (λ f. f .2 h)) (λ h. inl (i, p, h)) (same-or-not (vAt t 0) (b + 1)))
+    (λ p. ⊎-elim (λ h. inr (λ f. f .2 h)) (λ h. inl (i, p, h)) (same-or (vAt t 0) (b + 1)))
     (λ p. inr (λ f. p (f .1)))
     (zero-or-not (prevAt t b)))
     (λ none. inr (λ f. let o = node-run n (w .small) t L (s .holds) b (f .0) in none (o .0) (o .1) (o .2)))
     (start-in (runs L) b)
-  where
-    same-or-not : (x y : ℕ) → (x ≡ y) ⊎ (x ≢ y)
-    same-or-not x y = go (eqb x y) refl
-      where
-        go : (z : Bool) → eqb x y ≡ z → (x ≡ y) ⊎ (x ≢ y)
-        go true e = inl (eqb-true x y e)
-        go false e = inr (eqb-false x y e)

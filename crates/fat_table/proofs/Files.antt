@@ -1,36 +1,25 @@
 -- The files of a sound table are the chains of its layout; every step keeps soundness. Assumes nothing.
 use mathlib.Core.Path.{_≡_, refl, sym, ap, subst, subst⁻¹, _∙_}
-use mathlib.Core.List.{
-  List,
-  [],
-  _∷_,
-  _++_,
-  List·Permᴰ,
-  Permᴰ·symm,
-  List·Memᴰ,
-  List·Memᴰ·head,
-  List·Memᴰ·tail,
-}
-use mathlib.Core.Logic.{_≢_, _⊎_, inl, inr, ⊎-elim}
-use Prim.Native.Nat.{ℕ, zero, suc, _+_, _-_, _*_, _≤_, _<_}
+use mathlib.Core.List.{List, [], _∷_, _++_, List·Permᴰ, List·Memᴰ·head}
+use mathlib.Core.Logic.{⊎-elim}
+use Prim.Native.Nat.{ℕ, suc, _+_, _-_, _*_, _≤_}
 use native.Mathlib.Omega.{arith}
-use lib.Dec.{leb}
 use lib.ListN.{length}
 use borrow.Author.Tests.{le-leb, lt-leb}
 use Rattle.words.proofs.Laws as words
-use Rattle.fat_node.specs.Entry.{Bytes, Entry, entry, get, top, uAt, vAt}
-use Rattle.fat_node.specs.Node.{Run, run, prevAt, nextAt, setNode, setHead}
+use Rattle.fat_node.specs.Entry.{Bytes, Entry}
+use Rattle.fat_node.specs.Node.{Run, run, prevAt, nextAt, setNode}
 use Rattle.fat_node.proofs.Nodes.{le-or-lt, bytes-setNode, bytes-setHead, length-setHead}
 use Rattle.fat_table.specs.Sound.{IsNode, Sound, File}
-use Rattle.fat_table.specs.Chain.{total, headAt, chainAt, freeAt, fileAt}
-use Rattle.fat_table.specs.Layout.{Layout, layout, taken, left, joined, hits, covers, empties, runs, Tiled}
+use Rattle.fat_table.specs.Chain.{total, chainAt, freeAt, fileAt}
+use Rattle.fat_table.specs.Layout.{Layout, layout, taken, left, joined, covers, empties, Tiled}
 use Rattle.fat_node.specs.Format.{formatted}
 use Rattle.fat_table.specs.Steps.{first, lay, relaid, created, grown, shrunk, resized, deleted}
-use Rattle.fat_table.specs.Holds.{Laid, AllLaid, Holds}
+use Rattle.fat_table.specs.Holds.{Holds}
 use Rattle.fat_table.proofs.Layouts.{hits-in, hits-most, covers-append, empties-append}
 use Rattle.fat_table.proofs.Laying.{length-lay}
 use Rattle.fat_table.proofs.Stepped.{free-read, file-read, holds-format, holds-create, holds-delete, holds-grow, holds-shrink, holds-order}
-use Rattle.fat_table.proofs.Chains.{In, mem-right, mem-either, chain-of, Linked, path-prev}
+use Rattle.fat_table.proofs.Chains.{mem-right, mem-either, chain-of, Linked, path-prev}
 use Rattle.fat_table.proofs.Sounds.{laid-path, sound-holds, holds-sound, run-node, node-run}
 
 pub first-covered : (l : List Run) (b : ℕ) → first l ≡ suc b → empties l ≡ 0 → 1 ≤ covers b l

@@ -1,21 +1,17 @@
 -- What stands in a table after a chain is laid in it: the chain, and all that shares no block with it. Assumes nothing.
-use mathlib.Core.Path.{_≡_, refl, sym, ap, subst, _∙_}
-use mathlib.Core.List.{List, [], _∷_, _++_, List·Permᴰ, List·Permᴰ·nil, List·Permᴰ·cons, List·Permᴰ·swap, List·Permᴰ·trans}
-use mathlib.Core.Bool.{Bool, true, false, cond}
-use mathlib.Core.Logic.{_≢_, _⊎_, inl, inr, ⊎-elim}
-use Prim.Native.Nat.{ℕ, zero, suc, _+_, _-_, _*_, _/_, _%_, _≤_, _<_}
+use mathlib.Core.Path.{_≡_, refl, _∙_}
+use mathlib.Core.List.{List, [], _∷_, _++_}
+use mathlib.Core.Logic.{_⊎_, inl, inr, ⊎-elim}
+use Prim.Native.Nat.{ℕ, suc, _+_, _-_, _*_, _≤_, _<_}
 use native.Mathlib.Omega.{arith}
-use lib.Dec.{leb, ltb, eqb}
 use lib.ListN.{length}
-use borrow.Author.Tests.{eqb-true, eqb-false, eq-eqb, ne-eqb}
-use Rattle.fat_node.specs.Entry.{Bytes, Entry, entry, get, put, top, uAt, vAt}
-use Rattle.fat_node.specs.Node.{Run, run, prevHalf, nextHalf, startEntry, spanEntry, setNode, setHead}
-use Rattle.fat_node.proofs.Entries.{length-put, get-put, get-before, get-after}
+use Rattle.fat_node.specs.Entry.{Bytes, entry, get}
+use Rattle.fat_node.specs.Node.{Run, run, setNode, setHead}
 use Rattle.fat_node.proofs.Nodes.{le-or-lt, length-setNode, setNode-before, setNode-after, setNode-start, setNode-second, setNode-last, length-setHead, head-set, setHead-other}
-use Rattle.fat_table.specs.Layout.{Layout, layout, joined, hits, covers, empties, blanks, runs, Tiled}
+use Rattle.fat_table.specs.Layout.{joined, hits, covers, empties}
 use Rattle.fat_table.specs.Steps.{first, lay, relaid}
-use Rattle.fat_table.specs.Holds.{HoldsNode, Laid, AllLaid, Holds}
-use Rattle.fat_table.proofs.Layouts.{hits-in, hits-lo, hits-hi, hits-above, hits-below, hits-most, covers-append, empties-append}
+use Rattle.fat_table.specs.Holds.{HoldsNode, Laid, AllLaid}
+use Rattle.fat_table.proofs.Layouts.{hits-in, hits-below, hits-most, covers-append, empties-append}
 
 -- runs that share no block
 abbrev pub Apart : Run → Run → Type 0

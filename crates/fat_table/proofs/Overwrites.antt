@@ -1,16 +1,15 @@
 -- Writes of nodes that share no block commute, and of two writes of one node the second stays; so it is with chains. Assumes nothing.
-use mathlib.Core.Path.{_≡_, refl, sym, ap, subst, subst⁻¹, _∙_}
+use mathlib.Core.Path.{_≡_, refl, sym, ap, subst⁻¹, _∙_}
 use mathlib.Core.List.{List, [], _∷_, _++_}
-use mathlib.Core.Logic.{_≢_, _⊎_, inl, inr, ⊎-elim}
-use Prim.Native.Nat.{ℕ, zero, suc, _+_, _-_, _*_, _≤_, _<_}
+use mathlib.Core.Logic.{⊎-elim}
+use Prim.Native.Nat.{ℕ, suc, _+_, _≤_, _<_}
 use native.Mathlib.Omega.{arith}
-use Rattle.fat_node.specs.Entry.{Bytes, Entry, entry, get, put}
-use Rattle.fat_node.specs.Node.{Run, run, startEntry, spanEntry, setNode, setHead}
+use Rattle.fat_node.specs.Entry.{Bytes, Entry, entry, put}
+use Rattle.fat_node.specs.Node.{Run, startEntry, spanEntry, setNode, setHead}
 use Rattle.fat_node.proofs.Entries.{put-put, put-comm}
 use Rattle.fat_node.proofs.Nodes.{one-or-more, le-or-lt, setNode-one, setNode-more}
 use Rattle.fat_table.specs.Layout.{hits, covers, empties}
 use Rattle.fat_table.specs.Steps.{first, lay}
-use Rattle.fat_table.proofs.Layouts.{covers-append, empties-append}
 use Rattle.fat_table.proofs.Laying.{apart}
 use Rattle.fat_table.proofs.Writes.{relink}
 

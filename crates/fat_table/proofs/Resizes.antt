@@ -1,35 +1,25 @@
 -- Grow as create and two links; shrink as a cut in two files and delete of the second; a resize to the same count changes nothing. Assumes nothing.
-use mathlib.Core.Path.{_≡_, refl, sym, ap, subst, subst⁻¹, _∙_}
+use mathlib.Core.Path.{_≡_, refl, sym, ap, subst, _∙_}
 use mathlib.Core.List.{List, [], _∷_, _++_, append-nil, append-assoc}
-use mathlib.Core.Logic.{_≢_, _⊎_, inl, inr, ⊎-elim}
-use Prim.Native.Nat.{ℕ, zero, suc, _+_, _-_, _*_, _≤_, _<_}
+use Prim.Native.Nat.{ℕ, suc, _+_, _-_, _*_, _≤_, _<_}
 use native.Mathlib.Omega.{arith}
-use lib.Dec.{leb}
 use lib.ListN.{length}
 use borrow.Author.Tests.{le-leb, lt-leb}
 use Rattle.words.proofs.Laws as words
-use Rattle.fat_node.specs.Entry.{Bytes, Entry, entry, get, put, vAt}
+use Rattle.fat_node.specs.Entry.{Bytes, entry, put}
 use Rattle.fat_node.specs.Node.{Run, run, prevAt, nextAt, NodeAt, setNode, setHead}
 use Rattle.fat_node.proofs.Entries.{put-same}
 use Rattle.fat_node.proofs.Nodes.{bytes-setNode}
-use Rattle.fat_table.specs.Sound.{Sound, File}
+use Rattle.fat_table.specs.Sound.{File}
 use Rattle.fat_table.specs.Chain.{total, sizeAt, chainAt, freeAt, fileAt}
-use Rattle.fat_table.specs.Layout.{Layout, layout, taken, left, joined, hits, covers, empties, blanks, runs, Tiled}
+use Rattle.fat_table.specs.Layout.{Layout, layout, taken, left, joined, hits, covers, empties, Tiled}
 use Rattle.fat_table.specs.Steps.{first, lay, relaid, created, grown, shrunk, resized, deleted}
-use Rattle.fat_table.specs.Holds.{HoldsNode, Laid, AllLaid, Holds}
-use Rattle.fat_table.proofs.Layouts.{
-  covers-append,
-  covers-cut,
-  empties-append,
-  empties-cut,
-  hits-split,
-  hits-most,
-  length-taken,
-}
+use Rattle.fat_table.specs.Holds.{HoldsNode, Laid, Holds}
+use Rattle.fat_table.proofs.Layouts.{covers-append, covers-cut, empties-append, empties-cut, hits-split, hits-most}
 use Rattle.fat_table.proofs.Laying.{inside-of, first-inside, length-lay, lay-head, lay-keeps, lay-keeps-all, laid-lay}
 use Rattle.fat_table.proofs.Stepped.{read-prev, read-next, read-size, free-read, file-read}
 use Rattle.fat_table.proofs.Sounds.{holds-node}
-use Rattle.fat_table.proofs.Files.{Whole, SeenFile, seen-file}
+use Rattle.fat_table.proofs.Files.{Whole, seen-file}
 use Rattle.fat_table.proofs.Writes.{
   lastOf,
   relink,
@@ -55,6 +45,10 @@ pub last-inside : (n : ℕ) (A : List Run) (p : ℕ) → p ≤ n → empties A �
 last-inside n [] p h e c = h
 last-inside n (a ∷ A) p h e c =
     last-inside n A (suc (a .start)) (omega (arith, inside-of n a (omega arith) (λ x. omega (arith, c x)))) (omega arith) (λ x. omega (arith, c x))
+
+pub first-left : (A : List Run) (x : Run) (D : List Run) → first ((A ++ x ∷ []) ++ D) ≡ first (A ++ x ∷ [])
+first-left [] x D = refl
+first-left (a ∷ A) x D = refl
 
 -- a node x of a chain, with the index before it and the index after it
 pub record Met (t : Bytes) (n : ℕ) (x : Run) (p q : ℕ) : Type 0 where
@@ -320,10 +314,6 @@ module _ (n : ℕ) (small : n ≤ 1000000) (t : Bytes) (g : words.Bytes t) where
       some-last : (A : List Run) (x : Run) → 1 ≤ length (A ++ x ∷ [])
       some-last [] x = omega arith
       some-last (a ∷ A) x = omega arith
-
-      first-left : (A : List Run) (x : Run) (D : List Run) → first ((A ++ x ∷ []) ++ D) ≡ first (A ++ x ∷ [])
-      first-left [] x D = refl
-      first-left (a ∷ A) x D = refl
 
 -- resize -----------------------------------------------------------------------------------------------
 

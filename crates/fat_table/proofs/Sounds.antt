@@ -1,62 +1,25 @@
 -- A table is sound exactly when it holds a layout. Assumes nothing.
-use mathlib.Core.Path.{_≡_, refl, sym, ap, subst, subst⁻¹, _∙_}
-use mathlib.Core.List.{
-  List,
-  [],
-  _∷_,
-  _++_,
-  List·Permᴰ,
-  List·Permᴰ·nil,
-  List·Permᴰ·cons,
-  List·Permᴰ·swap,
-  List·Permᴰ·trans,
-  append-assoc,
-  Permᴰ·refl,
-  Permᴰ·symm,
-  Permᴰ·append-left,
-  Permᴰ·append-right,
-  List·Permᴰ·append-comm,
-  List·Memᴰ,
-  List·Memᴰ·head,
-  List·Memᴰ·tail,
-  List·Memᴰ·cases-cons,
-  List·Memᴰ·not-nil,
-}
+use mathlib.Core.Path.{_≡_, refl, sym, ap, subst, _∙_}
+use mathlib.Core.List.{List, [], _∷_, _++_, List·Permᴰ, List·Permᴰ·nil, List·Permᴰ·cons, List·Permᴰ·swap, List·Permᴰ·trans, append-assoc, Permᴰ·symm, Permᴰ·append-left, Permᴰ·append-right, List·Permᴰ·append-comm, List·Memᴰ·head, List·Memᴰ·tail, List·Memᴰ·cases-cons, List·Memᴰ·not-nil}
 use mathlib.Core.Logic.{_≢_, _⊎_, inl, inr, ⊎-elim}
-use Prim.Native.Nat.{ℕ, zero, suc, _+_, _-_, _*_, _%_, _≤_, _<_}
+use Prim.Native.Nat.{ℕ, zero, suc, _+_, _-_, _*_, _≤_}
 use native.Mathlib.Omega.{arith}
 use lib.ListN.{length, length-append}
 use Rattle.words.proofs.Laws as words
 use Rattle.fat_node.specs.Entry.{Bytes, Entry, entry, get, top, uAt, vAt}
-use Rattle.fat_node.specs.Node.{Run, run, prevAt, nextAt, HeldBy, NodeAt, prevHalf, nextHalf, startEntry, spanEntry}
-use Rattle.fat_node.proofs.Entries.{u-fits, v-fits}
+use Rattle.fat_node.specs.Node.{Run, run, prevAt, nextAt, NodeAt, prevHalf, nextHalf}
+use Rattle.fat_node.proofs.Entries.{v-fits}
 use Rattle.fat_node.proofs.Nodes.{one-or-more, le-or-lt, prevHalf-none, prevHalf-some, prevHalf-form, nextHalf-one, nextHalf-more, node-one}
-use Rattle.fat_table.specs.Sound.{Starts, begin, after, IsNode, Covered, Path, here, on, Reached, Sound, File}
-use Rattle.fat_table.specs.Chain.{total, headAt, sizeAt, chainAt, freeAt, fileAt}
+use Rattle.fat_table.specs.Sound.{Starts, begin, after, IsNode, Covered, Path, here, on, Reached, Sound}
+use Rattle.fat_table.specs.Chain.{headAt, sizeAt, chainAt}
 use Rattle.fat_table.specs.Layout.{Layout, layout, joined, hits, covers, empties, blanks, runs, Tiled}
 use Rattle.fat_table.specs.Steps.{first}
 use Rattle.fat_table.specs.Holds.{HoldsNode, Laid, AllLaid, Holds}
-use Rattle.fat_table.proofs.Layouts.{EndToEnd, hits-in, hits-split, hits-above, hits-below, hits-most, covers-append, covers-perm, empties-append, empties-perm, joined-covers, joined-empties, blanks-perm, sorted, end-after, length-perm}
+use Rattle.fat_table.proofs.Layouts.{EndToEnd, hits-split, hits-above, hits-below, hits-most, covers-append, covers-perm, empties-append, empties-perm, blanks-perm, sorted, end-after, length-perm}
 use Rattle.fat_table.proofs.Laying.{inside-of, first-inside}
-use Rattle.fat_table.proofs.Stepped.{size-one, size-more, read-prev, read-next, read-size, chain-read, few, all-laid-order, free-read, file-read, holds-order}
+use Rattle.fat_table.proofs.Stepped.{size-one, size-more, read-prev, read-next, read-size, chain-read, few, all-laid-order}
 use Rattle.fat_table.proofs.Chains as chains
-use Rattle.fat_table.proofs.Chains.{
-  In,
-  mem-perm,
-  mem-size,
-  mem-left,
-  mem-right,
-  mem-either,
-  chain-of,
-  zero-or-not,
-  Linked,
-  AllPath,
-  Named,
-  Namer,
-  into-chains,
-  path-next,
-  path-prev,
-}
+use Rattle.fat_table.proofs.Chains.{In, mem-perm, mem-size, mem-left, mem-right, chain-of, zero-or-not, Linked, AllPath, Named, Namer, into-chains, path-next, path-prev}
 
 -- what goes end to end covers each block once
 pub end-sizes : (b : ℕ) (T : List Run) (n : ℕ) → EndToEnd b T n → empties T ≡ 0
@@ -309,6 +272,70 @@ module _ (n : ℕ) (t : Bytes) where
     pub in-node : {r : Run} → In r ns → IsNode t n (r .start)
     in-node {r} m = (in-starts 0 ns E begin node m, omega (arith, in-below 0 ns n E m, node r m .some))
 
+-- a table whose nodes are tied holds a layout ------------------------------------------------------------
+
+-- what soundness says, over a list of the nodes; R is how a node is reached
+pub record Tied (R : ℕ → Type 0) (n : ℕ) (t : Bytes) (ns : List Run) : Type 0 where
+  pub room : length t ≡ 8 * (n + 1)
+  pub head : get t 0 .u ≡ 0
+  -- the nodes cover blocks 0 to n - 1 end to end, and each has its form
+  pub cover : EndToEnd 0 ns n
+  pub node : (r : Run) → In r ns → HoldsNode t r (prevAt t (r .start)) (nextAt t (r .start))
+  -- each next names a node whose previous names it back, and the reverse
+  pub next : (r : Run) → In r ns → nextAt t (r .start) ≢ 0 → Named (prevAt t) (nextAt t) ns (nextAt t (r .start)) (suc (r .start))
+  pub prev : (r : Run) → In r ns → prevAt t (r .start) ≢ 0 → Namer (prevAt t) (nextAt t) ns (prevAt t (r .start)) (suc (r .start))
+  -- every node is reached from a node with no previous
+  pub reached : (r : Run) → In r ns → R (r .start)
+  -- the head names none or a node with no previous
+  pub free : headAt t ≢ 0 → Named (prevAt t) (nextAt t) ns (headAt t) 0
+
+module _ (R : ℕ → Type 0) (n : ℕ) (t : Bytes) (ns : List Run) (s : Tied R n t ns) where
+  tied-chains : ((r : Run) → In r ns → chains.Reached (prevAt t) (nextAt t) (r .start))
+      → (cs : List (List Run)) × List·Permᴰ ns (joined cs) × AllPath (prevAt t) (nextAt t) cs × (blanks cs ≡ 0)
+  tied-chains w = into-chains (prevAt t) (nextAt t) ns (end-sizes 0 ns n (s .cover))
+      (λ x. omega (arith, whole-covers ns n (s .cover) x, hits-most x (run 0 n)))
+      (s .next) (s .prev) w
+
+  tiled-by : (c : List Run) (rest : List (List Run)) → List·Permᴰ ns (c ++ joined rest) → blanks rest ≡ 0 → Tiled n (layout c rest)
+  tiled-by c rest π b = record {
+    positive = omega (arith, empties-perm π, end-sizes 0 ns n (s .cover));
+    once = λ x. sym (covers-perm x π) ∙ whole-covers ns n (s .cover) x;
+    nonempty = b;
+  }
+
+  module _ (cs : List (List Run)) (π : List·Permᴰ ns (joined cs)) (ps : AllPath (prevAt t) (nextAt t) cs) (b : blanks cs ≡ 0) where
+    laid-all : AllLaid t cs
+    laid-all = all-path-laid t cs ps (λ r m. s .node r (mem-perm (Permᴰ·symm π) m))
+
+    holds-none : headAt t ≡ 0 → Holds n t (layout [] cs)
+    holds-none z = record { room = s .room; head = λ i. entry (s .head i) (z i); free = tt; files = laid-all; tiled = tiled-by [] cs π b }
+
+    holds-some : (x : Run) (c : List Run) (rest : List (List Run)) → List·Permᴰ cs (c ∷ rest) → In x c → suc (x .start) ≡ headAt t → prevAt t (x .start) ≡ 0
+        → Holds n t (layout c rest)
+    holds-some x c rest ρ m e z =
+        let w : Laid t c 0 × AllLaid t rest = all-laid-order t ρ laid-all in
+        let p = path-prev (prevAt t) (nextAt t) 0 c (all-path-order (prevAt t) (nextAt t) ρ ps .0) x m in
+        let f : first c ≡ suc (x .start) = ⊎-elim (λ o. o .1) (λ o. let k : ⊥ = omega (arith, o .2, z) in absurd k) p in
+        let v : headAt t ≡ first c = sym e ∙ sym f in
+        record {
+          room = s .room;
+          head = λ i. entry (s .head i) (v i);
+          free = w .0;
+          files = w .1;
+          tiled = tiled-by c rest (List·Permᴰ·trans π (joined-perm ρ)) (omega (arith, b, blanks-perm ρ));
+        }
+
+  pub tied-holds : ((r : Run) → In r ns → chains.Reached (prevAt t) (nextAt t) (r .start)) → (L : Layout) × Holds n t L
+  tied-holds reached =
+      let g = tied-chains reached in
+      ⊎-elim
+      (λ z. (layout [] (g .0), holds-none (g .0) (g .1) (g .2) (g .3) z))
+      (λ h.
+      let w = s .free h in
+      let o = chain-of (w .0) (g .0) (mem-perm (g .1) (w .1)) in
+      (layout (o .0) (o .1), holds-some (g .0) (g .1) (g .2) (g .3) (w .0) (o .0) (o .1) (o .2) (o .3) (w .2) (w .3)))
+      (zero-or-not (headAt t))
+
 -- a sound table holds a layout -----------------------------------------------------------------------
 
 module _ (n : ℕ) (t : Bytes) (s : Sound t n) (ns : List Run) (E : EndToEnd 0 ns n) (node : (r : Run) → In r ns → NodeAt t n (r .start) (r .size)) where
@@ -333,61 +360,30 @@ module _ (n : ℕ) (t : Bytes) (s : Sound t n) (ns : List Run) (E : EndToEnd 0 n
       let f = s .forth j m (w .0) q in
       (f .0, chains.after {b = m} (w .1) (omega (arith, q)) (omega (arith, f .1)))
 
-  sound-chains : (cs : List (List Run)) × List·Permᴰ ns (joined cs) × AllPath (prevAt t) (nextAt t) cs × (blanks cs ≡ 0)
-  sound-chains = into-chains (prevAt t) (nextAt t) ns (end-sizes 0 ns n E)
-      (λ x. omega (arith, whole-covers ns n E x, hits-most x (run 0 n)))
-      sound-next sound-prev
-      (λ r m. let w = s .whole (r .start) (in-node n t ns E node m) in path-reached (w .node) (w .first) (w .path) .1)
+  sound-free : headAt t ≢ 0 → Named (prevAt t) (nextAt t) ns (headAt t) 0
+  sound-free h =
+      let j = named (headAt t) h in
+      let f = s .free (j .0) (j .1) in
+      let w = node-in n t ns E node (f .0) in
+      (w .0, w .1, omega (arith, j .1, w .2), ap (prevAt t) (w .2) ∙ f .1)
 
-  tiled-by : (c : List Run) (rest : List (List Run)) → List·Permᴰ ns (c ++ joined rest) → blanks rest ≡ 0 → Tiled n (layout c rest)
-  tiled-by c rest π b = record {
-    positive = omega (arith, empties-perm π, end-sizes 0 ns n E);
-    once = λ x. sym (covers-perm x π) ∙ whole-covers ns n E x;
-    nonempty = b;
+  sound-tied : words.Bytes t → length t ≡ 8 * (n + 1) → Tied (chains.Reached (prevAt t) (nextAt t)) n t ns
+  sound-tied bytes room = record {
+    room = room;
+    head = s .head .0;
+    cover = E;
+    node = λ r m. node-holds t n (r .start) (r .size) bytes (node r m);
+    next = sound-next;
+    prev = sound-prev;
+    reached = λ r m. let w = s .whole (r .start) (in-node n t ns E node m) in path-reached (w .node) (w .first) (w .path) .1;
+    free = sound-free;
   }
-
-  module _ (room : length t ≡ 8 * (n + 1)) (form : (r : Run) → In r ns → HoldsNode t r (prevAt t (r .start)) (nextAt t (r .start)))
-      (cs : List (List Run)) (π : List·Permᴰ ns (joined cs)) (ps : AllPath (prevAt t) (nextAt t) cs) (b : blanks cs ≡ 0) where
-    laid-all : AllLaid t cs
-    laid-all = all-path-laid t cs ps (λ r m. form r (mem-perm (Permᴰ·symm π) m))
-
-    holds-none : headAt t ≡ 0 → Holds n t (layout [] cs)
-    holds-none z = record { room = room; head = λ i. entry (s .head .0 i) (z i); free = tt; files = laid-all; tiled = tiled-by [] cs π b }
-
-    holds-some : (x : Run) (c : List Run) (rest : List (List Run)) → List·Permᴰ cs (c ∷ rest) → In x c → headAt t ≡ suc (x .start) → prevAt t (x .start) ≡ 0
-        → Holds n t (layout c rest)
-    holds-some x c rest ρ m e z =
-        let w : Laid t c 0 × AllLaid t rest = all-laid-order t ρ laid-all in
-        let p = path-prev (prevAt t) (nextAt t) 0 c (all-path-order (prevAt t) (nextAt t) ρ ps .0) x m in
-        let f : first c ≡ suc (x .start) = ⊎-elim (λ o. o .1) (λ o. let k : ⊥ = omega (arith, o .2, z) in absurd k) p in
-        let v : headAt t ≡ first c = e ∙ sym f in
-        record {
-          room = room;
-          head = λ i. entry (s .head .0 i) (v i);
-          free = w .0;
-          files = w .1;
-          tiled = tiled-by c rest (List·Permᴰ·trans π (joined-perm ρ)) (omega (arith, b, blanks-perm ρ));
-        }
-
-    some-layout : (L : Layout) × Holds n t L
-    some-layout =
-        ⊎-elim
-        (λ z. (layout [] cs, holds-none z))
-        (λ h.
-        let j = named (headAt t) h in
-        let f = s .free (j .0) (j .1) in
-        let w = node-in n t ns E node (f .0) in
-        let o = chain-of (w .0) cs (mem-perm π (w .1)) in
-        (layout (o .0) (o .1), holds-some (w .0) (o .0) (o .1) (o .2) (o .3) (omega (arith, j .1, w .2)) (ap (prevAt t) (w .2) ∙ f .1)))
-        (zero-or-not (headAt t))
 
 pub sound-holds : (n : ℕ) (t : Bytes) → words.Bytes t → length t ≡ 8 * (n + 1) → Sound t n → (L : Layout) × Holds n t L
 sound-holds n t bytes room s =
     let d = due n t (s .covered) n 0 begin (omega arith) (omega arith) in
-    let c = sound-chains n t s (d .list) (d .cover) (d .node) in
-    some-layout n t s (d .list) (d .cover) (d .node) room
-    (λ r m. node-holds t n (r .start) (r .size) bytes (d .node r m))
-    (c .0) (c .1) (c .2) (c .3)
+    let w = sound-tied n t s (d .list) (d .cover) (d .node) bytes room in
+    tied-holds (chains.Reached (prevAt t) (nextAt t)) n t (d .list) w (w .reached)
 
 -- a table that holds a layout is sound ---------------------------------------------------------------
 

@@ -1,22 +1,20 @@
 -- A chain that is laid is read back; each step, on a table that holds a layout, gives a table that holds the stepped layout. Assumes nothing.
 use mathlib.Core.Path.{_≡_, refl, sym, ap, subst, _∙_}
-use mathlib.Core.List.{List, [], _∷_, _++_, append-nil, append-assoc, List·Permᴰ, List·Permᴰ·nil, List·Permᴰ·cons, List·Permᴰ·swap, List·Permᴰ·trans, List·Memᴰ, List·Memᴰ·head, List·Memᴰ·tail}
-use mathlib.Core.Bool.{Bool, true, false, cond}
-use mathlib.Core.Logic.{_≢_, _⊎_, inl, inr, ⊎-elim}
-use Prim.Native.Nat.{ℕ, zero, suc, _+_, _-_, _*_, _/_, _%_, _≤_, _<_}
+use mathlib.Core.List.{List, [], _∷_, _++_, List·Permᴰ, List·Permᴰ·nil, List·Permᴰ·cons, List·Permᴰ·swap, List·Permᴰ·trans}
+use mathlib.Core.Logic.{⊎-elim}
+use Prim.Native.Nat.{ℕ, zero, suc, _+_, _*_, _%_, _≤_, _<_}
 use native.Mathlib.Omega.{arith}
-use lib.Dec.{leb, ltb, eqb}
 use lib.ListN.{length, length-append}
-use borrow.Author.Tests.{eqb-true, eqb-false, eq-eqb, ne-eqb, le-leb, lt-leb}
-use Rattle.fat_node.specs.Entry.{Bytes, Entry, entry, get, put, top, uAt, vAt}
-use Rattle.fat_node.specs.Node.{Run, run, prevAt, nextAt, prevHalf, nextHalf, startEntry, spanEntry, setNode, setHead}
-use Rattle.fat_node.proofs.Nodes.{one-or-more, le-or-lt, prevHalf-index, nextHalf-index, nextHalf-one, nextHalf-more}
-use Rattle.fat_table.specs.Chain.{total, headAt, sizeAt, chainAt, freeAt, fileAt}
-use Rattle.fat_table.specs.Layout.{Layout, layout, taken, left, joined, hits, covers, empties, blanks, runs, Tiled}
+use borrow.Author.Tests.{le-leb, lt-leb}
+use Rattle.fat_node.specs.Entry.{Bytes, Entry, top, vAt}
+use Rattle.fat_node.specs.Node.{Run, run, prevAt, nextAt, nextHalf}
+use Rattle.fat_node.proofs.Nodes.{one-or-more, prevHalf-index, nextHalf-index, nextHalf-one, nextHalf-more}
+use Rattle.fat_table.specs.Chain.{total, sizeAt, chainAt, freeAt, fileAt}
+use Rattle.fat_table.specs.Layout.{Layout, layout, taken, left, joined, hits, covers, empties, runs, Tiled}
 use Rattle.fat_node.specs.Format.{formatted}
-use Rattle.fat_table.specs.Steps.{first, lay, relaid, created, grown, shrunk, resized, deleted}
+use Rattle.fat_table.specs.Steps.{first, created, grown, shrunk, deleted}
 use Rattle.fat_table.specs.Holds.{HoldsNode, Laid, AllLaid, Holds}
-use Rattle.fat_table.proofs.Layouts.{create, delete, grow, shrink, hits-in, hits-lo, hits-hi, hits-above, hits-below, hits-most, covers-append, covers-perm, empties-append, sorted, end-after, length-perm, tiled-step, tiled-order, tiled-format}
+use Rattle.fat_table.proofs.Layouts.{create, delete, grow, shrink, covers-append, empties-append, sorted, end-after, length-perm, tiled-step, tiled-order, tiled-format}
 use Rattle.fat_table.proofs.Laying.{relaid-laid, inside-of, first-inside}
 
 -- a node that the table holds is read back ---------------------------------------------------------

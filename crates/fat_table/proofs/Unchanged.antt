@@ -1,22 +1,22 @@
 -- Each step keeps every byte outside the head and the entries of the few nodes that it changes. Assumes nothing.
 use mathlib.Core.Path.{_≡_, refl, sym, ap, subst, subst⁻¹, _∙_}
-use mathlib.Core.List.{List, [], _∷_, _++_, append-assoc, List·Memᴰ, List·Memᴰ·head, List·Memᴰ·tail, List·Memᴰ·cases-cons, List·Memᴰ·not-nil}
+use mathlib.Core.List.{List, [], _∷_, _++_, List·Memᴰ·head, List·Memᴰ·tail, List·Memᴰ·cases-cons, List·Memᴰ·not-nil}
 use mathlib.Core.Bool.{Bool, true, false, cond}
 use mathlib.Core.Logic.{_≢_, _⊎_, inl, inr, ⊎-elim}
-use Prim.Native.Nat.{ℕ, zero, suc, _+_, _-_, _*_, _/_, _%_, _≤_, _<_}
+use Prim.Native.Nat.{ℕ, suc, _+_, _-_, _*_, _/_, _≤_, _<_}
 use native.Mathlib.Omega.{arith}
 use lib.Dec.{eqb, leb}
 use lib.ListN.{length, getD}
-use borrow.Author.Tests.{eqb-true, eqb-false, eq-eqb, ne-eqb, le-leb, lt-leb}
+use borrow.Author.Tests.{eqb-true, eqb-false, le-leb, lt-leb}
 use Rattle.words.specs.Word.{word}
 use Rattle.words.proofs.Laws as words
-use Rattle.fat_node.specs.Entry.{Bytes, Entry, entry, get}
-use Rattle.fat_node.specs.Node.{Run, run, setNode, setHead}
+use Rattle.fat_node.specs.Entry.{Bytes, Entry, get}
+use Rattle.fat_node.specs.Node.{Run, run, setNode}
 use Rattle.fat_node.proofs.Nodes.{le-or-lt, setNode-other, setHead-other, bytes-setNode}
 use Rattle.fat_node.specs.Format.{formatted}
 use Rattle.fat_table.specs.Sound.{File}
 use Rattle.fat_table.specs.Chain.{total, freeAt, fileAt}
-use Rattle.fat_table.specs.Layout.{Layout, layout, taken, left, joined, hits, covers, empties, blanks, Tiled}
+use Rattle.fat_table.specs.Layout.{layout, taken, left, joined, empties}
 use Rattle.fat_table.specs.Steps.{first, created, grown, shrunk, resized, deleted}
 use Rattle.fat_table.specs.Holds.{Holds}
 use Rattle.fat_table.specs.Changes.{
@@ -33,10 +33,9 @@ use Rattle.fat_table.specs.Changes.{
 }
 use Rattle.fat_table.proofs.Layouts.{empties-append}
 use Rattle.fat_table.proofs.Chains.{In, mem-left, mem-right}
-use Rattle.fat_table.proofs.Stepped.{free-read}
-use Rattle.fat_table.proofs.Files.{Whole, Seen, seen, SeenFile, seen-file, file-is, bytes-formatted, bytes-created, bytes-deleted, bytes-grown, bytes-shrunk, bytes-resized}
+use Rattle.fat_table.proofs.Files.{Whole, seen, seen-file, bytes-formatted, bytes-created, bytes-deleted, bytes-grown, bytes-shrunk}
 use Rattle.fat_table.proofs.Writes.{lastOf, relink, cut-within, cut-between, created-whole, created-split, deleted-writes}
-use Rattle.fat_table.proofs.Resizes.{Cut, grown-linked, shrunk-split, shrunk-between, resized-same, resized-less, resized-more}
+use Rattle.fat_table.proofs.Resizes.{Cut, first-left, grown-linked, shrunk-split, shrunk-between, resized-same, resized-less, resized-more}
 
 -- entries and bytes ------------------------------------------------------------------------------------
 
@@ -188,10 +187,6 @@ bytes-relink (r ∷ l) p t g = bytes-setNode t r p (first l) g
 pub total-append : (a b : List Run) → total (a ++ b) ≡ total a + total b
 total-append [] b = omega arith
 total-append (r ∷ a) b = omega (arith, total-append a b)
-
-first-left : (A : List Run) (x : Run) (D : List Run) → first ((A ++ x ∷ []) ++ D) ≡ first (A ++ x ∷ [])
-first-left [] x D = refl
-first-left (a ∷ A) x D = refl
 
 -- the steps ----------------------------------------------------------------------------------------------
 

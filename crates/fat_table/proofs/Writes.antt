@@ -1,18 +1,16 @@
 -- A step writes few nodes: what it is to lay chains anew, as the few writes of nodes and of the head that change a byte. Assumes nothing.
-use mathlib.Core.Path.{_≡_, refl, sym, ap, subst, subst⁻¹, _∙_}
-use mathlib.Core.List.{List, [], _∷_, _++_, append-nil, append-assoc}
-use mathlib.Core.Logic.{_≢_, _⊎_, inl, inr, ⊎-elim}
-use Prim.Native.Nat.{ℕ, zero, suc, _+_, _-_, _*_, _≤_, _<_}
+use mathlib.Core.Path.{_≡_, refl, sym, ap, subst, _∙_}
+use mathlib.Core.List.{List, [], _∷_, _++_, append-assoc}
+use Prim.Native.Nat.{ℕ, zero, suc, _+_, _-_, _≤_, _<_}
 use native.Mathlib.Omega.{arith}
-use lib.ListN.{length}
 use Rattle.words.proofs.Laws as words
-use Rattle.fat_node.specs.Entry.{Bytes, Entry, entry, get, put}
-use Rattle.fat_node.specs.Node.{Run, run, startEntry, spanEntry, setNode, setHead}
-use Rattle.fat_node.proofs.Nodes.{le-or-lt, bytes-setNode, setNode-same}
-use Rattle.fat_table.specs.Chain.{total, chainAt, freeAt, fileAt}
-use Rattle.fat_table.specs.Layout.{Layout, layout, taken, left, joined, hits, covers, empties, runs, Tiled}
-use Rattle.fat_table.specs.Steps.{first, lay, relaid, created, grown, shrunk, resized, deleted}
-use Rattle.fat_table.specs.Holds.{HoldsNode, Laid, AllLaid, Holds}
+use Rattle.fat_node.specs.Entry.{Bytes}
+use Rattle.fat_node.specs.Node.{Run, run, setNode, setHead}
+use Rattle.fat_node.proofs.Nodes.{bytes-setNode, setNode-same}
+use Rattle.fat_table.specs.Chain.{total, chainAt, fileAt}
+use Rattle.fat_table.specs.Layout.{Layout, layout, taken, left, joined, hits, covers, empties, Tiled}
+use Rattle.fat_table.specs.Steps.{first, lay, relaid, created, grown, deleted}
+use Rattle.fat_table.specs.Holds.{HoldsNode, Laid, Holds}
 use Rattle.fat_table.proofs.Layouts.{covers-append, empties-append, hits-split, hits-most, taken-whole, taken-part, left-whole, left-part}
 use Rattle.fat_table.proofs.Laying.{apart, keep-holds}
 use Rattle.fat_table.proofs.Stepped.{free-read, file-read}

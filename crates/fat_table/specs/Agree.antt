@@ -2,7 +2,7 @@
 use mathlib.Core.Path.{_≡_}
 use Prim.Native.Nat.{ℕ, _+_, _<_}
 use lib.ListN.{length}
-use Rattle.fat_node.specs.Entry.{Bytes, Entry, get}
+use Rattle.fat_node.specs.Entry.{Bytes, get}
 use Rattle.fat_node.specs.Node.{NodeAt}
 use Rattle.fat_table.specs.Sound.{IsNode}
 

@@ -3,7 +3,7 @@ use mathlib.Core.List.{List, [], _∷_}
 use mathlib.Core.Bool.{cond}
 use Prim.Native.Nat.{ℕ, zero, suc, _+_, _-_}
 use lib.Dec.{leb}
-use Rattle.fat_node.specs.Entry.{Bytes, Entry, entry, get, top, uAt, vAt}
+use Rattle.fat_node.specs.Entry.{Bytes, top, vAt}
 use Rattle.fat_node.specs.Node.{Run, run, nextAt}
 
 -- the blocks of a chain: its nodes' sizes, summed

@@ -4,8 +4,8 @@ use mathlib.Core.List.{List, [], _∷_}
 use mathlib.Core.Logic.{_≢_}
 use Prim.Native.Nat.{ℕ, suc, _+_, _*_}
 use lib.ListN.{length}
-use Rattle.fat_node.specs.Entry.{Bytes, Entry, entry, get}
-use Rattle.fat_node.specs.Node.{Run, run, startEntry, spanEntry}
+use Rattle.fat_node.specs.Entry.{Bytes, entry, get}
+use Rattle.fat_node.specs.Node.{Run, startEntry, spanEntry}
 use Rattle.fat_table.specs.Layout.{Layout, Tiled}
 use Rattle.fat_table.specs.Steps.{first}
 

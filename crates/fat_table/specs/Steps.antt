@@ -2,10 +2,10 @@
 -- not change is given the bytes that it has: that no other entry changes is a theorem about these definitions. Assumes nothing.
 use mathlib.Core.List.{List, [], _∷_, _++_}
 use mathlib.Core.Bool.{cond}
-use Prim.Native.Nat.{ℕ, suc, _+_, _-_}
+use Prim.Native.Nat.{ℕ, suc, _-_}
 use lib.Dec.{leb}
 use Rattle.fat_node.specs.Entry.{Bytes}
-use Rattle.fat_node.specs.Node.{Run, run, setNode, setHead}
+use Rattle.fat_node.specs.Node.{Run, setNode, setHead}
 use Rattle.fat_table.specs.Chain.{total, headAt, freeAt, fileAt}
 use Rattle.fat_table.specs.Layout.{taken, left}
 

@@ -2,7 +2,7 @@
 use mathlib.Core.Path.{_≡_}
 use mathlib.Core.List.{List}
 use Prim.Native.Nat.{ℕ}
-use Rattle.order.specs.Gate.{cleared, Refusal, refusal}
+use Rattle.order.specs.Gate.{cleared, refusal}
 use Rattle.order.specs.First.{First}
 use Rattle.order.specs.Given.{Given, None}
 use Rattle.order.specs.declared.Answer.{Answer}

@@ -2,23 +2,7 @@ use mathlib.Core.Path.{refl}
 use mathlib.Core.Logic.{inl}
 use native.Mathlib.Omega.{arith}
 use Rattle.words.proofs.Laws as words
-use Rattle.fat.proofs.Done.{
-  not-file,
-  file-from,
-  head-chain,
-  last-standing,
-  first-standing,
-  first-below,
-  inside-standing,
-  inside-next,
-  inside-part,
-  inside-first,
-  says-within,
-  says-past,
-  delete-done,
-  create-none,
-  create-done,
-}
+use Rattle.fat.proofs.Done.{head-chain, inside-standing, inside-next, inside-part, inside-first, says-within, says-past, create-none, create-done}
 use borrow.Author.Needs.{needs}
 use Rattle.fat.proofs.create_sound.Statement.{statement}
 use Rattle.fat.proofs.create_sound.Tie as tie

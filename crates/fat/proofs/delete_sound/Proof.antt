@@ -3,23 +3,7 @@ use mathlib.Core.Logic.{inl}
 use native.Mathlib.Omega.{arith}
 use borrow.Author.Tests.{not-true, not-false}
 use Rattle.words.proofs.Laws as words
-use Rattle.fat.proofs.Done.{
-  not-file,
-  file-from,
-  head-chain,
-  last-standing,
-  first-standing,
-  first-below,
-  inside-standing,
-  inside-next,
-  inside-part,
-  inside-first,
-  says-within,
-  says-past,
-  delete-done,
-  create-none,
-  create-done,
-}
+use Rattle.fat.proofs.Done.{not-file, file-from, head-chain, last-standing, first-standing, first-below, delete-done}
 use borrow.Author.Needs.{needs}
 use Rattle.fat.proofs.delete_sound.Statement.{statement}
 use Rattle.fat.proofs.delete_sound.Tie as tie
