@@ -6,11 +6,11 @@ test:
 # Against the Rust: the long comparison, with a new seed or SEED=number.
 .PHONY: oracle bench
 oracle:
-	rt staticlib mukthiban > /dev/null
+	tools/library
 	cd oracle && cargo run --offline --release --quiet -p compare -- long $(SEED)
 # The original, a careful test in plain Rust, and the library, measured in one run.
 bench:
-	rt staticlib mukthiban > /dev/null
+	tools/library
 	cd oracle && cargo run --offline --release --quiet -p bench
 
 # A sample volume, looked at, lifted and damaged.
