@@ -48,24 +48,25 @@ fn tested<'a>(state: &'a RefCell<Blocks>, lent: &'a Blocks, times: usize) -> Opt
     })
 }
 
-/// The original's own work. Its handle is opened within the time, but for read and write.
-fn original<'a>(state: &'a RefCell<Option<Volume>>, buf: &'a RefCell<Vec<u8>>, lent: &'a Blocks, call: &'a BlockCall) -> Option<Side<'a>> {
+/// The original's own work, on a volume that is put back before each run. The file's handle is opened within the time, or before it.
+fn original<'a>(state: &'a RefCell<Option<Volume>>, buf: &'a RefCell<Vec<u8>>, lent: &'a Blocks, call: &'a BlockCall, opened: bool) -> Option<Side<'a>> {
     if !original::PRESENT {
         return None;
     }
-    *state.borrow_mut() = Some(Volume::open(&lent.table, &lent.data, lent.block_len).unwrap());
-    buf.borrow_mut().clone_from(&lent.buf);
-    let ready = || {
+    if state.borrow().is_none() {
+        *state.borrow_mut() = Some(Volume::open(&lent.table, &lent.data, lent.block_len).unwrap());
+        buf.borrow_mut().clone_from(&lent.buf);
+    }
+    let ready = move || {
         let mut state = state.borrow_mut();
         let volume = state.as_mut().unwrap();
-        // As before the library's call, so that both find the caches alike.
         volume.set_table(&lent.table);
-        if !matches!(call, BlockCall::Read { .. } | BlockCall::Write { .. }) {
-            volume.reopen(lent.block_len).unwrap();
-            volume.set_table(&lent.table);
-        } else if let BlockCall::Read { first, .. } | BlockCall::Write { first, .. } = *call {
-            volume.list(first).unwrap();
+        volume.reopen(lent.block_len).unwrap();
+        if let (true, BlockCall::Read { first, .. } | BlockCall::Write { first, .. }) = (opened, call) {
+            volume.list(*first).unwrap();
         }
+        // Copied last, as before the library's call, so that both find the caches alike.
+        volume.set_table(&lent.table);
     };
     side(ready, || {
         let (mut state, mut buf) = (state.borrow_mut(), buf.borrow_mut());
@@ -87,7 +88,7 @@ fn original<'a>(state: &'a RefCell<Option<Volume>>, buf: &'a RefCell<Vec<u8>>, l
 fn line(name: &str, lent: &Blocks, call: &BlockCall) {
     let (state, volume, buf) = (RefCell::new(lent.clone()), RefCell::new(None), RefCell::new(vec![]));
     let sides = [
-        original(&volume, &buf, lent, call),
+        original(&volume, &buf, lent, call, false),
         library(&state, lent, call),
         library(&state, lent, &BlockCall::Test),
         inner(&state, lent, call),
@@ -103,6 +104,27 @@ fn line(name: &str, lent: &Blocks, call: &BlockCall) {
     );
 }
 
+/// One line of read or write: the original with its handle open, which knows the blocks, and with opening it.
+fn copy_line(name: &str, lent: &Blocks, call: &BlockCall) {
+    let (state, volume, buf) = (RefCell::new(lent.clone()), RefCell::new(None), RefCell::new(vec![]));
+    let sides = [
+        original(&volume, &buf, lent, call, true),
+        original(&volume, &buf, lent, call, false),
+        library(&state, lent, call),
+        inner(&state, lent, call),
+    ];
+    let [open, opening, port, own] = best(sides);
+    println!(
+        "| {name} | {} | {} | {} | {} | {} | {} |",
+        shown(open),
+        shown(opening),
+        shown(port),
+        shown(own),
+        ratio(own, open),
+        ratio(own, opening),
+    );
+}
+
 fn tests(sizes: &[usize]) {
     println!("\n### Block table: the test\n");
     println!("| n | shape | original's open | careful | port's test | port / careful |\n|---|---|---|---|---|---|");
@@ -112,7 +134,7 @@ fn tests(sizes: &[usize]) {
             let (state, volume, buf) = (RefCell::new(lent.clone()), RefCell::new(None), RefCell::new(vec![]));
             let times = often(*n);
             let sides = [
-                original(&volume, &buf, &lent, &BlockCall::Test),
+                original(&volume, &buf, &lent, &BlockCall::Test, false),
                 careful(&state, &lent, times),
                 tested(&state, &lent, times),
             ];
@@ -152,7 +174,7 @@ fn copies(n: usize, shape: Shape, block_len: usize) {
     let first = volume.large;
     for (name, call) in [("read", BlockCall::Read { first, pos: 0 }), ("write", BlockCall::Write { first, pos: 0 })] {
         let name = format!("{n} {shape:?} {name} {} x {block_len}", volume.large_blocks);
-        line(&name, &volume.lent, &call);
+        copy_line(&name, &volume.lent, &call);
     }
 }
 
@@ -172,7 +194,7 @@ pub fn run(quick: bool) {
         }
     }
     println!("\n### Block table: read and write of one file of an eighth of the volume\n");
-    println!("| call | original | port | port's test | own | own / original |\n|---|---|---|---|---|---|");
+    println!("| call | original, handle open | original with opening | port | own | own / handle open | own / with opening |\n|---|---|---|---|---|---|---|");
     for n in sizes.iter().filter(|n| **n <= 65_536) {
         for shape in SHAPES {
             for block_len in [512, 4_096] {

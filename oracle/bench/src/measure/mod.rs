@@ -22,8 +22,8 @@ pub fn side<'a>(ready: impl FnMut() + 'a, run: impl FnMut() + 'a) -> Option<Side
 }
 
 /// How long the sides of one line are run, and how often at least and at most.
-const SPAN: Duration = Duration::from_millis(300);
-const LEAST: usize = 9;
+const SPAN: Duration = Duration::from_millis(800);
+const LEAST: usize = 15;
 const MOST: usize = 400;
 
 /// The best time of each side in microseconds. The sides take turns, so that what else the machine does meets them alike.
