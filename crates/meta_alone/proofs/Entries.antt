@@ -3,14 +3,14 @@ use mathlib.Core.Path.{_≡_, refl, sym, ap, _∙_, subst}
 use mathlib.Core.List.{List, [], _∷_}
 use mathlib.Core.Logic.{_⊎_, inl, inr, ⊎-elim, _≢_}
 use mathlib.Core.Bool.{Bool, true, false, false≢true}
-use Prim.Native.Nat.{ℕ, zero, suc, _+_, _-_, _*_, _%_, _≤_, _<_}
+use Prim.Native.Nat.{ℕ, _+_, _-_, _*_, _%_, _≤_, _<_}
 use native.Mathlib.Omega.{arith}
 use lib.Dec.{eqb}
 use borrow.Author.Tests.{eqb-true, eq-eqb}
 use lib.ListN.{length, take, drop}
 use Rattle.links.specs.Links.{_∈_, Links}
 use Rattle.links.specs.Change.{pick}
-use Rattle.links.proofs.Laws.{positive}
+use Rattle.links.proofs.Laws.{positive, fewer}
 use Rattle.links.proofs.Held.{same-or}
 use Rattle.meta_key.specs.Key.{keyOf, keyWords, sameKey}
 use Rattle.meta_key.specs.Hash.{hashOf}
@@ -20,11 +20,13 @@ use Rattle.meta_table.specs.Field.{field}
 use Rattle.meta_table.specs.View.{keyAt}
 use Rattle.meta_table.specs.Chain.{linkAt, listAt, Ends, seekIn}
 use Rattle.meta_table.specs.declared.Hit.{Hit}
-use Rattle.meta_table.proofs.Chain.{key-part, Goes, goes, stops}
-use Rattle.meta_marks.specs.Marks.{gone, Tells}
-use Rattle.meta_marks.specs.Gather.{bucketAt}
+use Rattle.meta_table.proofs.Chain.{key-part, goes, stops, list-is, ends}
+use Rattle.meta_marks.specs.Marks.{gone, markAt, Tells, Listed, Within}
+use Rattle.meta_marks.proofs.Walks.{entry-in, within-trans}
+use Rattle.meta_marks.proofs.Gathering.{Checking, check-on, gathers-more, gathers-stop}
+use Rattle.meta_marks.specs.Gather.{Gathered, any, bucketAt}
 use Rattle.meta_alone.specs.Entries.{Apart, Fits, AllFit}
-use Rattle.meta_alone.specs.Stage.{Bucketed}
+use Rattle.meta_alone.specs.Stage.{Filing, Filed}
 
 -- a search that finds nothing met no entry with the key
 pub seek-none : (key : ℕ → List ℕ) (k xs : List ℕ) (n : ℕ) → ((y : ℕ) → y ∈ xs → 0 < y) → seekIn key k xs n .inode ≡ 0 → (z : ℕ) → z ∈ xs → key z ≡ k → ⊥
@@ -125,23 +127,89 @@ fits-mark t w buckets y mark p =
     ⊎-elim (λ (g : mark ≡ gone). omega arith)
     (λ (q : (mark ≡ hashOf (keyAt (field w t) y) % buckets + 1) × Apart t w y). let e : mark ≡ hashOf (keyAt (field w t) y) % buckets + 1 = q .0 in omega arith) p
 
-module _ (h t : List ℕ) (w count buckets : ℕ) (W : ℕ → ℕ) (a : Bool) (A : Tells ((y : ℕ) → 0 < y → y < count → 0 < W y) a) where
-  pub entries-bare : a ≡ false → Tells ((y : ℕ) → 0 < y → y < count → Fits t w buckets y (W y)) false
-  entries-bare e = record {
-    yes = λ q. absurd (false≢true q);
-    only = λ all. absurd (false≢true (sym e ∙ A .only (λ y p q. fits-mark t w buckets y (W y) (all y p q))));
+-- every entry fits, if every bucket's do and every entry has a mark
+pub entries-by : (h t : List ℕ) (w count buckets : ℕ) (W : ℕ → ℕ)
+    → ((j : ℕ) → 0 < j → j < buckets + 1 → (y : ℕ) → W y ≡ j → y ∈ listAt t w (w - 4) (bucketAt h j))
+    → ((y : ℕ) → (W y ≡ 0) ⊎ ((W y ≡ gone) ⊎ ((0 < W y) × (W y < buckets + 1) × any (W y))))
+    → ((j : ℕ) → 0 < j → j < buckets + 1 → AllFit t w buckets (bucketAt h j) j)
+    → (a : Bool) → Tells ((y : ℕ) → 0 < y → y < count → 0 < W y) a → Tells ((y : ℕ) → 0 < y → y < count → Fits t w buckets y (W y)) a
+entries-by h t w count buckets W marks only fit a A = record {
+  yes = λ q y p l.
+      ⊎-elim (λ (z : W y ≡ 0). absurd (let k : 0 < W y = A .yes q y p l in omega arith))
+      (⊎-elim (λ (g : W y ≡ gone). inl g)
+      (λ (k : (0 < W y) × (W y < buckets + 1) × any (W y)). fit (W y) (k .0) (k .1) y (marks (W y) (k .0) (k .1) y refl)))
+      (only y);
+  only = λ all. A .only (λ y p l. fits-mark t w buckets y (W y) (all y p l));
+}
+
+-- ---- one bucket: the walk that marks it, then its entries
+
+-- the list that the code compares
+pub filing-ends : {t : List ℕ} {w count first i off : ℕ} {work work′ : List ℕ} {r : Bool} → Listed (linkAt t w (w - 4)) count first i off work work′ r
+    → r ≡ true → 1 ≤ count → count ≤ 65536 → count * w ≤ length t → Ends t w (w - 4) first
+filing-ends {t} {w} {count} {first} A e h1 hc hl =
+    let a = A .good e in
+    let s : length (a .0) < count = fewer (linkAt t w (w - 4)) count first (a .0) (omega arith) (a .1) (λ y m. a .2 y m .0) in
+    ends t w (w - 4) first (a .0) (a .1) (omega arith) (λ z m. entry-in w z count (length t) (a .2 z m .0) hl)
+
+module _ {t : List ℕ} {w count buckets first i off : ℕ} {work work′ : List ℕ} {r : Bool} (A : Listed (linkAt t w (w - 4)) count first i off work work′ r) where
+  pub filing-stop : r ≡ false → Filing t w count buckets first i off work work′ false
+  filing-stop e = record {
+    good = λ q. absurd (false≢true q);
+    bad = λ _ xs l f _. A .bad e xs l f;
+    within = A .within;
   }
 
-  pub entries-by : a ≡ true → Bucketed h t w count buckets W → (b : Bool) → Tells ((j : ℕ) → 0 < j → j < buckets + 1 → AllFit t w buckets (bucketAt h j) j) b
-      → Tells ((y : ℕ) → 0 < y → y < count → Fits t w buckets y (W y)) b
-  entries-by e S b B = record {
-    yes = λ q y p l.
-        ⊎-elim (λ (z : W y ≡ 0). absurd (let k : 0 < W y = A .yes e y p l in omega arith))
-        (⊎-elim (λ (g : W y ≡ gone). inl g)
-        (λ (k : (0 < W y) × (W y < buckets + 1)). B .yes q (W y) (k .0) (k .1) y (S .marks (W y) (k .0) (k .1) y .1 refl)))
-        (S .only y);
-    only = λ all. B .only (λ j p l y m.
-        let k : W y ≡ j = S .marks j p l y .0 m in
-        let i = S .below y (λ (z : W y ≡ 0). omega arith) in
-        subst (λ z. Fits t w buckets y z) k (all y (i .0) (i .1)));
+  pub filing-done : r ≡ true → {b : Bool} → Tells (AllFit t w buckets first i) b → Filing t w count buckets first i off work work′ b
+  filing-done e T = record {
+    good = λ q. (A .good e, T .yes q);
+    bad = λ q xs l f all. absurd (false≢true (sym q ∙ T .only all));
+    within = A .within;
   }
+
+-- ---- the buckets one after the other
+
+pub record Filling (h t : List ℕ) (w count buckets off : ℕ) (work₀ work : List ℕ) (i : ℕ) : Type 0 where
+  pub most : i ≤ buckets + 1
+  pub size : length work ≡ length work₀
+  pub lists : (R : List ℕ) → Gathered (linkAt t w (w - 4)) count (bucketAt h) any R 1 (markAt work₀ off) → Gathered (linkAt t w (w - 4)) count (bucketAt h) any R i (markAt work off)
+  pub fit : Checking (λ j. AllFit t w buckets (bucketAt h j) j) i
+  pub within : Within off count work₀ work
+
+module _ {h t : List ℕ} {w count buckets off : ℕ} {work₀ work work′ : List ℕ} {i first : ℕ} {r : Bool} (C : Filling h t w count buckets off work₀ work i) (hi : i ≤ buckets) (hm : buckets ≤ 65536)
+    (e : first ≡ bucketAt h i) (F : Filing t w count buckets first i off work work′ r) where
+  pub filling-on : r ≡ true → Filling h t w count buckets off work₀ work′ (i + 1)
+  filling-on q = record {
+    most = omega arith;
+    size = F .within .size ∙ C .size;
+    lists = λ R G. gathers-more (buckets + 1) (C .fit .some) (omega arith) (omega arith) e tt listed (C .lists R G) refl;
+    fit = check-on (C .fit) (record { yes = λ _. subst (λ z. AllFit t w buckets z i) e (F .good q .1); only = λ _. refl }) refl;
+    within = within-trans (C .within) (F .within);
+  }
+    where
+      listed : Listed (linkAt t w (w - 4)) count first i off work work′ true
+      listed = record { good = λ _. F .good q .0; bad = λ z. absurd (false≢true (sym z)); within = F .within }
+
+  pub filling-stop : r ≡ false → ((R : List ℕ) → Gathered (linkAt t w (w - 4)) count (bucketAt h) any R 1 (markAt work₀ off) → Filed h t w count buckets off R work′ false) × Within off count work₀ work′
+  filling-stop q = (
+    λ R G. record {
+      good = λ z. absurd (false≢true z);
+      bad = λ _ f right all.
+          gathers-stop (buckets + 1) (C .fit .some) (omega arith) (omega arith) e tt (listed (all i (C .fit .some) (omega arith))) (C .lists R G) refl .bad refl f right;
+    },
+    within-trans (C .within) (F .within),
+  )
+    where
+      listed : AllFit t w buckets (bucketAt h i) i → Listed (linkAt t w (w - 4)) count first i off work work′ false
+      listed all = record { good = λ z. absurd (false≢true z); bad = λ _ xs l f. F .bad q xs l f (subst (λ z. AllFit t w buckets z i) (sym e) all); within = F .within }
+
+pub filling-done : {h t : List ℕ} {w count buckets off : ℕ} {work₀ work : List ℕ} {i : ℕ} → Filling h t w count buckets off work₀ work i → buckets < i
+    → ((R : List ℕ) → Gathered (linkAt t w (w - 4)) count (bucketAt h) any R 1 (markAt work₀ off) → Filed h t w count buckets off R work true) × Within off count work₀ work
+filling-done {h} {t} {w} {count} {buckets} {off} {work₀} {work} {i} C l =
+    let e : i ≡ buckets + 1 = let m : i ≤ buckets + 1 = C .most in omega arith in (
+      λ R G. record {
+        good = λ _. (subst (λ z. Gathered (linkAt t w (w - 4)) count (bucketAt h) any R z (markAt work off)) e (C .lists R G), λ j a b. C .fit .right j a (omega arith));
+        bad = λ q. absurd (false≢true (sym q));
+      },
+      C .within,
+    )

@@ -8,20 +8,21 @@ use native.Mathlib.Omega.{arith}
 use lib.ListN.{length, getD}
 use Rattle.words.specs.Word.{word}
 use Rattle.links.specs.Links.{_∈_, Distinct, Links, Holds}
-use Rattle.links.proofs.Laws.{one-list, distinct, fewer}
+use Rattle.links.proofs.Laws.{one-list, distinct, fewer, after}
 use Rattle.links.proofs.Held.{same-or}
 use Rattle.meta_key.specs.Hash.{hashOf}
 use Rattle.meta_table.specs.Field.{field}
-use Rattle.meta_table.specs.View.{View, place, hashAt, removedOf, Live, LiveIn, keyAt}
+use Rattle.meta_table.specs.View.{View, place, hashAt, removedOf, Live, keyAt}
 use Rattle.meta_table.specs.Chain.{linkAt, listAt, Ends}
 use Rattle.meta_table.proofs.Chain.{list-is, ends}
-use Rattle.meta_marks.specs.Marks.{gone, markAt, Free, Marked, Listed, Within, Tells}
-use Rattle.meta_marks.specs.Gather.{Alive, Gathered, Gathers, bucketAt, any, Kept}
-use Rattle.meta_marks.proofs.Walks.{within-refl, within-trans, within-more, entry-in}
+use Rattle.meta_marks.specs.Marks.{gone, markAt, Listed, Within, Tells}
+use Rattle.meta_marks.specs.Gather.{Gathered, bucketAt, any}
+use Rattle.meta_marks.proofs.Walks.{within-trans, entry-in}
 use Rattle.meta_tree.specs.Sound.{Table}
-use Rattle.meta_alone.specs.Entries.{Apart, Fits}
-use Rattle.meta_alone.specs.Stage.{Clean, Bucketed, alone, Front, Sorted, Single}
-use Rattle.meta_alone.proofs.OneTable.{removed-is, removed-marks, removed-free, own, by-number, behind, buckets-right, keys-apart, marks-right, apart-right, clean-of}
+use Rattle.meta_alone.specs.Entries.{Apart, Fits, AllFit}
+use Rattle.meta_alone.specs.Stage.{Filed, alone, Front, Sorted}
+use Rattle.meta_alone.proofs.Entries.{entries-by}
+use Rattle.meta_alone.proofs.OneTable.{removed-is, removed-marks, removed-free, own, by-number, behind, buckets-right, keys-apart, marks-right, apart-right}
 
 bucket-at : (h : List ℕ) (b : ℕ) → bucketAt h (b + 1) ≡ hashAt h b
 unfolding field
@@ -48,8 +49,8 @@ module _ (h t : List ℕ) (w off : ℕ) (work : List ℕ) (zeros : (y : ℕ) →
     }
 
     module _ (e1 : r1 ≡ true) (w2 : List ℕ) (r2 : Bool)
-        (B : (R : List ℕ) → Gathered coll count (bucketAt h) any R 1 (markAt w1 off) → Gathers coll count (bucketAt h) any (length h / 4 + 1) off R w2 r2)
-        (hb : 0 < length h / 4) (hm : length h / 4 ≤ 65536) (W2 : Within off count w1 w2) where
+        (B : (R : List ℕ) → Gathered coll count (bucketAt h) any R 1 (markAt w1 off) → Filed h t w count (length h / 4) off R w2 r2)
+        (hb : 0 < length h / 4) (hm : length h / 4 ≤ 65536) (W2 : Within off count w1 w2) (hc : count ≤ 65536) where
       abbrev rem : List ℕ
       rem = A .good e1 .0
 
@@ -65,6 +66,23 @@ module _ (h t : List ℕ) (w off : ℕ) (work : List ℕ) (zeros : (y : ℕ) →
       unfolding field
       same root head T = one-list coll (coll 0) (coll 0) rem (removedOf (alone h t w root head)) refl (A .good e1 .1) (T .removed)
 
+      -- in a sound table the entries of every bucket fit
+      fits-sound : (root : ℕ) (head : ℕ → ℕ) → Table (alone h t w root head) → (j : ℕ) → 0 < j → j < length h / 4 + 1 → AllFit t w (length h / 4) (bucketAt h j) j
+      unfolding field
+      fits-sound root head T j p l y m =
+          let v : View = alone h t w root head in
+          let N = by-number (alone h t w root head) hb hm (bucketAt h) (bucket-at h) T j p l in
+          let s : length (N .0) < count = fewer coll count (bucketAt h j) (N .0) (let o : 1 ≤ count = T .count-one in omega arith) (N .1) (λ z k. N .2 z .0 k .0 .1) in
+          let k : y ∈ N .0 = subst (λ u. y ∈ u) (list-is t w (w - 4) (bucketAt h j) (N .0) (N .1) (omega arith)) m in
+          let a = N .2 y .0 k in
+          let A = after coll (bucketAt h j) (N .0) (N .1) y k in
+          inr (
+            sym (a .1),
+            λ z n q.
+                apart-right (alone h t w root head) hb hm (bucketAt h) (bucket-at h) T y (a .0) (A .0) (A .1) z
+                (subst (λ u. z ∈ u) (list-is t w (w - 4) (coll y) (A .0) (A .1) (omega (arith, A .2))) n) q,
+          )
+
       pub sorted-stop-2 : r2 ≡ false → Sorted h t w off work w2 false
       unfolding field
       sorted-stop-2 e = record {
@@ -72,13 +90,13 @@ module _ (h t : List ℕ) (w off : ℕ) (work : List ℕ) (zeros : (y : ℕ) →
         bad = λ _ root head T.
             B (removedOf (alone h t w root head)) (subst (λ R. Gathered coll count (bucketAt h) any R 1 (markAt w1 off)) (same root head T) started) .bad e
             (own (alone h t w root head) hb hm (bucketAt h) (bucket-at h))
-            (λ j a b _. by-number (alone h t w root head) hb hm (bucketAt h) (bucket-at h) T j a b);
+            (λ j a b _. by-number (alone h t w root head) hb hm (bucketAt h) (bucket-at h) T j a b) (fits-sound root head T);
         within = within-trans (A .within) W2;
       }
 
-      module _ (e2 : r2 ≡ true) (hw : 24 ≤ w) (hl : count * w ≤ length t) (hc : count ≤ 65536) where
+      module _ (e2 : r2 ≡ true) (hw : 24 ≤ w) (hl : count * w ≤ length t) where
         all : Gathered coll count (bucketAt h) any rem (length h / 4 + 1) (markAt w2 off)
-        all = B rem started .good e2
+        all = B rem started .good e2 .0
 
         -- the entries of a bucket lie below count
         low : (j : ℕ) (p : 0 < j) (l : j < length h / 4 + 1) (y : ℕ) → y ∈ all .list j p l tt .0 → y < count
@@ -87,22 +105,14 @@ module _ (h t : List ℕ) (w off : ℕ) (work : List ℕ) (zeros : (y : ℕ) →
         short : (1 ≤ count) → (j : ℕ) (p : 0 < j) (l : j < length h / 4 + 1) → length (all .list j p l tt .0) ≤ 65536
         short h1 j p l = let s : length (all .list j p l tt .0) < count = fewer coll count (bucketAt h j) (all .list j p l tt .0) h1 (all .list j p l tt .1) (low j p l) in omega arith
 
-        -- what the next part asks for
-        pub sorted-bucketed : 1 ≤ count → Bucketed h t w count (length h / 4) (markAt w2 off)
-        sorted-bucketed h1 = record {
-          ends = λ j p l. ends t w (w - 4) (bucketAt h j) (all .list j p l tt .0) (all .list j p l tt .1) (short h1 j p l) (λ z m. entry-in w z count (length t) (low j p l z m) hl);
-          marks = λ j p l y.
-              let e : listAt t w (w - 4) (bucketAt h j) ≡ all .list j p l tt .0 = list-is t w (w - 4) (bucketAt h j) (all .list j p l tt .0) (all .list j p l tt .1) (short h1 j p l) in (
-                λ m. all .list j p l tt .2 y .0 (subst (λ k. y ∈ k) e m),
-                λ m. subst (λ k. y ∈ k) (sym e) (all .list j p l tt .2 y .1 m),
-              );
-          below = all .below;
-          only = λ y.
-              ⊎-elim (λ (z : markAt w2 off y ≡ 0). inl z)
-              (⊎-elim (λ (g : markAt w2 off y ≡ gone). inr (inl g))
-              (λ (k : (0 < markAt w2 off y) × (markAt w2 off y < length h / 4 + 1) × any (markAt w2 off y)). inr (inr (k .0, k .1))))
-              (all .only y);
-        }
+        -- an entry with a bucket's mark stands in its list
+        marked : (1 ≤ count) → (j : ℕ) → 0 < j → j < length h / 4 + 1 → (y : ℕ) → markAt w2 off y ≡ j → y ∈ listAt t w (w - 4) (bucketAt h j)
+        marked h1 j p l y m =
+            subst (λ k. y ∈ k) (sym (list-is t w (w - 4) (bucketAt h j) (all .list j p l tt .0) (all .list j p l tt .1) (short h1 j p l))) (all .list j p l tt .2 y .1 m)
+
+        -- every entry fits exactly if every entry has a mark
+        all-fit : (1 ≤ count) → (r3 : Bool) → Tells ((y : ℕ) → 0 < y → y < count → 0 < markAt w2 off y) r3 → Tells ((y : ℕ) → 0 < y → y < count → Fits t w (length h / 4) y (markAt w2 off y)) r3
+        all-fit h1 r3 M = entries-by h t w count (length h / 4) (markAt w2 off) (marked h1) (all .only) (B rem started .good e2 .1) r3 M
 
         sorted-behind : Behind t w count (markAt w2 off)
         unfolding field
@@ -116,7 +126,10 @@ module _ (h t : List ℕ) (w off : ℕ) (work : List ℕ) (zeros : (y : ℕ) →
         walks : (y : ℕ) (zs : List ℕ) → Links coll (coll y) zs → ((z : ℕ) → z ∈ zs → z < count) → 0 < count → listAt t w (w - 4) (coll y) ≡ zs
         walks y zs l b p = list-is t w (w - 4) (coll y) zs l (let s : length zs < count = fewer coll count (coll y) zs p l b in omega arith)
 
-        module _ (r3 : Bool) (C : Tells ((y : ℕ) → 0 < y → y < count → Fits t w (length h / 4) y (markAt w2 off y)) r3) where
+        module _ (h1 : 1 ≤ count) (r3 : Bool) (M : Tells ((y : ℕ) → 0 < y → y < count → 0 < markAt w2 off y) r3) where
+          C : Tells ((y : ℕ) → 0 < y → y < count → Fits t w (length h / 4) y (markAt w2 off y)) r3
+          C = all-fit h1 r3 M
+
           module _ (e3 : r3 ≡ true) (root : ℕ) (head : ℕ → ℕ) (F : Front (alone h t w root head)) where
             abbrev v : View
             v = alone h t w root head
@@ -207,27 +220,17 @@ module _ (h t : List ℕ) (w off : ℕ) {work w1 : List ℕ} {n first : ℕ} {r1
   sort-1 e = sorted-stop h t w off work zeros w1 r1 at e
 
   module _ {w2 : List ℕ} {r2 : Bool} (e1 : r1 ≡ true) (hb : 0 < length h / 4) (hm : length h / 4 ≤ 65536)
-      (B : ((R : List ℕ) → Gathered (linkAt t w (w - 4)) n (bucketAt h) any R 1 (markAt w1 off) → Gathers (linkAt t w (w - 4)) n (bucketAt h) any (length h / 4 + 1) off R w2 r2)
-      × Within off n w1 w2) where
-    lists : (R : List ℕ) → Gathered (linkAt t w (w - 4)) (field w t 0 1) (bucketAt h) any R 1 (markAt w1 off)
-        → Gathers (linkAt t w (w - 4)) (field w t 0 1) (bucketAt h) any (length h / 4 + 1) off R w2 r2
-    lists =
-        subst (λ z. (R : List ℕ) → Gathered (linkAt t w (w - 4)) z (bucketAt h) any R 1 (markAt w1 off) → Gathers (linkAt t w (w - 4)) z (bucketAt h) any (length h / 4 + 1) off R w2 r2)
-        en (B .0)
+      (B : ((R : List ℕ) → Gathered (linkAt t w (w - 4)) n (bucketAt h) any R 1 (markAt w1 off) → Filed h t w n (length h / 4) off R w2 r2) × Within off n w1 w2) (hc : n ≤ 65536) where
+    lists : (R : List ℕ) → Gathered (linkAt t w (w - 4)) (field w t 0 1) (bucketAt h) any R 1 (markAt w1 off) → Filed h t w (field w t 0 1) (length h / 4) off R w2 r2
+    lists = subst (λ z. (R : List ℕ) → Gathered (linkAt t w (w - 4)) z (bucketAt h) any R 1 (markAt w1 off) → Filed h t w z (length h / 4) off R w2 r2) en (B .0)
 
     inner : Within off (field w t 0 1) w1 w2
     inner = subst (λ z. Within off z w1 w2) en (B .1)
 
     pub sort-2 : r2 ≡ false → Sorted h t w off work w2 false
-    sort-2 e = sorted-stop-2 h t w off work zeros w1 r1 at e1 w2 r2 lists hb hm inner e
+    sort-2 e = sorted-stop-2 h t w off work zeros w1 r1 at e1 w2 r2 lists hb hm inner (subst (λ z. z ≤ 65536) en hc) e
 
-    module _ (e2 : r2 ≡ true) (hw : 24 ≤ w) (hl : n * w ≤ length t) (hc : n ≤ 65536) where
-      pub sort-bucketed : 1 ≤ n → Bucketed h t w n (length h / 4) (markAt w2 off)
-      sort-bucketed h1 =
-          subst (λ z. Bucketed h t w z (length h / 4) (markAt w2 off)) (sym en)
-          (sorted-bucketed h t w off work zeros w1 r1 at e1 w2 r2 lists hb hm inner e2 hw (subst (λ z. z * w ≤ length t) en hl) (subst (λ z. z ≤ 65536) en hc) (subst (λ z. 1 ≤ z) en h1))
-
-      pub sort-3 : {r3 : Bool} → Tells ((y : ℕ) → 0 < y → y < n → Fits t w (length h / 4) y (markAt w2 off y)) r3 → Sorted h t w off work w2 r3
-      sort-3 {r3} C =
-          sorted-end h t w off work zeros w1 r1 at e1 w2 r2 lists hb hm inner e2 hw (subst (λ z. z * w ≤ length t) en hl) (subst (λ z. z ≤ 65536) en hc) r3
-          (subst (λ z. Tells ((y : ℕ) → 0 < y → y < z → Fits t w (length h / 4) y (markAt w2 off y)) r3) en C)
+    pub sort-3 : r2 ≡ true → 24 ≤ w → n * w ≤ length t → 1 ≤ n → {r3 : Bool} → Tells ((y : ℕ) → 0 < y → y < n → 0 < markAt w2 off y) r3 → Sorted h t w off work w2 r3
+    sort-3 e2 hw hl h1 {r3} M =
+        sorted-end h t w off work zeros w1 r1 at e1 w2 r2 lists hb hm inner (subst (λ z. z ≤ 65536) en hc) e2 hw (subst (λ z. z * w ≤ length t) en hl) (subst (λ z. 1 ≤ z) en h1) r3
+        (subst (λ z. Tells ((y : ℕ) → 0 < y → y < z → 0 < markAt w2 off y) r3) en M)

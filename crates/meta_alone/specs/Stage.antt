@@ -5,13 +5,14 @@ use mathlib.Core.Logic.{_⊎_, _≢_, _↔_}
 use mathlib.Core.Bool.{Bool, true, false}
 use Prim.Native.Nat.{ℕ, _+_, _-_, _*_, _/_, _≤_, _<_}
 use lib.ListN.{length, getD}
-use Rattle.links.specs.Links.{_∈_, Links}
+use Rattle.links.specs.Links.{_∈_, Links, Holds}
 use Rattle.meta_table.specs.Field.{field}
 use Rattle.meta_table.specs.View.{View, viewOf, hashAt, removedOf}
-use Rattle.meta_table.specs.Chain.{linkAt, listAt, Ends}
+use Rattle.meta_table.specs.Chain.{linkAt}
 use Rattle.meta_tree.specs.Sound.{Table}
-use Rattle.meta_marks.specs.Marks.{gone, markAt, Within}
-use Rattle.meta_marks.specs.Gather.{Gathered, any, bucketAt}
+use Rattle.meta_marks.specs.Marks.{gone, markAt, Within, Free, Marked}
+use Rattle.meta_marks.specs.Gather.{Alive, Gathered, any, bucketAt}
+use Rattle.meta_alone.specs.Entries.{AllFit}
 
 -- the removed entries have the mark `gone`, all others none
 pub record Clean (count : ℕ) (R : List ℕ) (W : ℕ → ℕ) : Type 0 where
@@ -19,12 +20,22 @@ pub record Clean (count : ℕ) (R : List ℕ) (W : ℕ → ℕ) : Type 0 where
   pub below : (y : ℕ) → W y ≢ 0 → (0 < y) × (y < count)
   pub only : (y : ℕ) → (W y ≡ 0) ⊎ (W y ≡ gone)
 
--- every bucket's list ends and holds exactly the entries with its mark, from 1 below count; any other mark is `gone` or 0
-pub record Bucketed (h t : List ℕ) (w count buckets : ℕ) (W : ℕ → ℕ) : Type 0 where
-  pub ends : (j : ℕ) → 0 < j → j < buckets + 1 → Ends t w (w - 4) (bucketAt h j)
-  pub marks : (j : ℕ) → 0 < j → j < buckets + 1 → (y : ℕ) → y ∈ listAt t w (w - 4) (bucketAt h j) ↔ (W y ≡ j)
-  pub below : (y : ℕ) → W y ≢ 0 → (0 < y) × (y < count)
-  pub only : (y : ℕ) → (W y ≡ 0) ⊎ ((W y ≡ gone) ⊎ ((0 < W y) × (W y < buckets + 1)))
+-- one bucket gone along: its list ends at entries that had no mark and now have mark i, and each fits; or it is not so
+pub record Filing (t : List ℕ) (w count buckets first i off : ℕ) (work work′ : List ℕ) (r : Bool) : Type 0 where
+  pub good : r ≡ true
+      → ((xs : List ℕ) × Links (linkAt t w (w - 4)) first xs × Free count (markAt work off) xs × Marked (markAt work off) (markAt work′ off) i xs)
+      × AllFit t w buckets first i
+  pub bad : r ≡ false → (xs : List ℕ) → Links (linkAt t w (w - 4)) first xs → Free count (markAt work off) xs → AllFit t w buckets first i → ⊥
+  pub within : Within off count work work′
+
+-- all buckets gone along: their entries have their marks, and each fits; or the buckets do not each hold exactly the entries that name them by f, or not all fit
+pub record Filed (h t : List ℕ) (w count buckets off : ℕ) (R work′ : List ℕ) (r : Bool) : Type 0 where
+  pub good : r ≡ true
+      → Gathered (linkAt t w (w - 4)) count (bucketAt h) any R (buckets + 1) (markAt work′ off)
+      × ((j : ℕ) → 0 < j → j < buckets + 1 → AllFit t w buckets (bucketAt h j) j)
+  pub bad : r ≡ false → (f : ℕ → ℕ)
+      → ((j : ℕ) → 0 < j → j < buckets + 1 → any j → Holds (linkAt t w (w - 4)) (bucketAt h j) (λ y. Alive count R y × (f y ≡ j)))
+      → ((j : ℕ) → 0 < j → j < buckets + 1 → AllFit t w buckets (bucketAt h j) j) → ⊥
 
 -- one table t of width w with its hash h, whatever its root and child lists
 abbrev pub alone : List ℕ → List ℕ → ℕ → ℕ → (ℕ → ℕ) → View

@@ -4,11 +4,11 @@ ghost use mathlib.Core.List.{List};
 ghost use Prim.Native.Nat.{ℕ, _+_, _-_, _*_, _/_, _≤_, _<_};
 ghost use lib.ListN.{length};
 ghost use Rattle.meta_table.specs.Chain.{linkAt, Ends};
-ghost use Rattle.meta_marks.specs.Marks.{gone, markAt, Tells};
-ghost use Rattle.meta_marks.specs.Gather.{bucketAt};
+ghost use Rattle.meta_marks.specs.Marks.{gone, markAt, Tells, Within};
+ghost use Rattle.meta_marks.specs.Gather.{Gathered, any, bucketAt};
 ghost use Rattle.meta_table.specs.Field.{field};
 ghost use Rattle.meta_alone.specs.Entries.{Fits, AllFit};
-ghost use Rattle.meta_alone.specs.Stage.{Clean, Bucketed, Sorted, Single};
+ghost use Rattle.meta_alone.specs.Stage.{Clean, Filing, Filed, Sorted, Single};
 
 // Whether an entry is removed, or was met in the bucket of its own hash and has no equal key behind it there.
 fn entry_fits(table: &[u8], w: usize, buckets: usize, y: u32, mark: u32) -> bool
@@ -46,16 +46,46 @@ fn check_bucket(table: &[u8], w: usize, buckets: usize, first: u32, mark: u32) -
     true
 }
 
-// Whether the entries of every bucket fit. They are gone along bucket by bucket, so that the entries that are compared stay near.
-fn check_buckets(hash: &[u8], table: &[u8], w: usize, buckets: usize) -> bool
-    requires { ⌜ (buckets * 4 ≤ length (now hash)) × (24 ≤ w) × (0 < buckets) × (buckets ≤ 65536)
-        × ((j : ℕ) → 0 < j → j < buckets + 1 → Ends (now table) w (w - 4) (bucketAt (now hash) j)) ⌝ }
-    ensures { λ r. ⌜ Tells ((j : ℕ) → 0 < j → j < buckets + 1 → AllFit (now (table .entry)) w buckets (bucketAt (now (hash .entry)) j) j) r ⌝ }
+// Goes along one bucket: marks its entries with its number i, counted from 1, and then sees that each fits, while they are near.
+fn sort_bucket(
+    table: &[u8],
+    w: usize,
+    count: u32,
+    buckets: usize,
+    first: u32,
+    work: &mut [u32],
+    off: usize,
+    i: u32,
+) -> bool
+    requires { ⌜ (count * w ≤ length (now table)) × (1 ≤ count) × (count ≤ 65536) × (24 ≤ w) × (off + count ≤ length (now work)) × (0 < buckets) × (buckets ≤ 65536) × (0 < i) ⌝ }
+    ensures { λ r. ⌜ Filing (now (table .entry)) w count buckets first i off (now (work .entry)) (now (work .exit)) r ⌝ }
+{
+    if !meta_marks::mark_list(table, w, w - 4, count, first, work, off, i) {
+        return false;
+    }
+    check_bucket(table, w, buckets, first, i)
+}
+
+// The same for every bucket.
+fn sort_buckets(
+    hash: &[u8],
+    table: &[u8],
+    w: usize,
+    count: u32,
+    buckets: usize,
+    work: &mut [u32],
+    off: usize,
+) -> bool
+    requires { ⌜ (count * w ≤ length (now table)) × (1 ≤ count) × (count ≤ 65536) × (24 ≤ w) × (off + count ≤ length (now work)) × (0 < buckets) × (buckets ≤ 65536)
+        × (buckets * 4 ≤ length (now hash)) ⌝ }
+    ensures { λ r. ⌜ ((R : List ℕ) → Gathered (linkAt (now (table .entry)) w (w - 4)) count (bucketAt (now (hash .entry))) any R 1 (markAt (now (work .entry)) off)
+        → Filed (now (hash .entry)) (now (table .entry)) w count buckets off R (now (work .exit)) r)
+        × Within off count (now (work .entry)) (now (work .exit)) ⌝ }
 {
     let mut i: usize = 1;
     while i <= buckets {
         let first = words::get_u32(hash, (i - 1) * 4);
-        if !check_bucket(table, w, buckets, first, i as u32) {
+        if !sort_bucket(table, w, count, buckets, first, work, off, i as u32) {
             return false;
         }
         i += 1;
@@ -78,26 +108,6 @@ fn all_marked(work: &[u32], off: usize, count: u32) -> bool
     true
 }
 
-// Whether every entry fits.
-fn check_entries(
-    hash: &[u8],
-    table: &[u8],
-    w: usize,
-    count: u32,
-    buckets: usize,
-    work: &[u32],
-    off: usize,
-) -> bool
-    requires { ⌜ (buckets * 4 ≤ length (now hash)) × (24 ≤ w) × (0 < buckets) × (buckets ≤ 65536) × (off + count ≤ length (now work))
-        × Bucketed (now hash) (now table) w count buckets (markAt (now work) off) ⌝ }
-    ensures { λ r. ⌜ Tells ((y : ℕ) → 0 < y → y < count → Fits (now (table .entry)) w buckets y (markAt (now (work .entry)) off y)) r ⌝ }
-{
-    if !all_marked(work, off, count) {
-        return false;
-    }
-    check_buckets(hash, table, w, buckets)
-}
-
 // The removed list, the buckets and the keys of one table, whose marks begin at `off` and are 0.
 fn sort_table(hash: &[u8], table: &[u8], w: usize, count: u32, work: &mut [u32], off: usize) -> bool
     requires { ⌜ (count ≡ field w (now table) 0 1) × (count * w ≤ length (now table)) × (1 ≤ count) × (count ≤ 65536) × (24 ≤ w)
@@ -109,10 +119,10 @@ fn sort_table(hash: &[u8], table: &[u8], w: usize, count: u32, work: &mut [u32],
     if !meta_marks::mark_list(table, w, w - 4, count, first, work, off, meta_marks::GONE) {
         return false;
     }
-    if !meta_marks::mark_buckets(hash, table, w, count, buckets as u32, work, off) {
+    if !sort_buckets(hash, table, w, count, buckets, work, off) {
         return false;
     }
-    check_entries(hash, table, w, count, buckets, work, off)
+    all_marked(work, off, count)
 }
 
 // Whether the numbers at a table's front fit its room.

@@ -148,7 +148,7 @@ module _ (nx : ℕ → ℕ) (count : ℕ) (head : ℕ → ℕ) (want : ℕ → T
       inr (L .2 y .0 (subst (λ xs. y ∈ xs) e (K .2 y .1 ((y0, yc, h), refl)))))
       (in-or y R)
 
--- ---- the loops of mark_buckets and mark_children
+-- ---- the loops over numbered lists: buckets and child lists
 
 module _ {nx : ℕ → ℕ} {count : ℕ} {head : ℕ → ℕ} {want : ℕ → Type 0} {R work work′ : List ℕ} {i first off : ℕ} {r : Bool} (n : ℕ) (h0 : 0 < i) (hn : i < n) (hm : n ≤ gone)
     (e : first ≡ head i) (w : want i) (A : Listed nx count first i off work work′ r) (G : Gathered nx count head want R i (markAt work off)) where

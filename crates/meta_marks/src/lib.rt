@@ -5,7 +5,7 @@ ghost use Prim.Native.Nat.{ℕ, _+_, _-_, _*_, _≤_, _<_};
 ghost use lib.ListN.{length, getD};
 ghost use Rattle.meta_table.specs.Chain.{linkAt};
 ghost use Rattle.meta_marks.specs.Marks.{gone, markAt, markOf, Tells, Within, Marked, Listed};
-ghost use Rattle.meta_marks.specs.Gather.{Alive, Gathered, Gathers, bucketAt, any, Told, Dir, Named, Kept};
+ghost use Rattle.meta_marks.specs.Gather.{Alive, Gathered, Gathers, Told, Dir, Named, Kept};
 ghost use Rattle.meta_marks.specs.Climb.{Tops, Flat, Risen, AllRisen};
 
 // Goes along a list and marks its entries. It stops at an entry that is not below count, or that is marked.
@@ -39,32 +39,6 @@ pub fn mark_list(
 
 // The mark of a removed entry.
 pub const GONE: u32 = 65537;
-
-// Goes along every bucket, and marks its entries with its number, counted from 1.
-pub fn mark_buckets(
-    hash: &[u8],
-    table: &[u8],
-    w: usize,
-    count: u32,
-    buckets: u32,
-    work: &mut [u32],
-    off: usize,
-) -> bool
-    requires { ⌜ (count * w ≤ length (now table)) × (4 ≤ w) × (off + count ≤ length (now work)) × (buckets * 4 ≤ length (now hash)) × (buckets ≤ 65536) ⌝ }
-    ensures { λ r. ⌜ ((R : List ℕ) → Gathered (linkAt (now (table .entry)) w (w - 4)) count (bucketAt (now (hash .entry))) any R 1 (markAt (now (work .entry)) off)
-        → Gathers (linkAt (now (table .entry)) w (w - 4)) count (bucketAt (now (hash .entry))) any (buckets + 1) off R (now (work .exit)) r)
-        × Within off count (now (work .entry)) (now (work .exit)) ⌝ }
-{
-    let mut i: u32 = 1;
-    while i <= buckets {
-        let first = words::get_u32(hash, meta_table::index(i - 1) * 4);
-        if !mark_list(table, w, w - 4, count, first, work, off, i) {
-            return false;
-        }
-        i += 1;
-    }
-    true
-}
 
 // Goes along the child list of one directory, unless it is removed, and marks its entries with the directory's inode.
 fn mark_dir(
