@@ -11,6 +11,8 @@ ghost use Rattle.meta_table.specs.Field.{write, wrote};
 ghost use Rattle.fs_meta.specs.Tables.{tables};
 ghost use Rattle.fs_meta.specs.Calls.{carryGives};
 ghost use Rattle.fs_meta.specs.Format.{FormatMisfit, FormatOutside, FormatPromise, formatted};
+use meta_key::SaveExtDirEntry;
+use meta_key::SaveExtFileEntry;
 use meta_key::SaveExtKey;
 use order::Answer;
 
@@ -28,19 +30,19 @@ fn misfit(
     if meta_test::hash_misfit(dir_hash) {
         return true;
     }
-    if dir_table.len() < 40 {
+    if dir_table.len() < SaveExtDirEntry::WIDTH {
         return true;
     }
     if meta_test::hash_misfit(file_hash) {
         return true;
     }
-    if file_table.len() < 48 {
+    if file_table.len() < SaveExtFileEntry::WIDTH {
         return true;
     }
-    if dir_table.len() / 40 < dir_max {
+    if dir_table.len() / SaveExtDirEntry::WIDTH < dir_max {
         return true;
     }
-    if file_table.len() / 48 < file_max {
+    if file_table.len() / SaveExtFileEntry::WIDTH < file_max {
         return true;
     }
     false
@@ -60,13 +62,13 @@ fn outside(
     if meta_test::beyond(dir_hash.len() / 4) {
         return true;
     }
-    if meta_test::beyond(dir_table.len() / 40) {
+    if meta_test::beyond(dir_table.len() / SaveExtDirEntry::WIDTH) {
         return true;
     }
     if meta_test::beyond(file_hash.len() / 4) {
         return true;
     }
-    if meta_test::beyond(file_table.len() / 48) {
+    if meta_test::beyond(file_table.len() / SaveExtFileEntry::WIDTH) {
         return true;
     }
     if dir_max < 2 {
@@ -153,10 +155,10 @@ fn lay(
     root_hash(dir_hash);
     first_entry(dir_table, 80, 2, dir_max);
     empty_hash(file_hash);
-    first_entry(file_table, 48, 1, file_max);
+    first_entry(file_table, SaveExtFileEntry::WIDTH, 1, file_max);
 }
 
-// Makes an empty tree. The maxima count entry 0, and of the directories the root.
+// Makes an empty tree. Done: the tables hold the root alone. The maxima count entry 0, and of the directories the root.
 pub fn format(
     dir_hash: &mut [u8],
     dir_table: &mut [u8],

@@ -1,5 +1,7 @@
 // The name of an entry, shown as a part of the directory table or of the file table.
 use fs_meta::Kind;
+use meta_key::SaveExtDirEntry;
+use meta_key::SaveExtFileEntry;
 use meta_test::Gated;
 use order::Answer;
 ghost use mathlib.Core.Path.{_≡_};
@@ -60,8 +62,8 @@ pub fn name_answer(
     match gated {
         Gated::Refused { answer } => NameAnswer { answer },
         Gated::Open => match kind {
-            Kind::Directory => answer_in(dir_hash, dir_table, 40, inode),
-            Kind::File => answer_in(file_hash, file_table, 48, inode),
+            Kind::Directory => answer_in(dir_hash, dir_table, SaveExtDirEntry::WIDTH, inode),
+            Kind::File => answer_in(file_hash, file_table, SaveExtFileEntry::WIDTH, inode),
         },
     }
 }
@@ -85,8 +87,8 @@ pub fn name<'a>(
             Kind::File => &file_table[..0],
         },
         Gated::Open => match kind {
-            Kind::Directory => part_in(dir_hash, dir_table, 40, inode),
-            Kind::File => part_in(file_hash, file_table, 48, inode),
+            Kind::Directory => part_in(dir_hash, dir_table, SaveExtDirEntry::WIDTH, inode),
+            Kind::File => part_in(file_hash, file_table, SaveExtFileEntry::WIDTH, inode),
         },
     }
 }
