@@ -100,6 +100,17 @@ fn few_opens(t: Tree) {
     line(b"WorkTooShort, open_dir with 3 open counts of 4", answer);
 }
 
+// More buckets than there may be.
+fn many_buckets(t: Tree) {
+    let hash = [0u8; 262148];
+    test(
+        b"InvalidValue, test with 65537 buckets",
+        t,
+        &hash,
+        &mut [0u32; 7],
+    );
+}
+
 // Sizes and work list, judged before the tables are read.
 fn sizes(t: Tree) {
     let dh = t.dir_hash;
@@ -117,6 +128,7 @@ fn sizes(t: Tree) {
         &mut [0u32; 6],
     );
     few_opens(t);
+    many_buckets(t);
 }
 
 // Tables that are not sound: a root that no bucket has, and a count above its maximum.
