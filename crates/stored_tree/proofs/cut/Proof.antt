@@ -1,115 +1,86 @@
+-- `cut` meets its contract. Assumes nothing.
 use mathlib.Core.Path.{sym}
 use native.Mathlib.Omega.{arith}
 use lib.Seq.{length-take-le}
 use borrow.Author.Needs.{needs}
 use Rattle.stored_tree.proofs.cut.Statement.{statement}
 use Rattle.stored_tree.proofs.cut.Tie as tie
-use Rattle.stored_tree.proofs.cut.Reads as reads
-use Rattle.stored_tree.proofs.cut.Lts as lts
-use Rattle.stored.proofs.size.Reads as size-reads
-use Rattle.stored_tree.proofs.cut_lists.Reads as cut-lists-reads
 
--- src/main.rt:284:9
 size-requires : tie.Need-size-requires
 size-requires c κs = search needs
 
--- src/main.rt:285:9
 size-requires-2 : tie.Need-size-requires-2
 size-requires-2 c κs = search needs
 
--- src/main.rt:286:9
 size-requires-3 : tie.Need-size-requires-3
 size-requires-3 c κs = search needs
 
--- src/main.rt:287:9
 size-requires-4 : tie.Need-size-requires-4
 size-requires-4 c κs = search needs
 
--- src/main.rt:289:9
 returns : tie.Need-returns
 returns c = search needs
 
--- src/main.rt:292:9
 returns-2 : tie.Need-returns-2
 returns-2 c = search needs
 
--- src/main.rt:295:9
 returns-3 : tie.Need-returns-3
 returns-3 c = search needs
 
--- src/main.rt:298:9
 returns-4 : tie.Need-returns-4
 returns-4 c = search needs
 
--- src/main.rt:301:9
 slice-relend-prefix-cut-lists : tie.Need-slice-relend-prefix-cut-lists
 slice-relend-prefix-cut-lists c = search needs
 
--- src/main.rt:301:9
 slice-aggregate-cut-lists : tie.Need-slice-aggregate-cut-lists
 slice-aggregate-cut-lists c = sym (length-take-le _ _ (omega arith))
 
--- src/main.rt:302:9
 slice-relend-prefix-cut-lists-2 : tie.Need-slice-relend-prefix-cut-lists-2
 slice-relend-prefix-cut-lists-2 c = search needs
 
--- src/main.rt:302:9
 slice-aggregate-cut-lists-2 : tie.Need-slice-aggregate-cut-lists-2
 slice-aggregate-cut-lists-2 c = sym (length-take-le _ _ (omega arith))
 
--- src/main.rt:303:9
 slice-relend-prefix-cut-lists-3 : tie.Need-slice-relend-prefix-cut-lists-3
 slice-relend-prefix-cut-lists-3 c = search needs
 
--- src/main.rt:303:9
 slice-aggregate-cut-lists-3 : tie.Need-slice-aggregate-cut-lists-3
 slice-aggregate-cut-lists-3 c = sym (length-take-le _ _ (omega arith))
 
--- src/main.rt:304:9
 slice-relend-prefix-cut-lists-4 : tie.Need-slice-relend-prefix-cut-lists-4
 slice-relend-prefix-cut-lists-4 c = search needs
 
--- src/main.rt:304:9
 slice-aggregate-cut-lists-4 : tie.Need-slice-aggregate-cut-lists-4
 slice-aggregate-cut-lists-4 c = sym (length-take-le _ _ (omega arith))
 
--- src/main.rt:300:5
 cut-lists-requires : tie.Need-cut-lists-requires
 cut-lists-requires c κs = search needs
 
--- src/main.rt:271:1
 same-length : tie.Need-same-length
 same-length c = search needs
 
--- src/main.rt:271:1
 same-length-2 : tie.Need-same-length-2
 same-length-2 c = search needs
 
--- src/main.rt:271:1
 same-length-3 : tie.Need-same-length-3
 same-length-3 c = search needs
 
--- src/main.rt:271:1
 same-length-4 : tie.Need-same-length-4
 same-length-4 c = search needs
 
--- src/main.rt:271:1
 same-length-5 : tie.Need-same-length-5
 same-length-5 c = search needs
 
--- src/main.rt:271:1
 same-length-6 : tie.Need-same-length-6
 same-length-6 c = search needs
 
--- src/main.rt:271:1
 same-length-7 : tie.Need-same-length-7
 same-length-7 c = search needs
 
--- src/main.rt:271:1
 same-length-8 : tie.Need-same-length-8
 same-length-8 c = search needs
 
--- src/main.rt:271:1
 returns-5 : tie.Need-returns-5
 returns-5 c = search needs
 

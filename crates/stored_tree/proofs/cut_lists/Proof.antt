@@ -1,115 +1,86 @@
+-- `cut_lists` meets its contract. Assumes nothing.
 use mathlib.Core.Path.{sym}
 use native.Mathlib.Omega.{arith}
 use lib.Seq.{length-take-le}
 use borrow.Author.Needs.{needs}
 use Rattle.stored_tree.proofs.cut_lists.Statement.{statement}
 use Rattle.stored_tree.proofs.cut_lists.Tie as tie
-use Rattle.stored_tree.proofs.cut_lists.Reads as reads
-use Rattle.stored_tree.proofs.cut_lists.Lts as lts
-use Rattle.stored.proofs.size.Reads as size-reads
-use Rattle.stored_tree.proofs.call.Reads as call-reads
 
--- src/main.rt:241:9
 size-requires : tie.Need-size-requires
 size-requires c κs = search needs
 
--- src/main.rt:242:9
 size-requires-2 : tie.Need-size-requires-2
 size-requires-2 c κs = search needs
 
--- src/main.rt:243:9
 size-requires-3 : tie.Need-size-requires-3
 size-requires-3 c κs = search needs
 
--- src/main.rt:244:9
 size-requires-4 : tie.Need-size-requires-4
 size-requires-4 c κs = search needs
 
--- src/main.rt:246:9
 returns : tie.Need-returns
 returns c = search needs
 
--- src/main.rt:249:9
 returns-2 : tie.Need-returns-2
 returns-2 c = search needs
 
--- src/main.rt:252:9
 returns-3 : tie.Need-returns-3
 returns-3 c = search needs
 
--- src/main.rt:255:9
 returns-4 : tie.Need-returns-4
 returns-4 c = search needs
 
--- src/main.rt:262:9
 slice-relend-prefix-call : tie.Need-slice-relend-prefix-call
 slice-relend-prefix-call c = search needs
 
--- src/main.rt:262:9
 slice-aggregate-call : tie.Need-slice-aggregate-call
 slice-aggregate-call c = sym (length-take-le _ _ (omega arith))
 
--- src/main.rt:263:9
 slice-relend-prefix-call-2 : tie.Need-slice-relend-prefix-call-2
 slice-relend-prefix-call-2 c = search needs
 
--- src/main.rt:263:9
 slice-aggregate-call-2 : tie.Need-slice-aggregate-call-2
 slice-aggregate-call-2 c = sym (length-take-le _ _ (omega arith))
 
--- src/main.rt:264:9
 slice-relend-prefix-call-3 : tie.Need-slice-relend-prefix-call-3
 slice-relend-prefix-call-3 c = search needs
 
--- src/main.rt:264:9
 slice-aggregate-call-3 : tie.Need-slice-aggregate-call-3
 slice-aggregate-call-3 c = sym (length-take-le _ _ (omega arith))
 
--- src/main.rt:265:9
 slice-relend-prefix-call-4 : tie.Need-slice-relend-prefix-call-4
 slice-relend-prefix-call-4 c = search needs
 
--- src/main.rt:265:9
 slice-aggregate-call-4 : tie.Need-slice-aggregate-call-4
 slice-aggregate-call-4 c = sym (length-take-le _ _ (omega arith))
 
--- src/main.rt:257:5
 call-requires : tie.Need-call-requires
 call-requires c κs = search needs
 
--- src/main.rt:228:1
 same-length : tie.Need-same-length
 same-length c = search needs
 
--- src/main.rt:228:1
 same-length-2 : tie.Need-same-length-2
 same-length-2 c = search needs
 
--- src/main.rt:228:1
 same-length-3 : tie.Need-same-length-3
 same-length-3 c = search needs
 
--- src/main.rt:228:1
 same-length-4 : tie.Need-same-length-4
 same-length-4 c = search needs
 
--- src/main.rt:228:1
 same-length-5 : tie.Need-same-length-5
 same-length-5 c = search needs
 
--- src/main.rt:228:1
 same-length-6 : tie.Need-same-length-6
 same-length-6 c = search needs
 
--- src/main.rt:228:1
 same-length-7 : tie.Need-same-length-7
 same-length-7 c = search needs
 
--- src/main.rt:228:1
 same-length-8 : tie.Need-same-length-8
 same-length-8 c = search needs
 
--- src/main.rt:228:1
 returns-5 : tie.Need-returns-5
 returns-5 c = search needs
 
