@@ -29,17 +29,6 @@ fn wide(x: u32) -> usize
     x as usize
 }
 
-// Every place is 0 after it.
-fn clear(work: &mut [u32])
-    ensures { λ _. ⌜ now (work .exit) ≡ replicate (length (now (work .entry))) 0 ⌝ }
-{
-    let mut i: usize = 0;
-    while i < work.len() {
-        work[i] = 0;
-        i += 1;
-    }
-}
-
 // A word of the work list: an end in the low 20 bits, a part of a sum above.
 fn pack(e: usize, p: u32) -> u32
     requires { ⌜ (e < span) × (p < 4096) ⌝ }
@@ -313,8 +302,8 @@ pub fn run(table: &[u8], work: &mut [u32]) -> Verdict
     requires { ⌜ (0 < length (now work)) × (length (now work) ≤ 1000000) ⌝ }
     ensures { λ r. ⌜ Judged (now (table .entry)) (length (now (work .entry))) r × (now (work .exit) ≡ replicate (length (now (work .entry))) 0) ⌝ }
 {
-    clear(work);
+    order::clear(work);
     let r = judge(table, work);
-    clear(work);
+    order::clear(work);
     r
 }

@@ -40,7 +40,8 @@ use Rattle.fat_table.proofs.Agreeing.{holds-agree, agree-holds}
 use Rattle.fat.specs.Promise.{Beside}
 use Rattle.fat.specs.Calls.{Create, Change}
 use Rattle.fat_history.specs.Run as runs
-use Rattle.fat_history.specs.Run.{AreBytes, formats, creates, resizes, deletes, resizesIn}
+use Rattle.words.specs.Word.{AreBytes}
+use Rattle.fat_history.specs.Run.{formats, creates, resizes, deletes, resizesIn}
 use Rattle.fat_history.proofs.Means.{
   are-bytes,
   Fits,

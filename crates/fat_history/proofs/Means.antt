@@ -50,7 +50,7 @@ use Rattle.fat.specs.Calls.{
   writeDone,
   WritePromise,
 }
-use Rattle.fat_history.specs.Run.{AreBytes}
+use Rattle.words.specs.Word.{AreBytes}
 use Rattle.fat_history.proofs.Rows.{none-of, last-or, last-given}
 
 pub are-bytes : (t : Bytes) → AreBytes t → words.Bytes t

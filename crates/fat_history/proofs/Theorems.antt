@@ -22,7 +22,8 @@ use Rattle.fat_test.specs.declared.Tested.{Tested}
 use Rattle.fat.specs.Promise.{Beside}
 use Rattle.fat.specs.Blocks.{blocksOf, placeOf, bytesAt, written}
 use Rattle.fat.specs.Calls.{Create, CreatePromise, Change, ResizePromise, DeletePromise, Carry, ReadPromise, WritePromise, sizeOf}
-use Rattle.fat_history.specs.Run.{AreBytes, Run, resizesIn}
+use Rattle.words.specs.Word.{AreBytes}
+use Rattle.fat_history.specs.Run.{Run, resizesIn}
 use Rattle.fat_history.specs.OneChain.{OneChain}
 use Rattle.fat_history.specs.Away.{Away, none, writes}
 use Rattle.fat_history.specs.KeptBy.{KeptBy}

@@ -3,18 +3,14 @@
 -- Assumes nothing.
 use mathlib.Core.Path.{_≡_}
 use mathlib.Core.List.{List}
-use Prim.Native.Nat.{ℕ, suc, _<_}
-use lib.ListN.{getD}
+use Prim.Native.Nat.{ℕ, suc}
+use Rattle.words.specs.Word.{AreBytes}
 use Rattle.order.specs.declared.Answer.the-variants.{Done}
 use Rattle.fat_node.specs.Entry.{Bytes}
 use Rattle.fat_node.specs.Format.{FormatPromise}
 use Rattle.fat_node.specs.declared.Formatted.{Formatted}
 use Rattle.fat.specs.Promise.{Beside}
 use Rattle.fat.specs.Calls.{Create, CreatePromise, Change, ResizePromise, DeletePromise}
-
--- every number of the list is a byte, as in a slice of u8
-abbrev pub AreBytes : Bytes → Type 0
-AreBytes t = (i : ℕ) → getD t i 0 < 256
 
 -- a run of k calls after format, that ends in the table; d is the length of the data, l the block length
 pub data Run : ℕ → Bytes → Type 0 where

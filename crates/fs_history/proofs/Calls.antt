@@ -39,7 +39,8 @@ use Rattle.fs_kept.proofs.Kept.{
   kept-carry-dir,
   kept-carry-file,
 }
-use Rattle.fs_history.specs.Whole.{AreBytes, Lent}
+use Rattle.words.specs.Word.{AreBytes}
+use Rattle.fs_history.specs.Whole.{Lent}
 use Rattle.fs_history.specs.Call.{State, state}
 use Rattle.fs_history.proofs.Stable.{live-stable}
 use Rattle.fs_history.proofs.Sizes.{are-bytes, whole-step, fine, after-wrote}

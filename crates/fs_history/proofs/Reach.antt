@@ -18,7 +18,8 @@ use Rattle.fs_meta.specs.Steps.{renamedDir}
 use Rattle.fs_kept.proofs.Above.{way-up}
 use Rattle.fs_kept.proofs.Dirs.{renamed-dir-agrees}
 use Rattle.fs_kept.proofs.Kept.{kept-rename-dir}
-use Rattle.fs_history.specs.Whole.{AreBytes, Whole}
+use Rattle.words.specs.Word.{AreBytes}
+use Rattle.fs_history.specs.Whole.{Whole}
 use Rattle.fs_history.specs.MayRename.{MayRename}
 use Rattle.fs_history.proofs.Sizes.{are-bytes, fine}
 

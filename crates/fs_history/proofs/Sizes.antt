@@ -13,7 +13,8 @@ use Rattle.meta_tree.specs.Sound.{Sound}
 use Rattle.fs_meta.specs.Tables.{Tables, tables, dirs, files}
 use Rattle.fs_kept.proofs.Tables.{bytes-wrote}
 use Rattle.fs_kept.proofs.Files.{Fine}
-use Rattle.fs_history.specs.Whole.{AreBytes, Lent, Whole, SameSizes}
+use Rattle.words.specs.Word.{AreBytes}
+use Rattle.fs_history.specs.Whole.{Lent, Whole, SameSizes}
 use Rattle.fs_history.proofs.Stable.{le-stable}
 
 pub are-bytes : (t : List ℕ) → AreBytes t → Bytes t

@@ -33,7 +33,8 @@ use Rattle.fs_meta.specs.Public.{
 }
 use Rattle.fs_meta.specs.declared.Kind.{Kind}
 use Rattle.fs_name.specs.Name.{NameAnswerPromise}
-use Rattle.fs_history.specs.Whole.{AreBytes, Whole, SameSizes}
+use Rattle.words.specs.Word.{AreBytes}
+use Rattle.fs_history.specs.Whole.{Whole, SameSizes}
 
 -- what the calls are lent from one to the next: the four tables, and the open counts of the directories and of the files
 pub record State : Type 0 where

@@ -1,15 +1,11 @@
 -- What a call leaves of the entry tables. Assumes nothing.
 use mathlib.Core.Path.{_≡_}
 use mathlib.Core.List.{List}
-use Prim.Native.Nat.{ℕ, _<_}
-use lib.ListN.{length, getD}
+use lib.ListN.{length}
+use Rattle.words.specs.Word.{AreBytes}
 use Rattle.meta_tree.specs.Sizes.{Misfit, Outside}
 use Rattle.meta_tree.specs.Sound.{Sound}
 use Rattle.fs_meta.specs.Tables.{Tables, dirs, files}
-
--- every number of the list is a byte, as in a slice of u8
-abbrev pub AreBytes : List ℕ → Type 0
-AreBytes t = (i : ℕ) → getD t i 0 < 256
 
 -- four tables as they can be lent: bytes
 pub record Lent (s : Tables) : Type 0 where

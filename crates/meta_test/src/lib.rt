@@ -113,17 +113,6 @@ fn sound(
     test_files(dir_table, file_hash, file_table, work, off)
 }
 
-// Sets all places to 0.
-fn clear(work: &mut [u32])
-    ensures { λ _. ⌜ ((n : ℕ) → length (now (work .entry)) ≡ n → now (work .exit) ≡ replicate n 0) ⌝ }
-{
-    let mut i: usize = 0;
-    while i < work.len() {
-        work[i] = 0;
-        i += 1;
-    }
-}
-
 // The same with a work list of any content, which is 0 after it.
 fn judge(
     dir_hash: &[u8],
@@ -137,9 +126,9 @@ fn judge(
     ensures { λ r. ⌜ Tells (Sound (dirView (now («dir_hash» .entry)) (now («dir_table» .entry))) (fileView (now («dir_table» .entry)) (now («file_hash» .entry)) (now («file_table» .entry)))) r
         × (now (work .exit) ≡ replicate (length (now (work .entry))) 0) ⌝ }
 {
-    clear(work);
+    order::clear(work);
     let r = sound(dir_hash, dir_table, file_hash, file_table, work);
-    clear(work);
+    order::clear(work);
     r
 }
 

@@ -1,5 +1,6 @@
-// The answers that a call can give, by document 01's names.
+// The answers that a call can give, by document 01's names, and the work list's clearing.
 ghost use mathlib.Core.Path.{_≡_};
+ghost use lib.ListN.{length, replicate};
 ghost use Rattle.order.specs.Answer.{numberOf};
 
 pub enum Answer {
@@ -46,5 +47,16 @@ pub fn number(answer: Answer) -> u32
         Answer::IntoItself => 15,
         Answer::NotOpen => 16,
         Answer::TooManyOpens => 17,
+    }
+}
+
+// Sets every place of a work list, or of a part of one, to 0.
+pub fn clear(work: &mut [u32])
+    ensures { λ _. ⌜ now (work .exit) ≡ replicate (length (now (work .entry))) 0 ⌝ }
+{
+    let mut i: usize = 0;
+    while i < work.len() {
+        work[i] = 0;
+        i += 1;
     }
 }

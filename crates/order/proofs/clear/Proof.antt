@@ -1,4 +1,4 @@
--- `fat_ends::clear` meets its contract. Assumes nothing.
+-- `order::clear` meets its contract. Assumes nothing.
 use mathlib.Core.Path.{_≡_, ap, _∙_}
 use mathlib.Core.List.{List, _++_, append-nil}
 use Prim.Native.Nat.{ℕ, _-_, _≤_}
@@ -7,8 +7,8 @@ use lib.ListN.{length, set, drop, replicate, length-set}
 use borrow.Author.Fill.{fill-more}
 use lib.Seq.{drop-length}
 use borrow.Author.Needs.{needs}
-use Rattle.fat_ends.proofs.clear.Statement.{statement}
-use Rattle.fat_ends.proofs.clear.Tie as tie
+use Rattle.order.proofs.clear.Statement.{statement}
+use Rattle.order.proofs.clear.Tie as tie
 
 abbrev Inv-loop : tie.InvT-loop
 Inv-loop w₀ i₀ w i = (i ≤ length w₀) × (w ≡ replicate i 0 ++ drop i w₀) × (length w ≡ length w₀)
