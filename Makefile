@@ -3,6 +3,13 @@
 test:
 	tools/gate
 
+# The ground floor alone, with format, the first public call: layout, proofs and must-fail edits. A first look, in a few minutes.
+.PHONY: house
+house:
+	rt fmt --check
+	rt check words order links fat_node
+	rt must-fail words fat_node
+
 # Against the Rust: the long comparison, with a new seed or SEED=number.
 .PHONY: oracle bench
 oracle:
