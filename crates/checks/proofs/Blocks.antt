@@ -21,7 +21,7 @@ use Rattle.fat_test.specs.Gate.{testGate}
 use Rattle.fat_test.specs.Promise.{testRefused, testDone, TestPromise}
 use Rattle.fat_test.specs.declared.Tested.{Tested}
 use Rattle.order.specs.Beside.{Beside}
-use Rattle.fat.specs.Calls.{
+use Rattle.fat_promises.specs.Calls.{
   Create,
   createGives,
   createRows,

@@ -7,8 +7,8 @@ use native.Mathlib.Omega.{arith}
 use Rattle.links.specs.Links.{_∈_, Distinct, Links, Holds}
 use Rattle.links.specs.Change.{walk}
 use Rattle.links.proofs.Held.{same-or}
-use Rattle.meta_table.specs.View.{View, parent, place, removedOf, LiveIn}
-use Rattle.meta_tree.specs.Sound.{Table, Sound, up, Reaches}
+use Rattle.tree_table.specs.View.{View, parent, place, removedOf, LiveIn}
+use Rattle.tree_sound.specs.Sound.{Table, Sound, up, Reaches}
 
 walk-none : (next : ℕ → ℕ) (k x : ℕ) → x ≡ 0 → walk next k x ≡ []
 walk-none next zero x e = refl

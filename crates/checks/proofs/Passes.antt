@@ -17,7 +17,7 @@ use Rattle.fat_table.specs.Sound.{Sound}
 use Rattle.fat_table.proofs.Files.{Whole}
 use Rattle.fat_test.specs.Gate.{blockGate, testGate}
 use Rattle.order.specs.Beside.{Beside, beside, within, Promised}
-use Rattle.fat.specs.Promise.{Promise}
+use Rattle.fat_promises.specs.Promise.{Promise}
 
 -- where no front row applies, the rows after them decide
 past : {A : Type 0} (rs qs : List (Row A)) (d o : A) → None rs → First (rs ++ qs) d o → First qs d o

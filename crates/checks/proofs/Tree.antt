@@ -12,19 +12,19 @@ use Rattle.order.specs.Given.{None}
 use Rattle.order.specs.declared.Answer.{Answer}
 use Rattle.order.specs.declared.Answer.the-variants.{Done, NoSpace}
 use Rattle.order.proofs.One.{settled, refused}
-use Rattle.meta_key.specs.Key.{nameKey}
-use Rattle.meta_key.specs.Hash.{hashOf, mix, rotated}
-use Rattle.meta_table.specs.Field.{field}
-use Rattle.meta_table.specs.View.{parent, LiveIn}
-use Rattle.meta_table.specs.Steps.{freeOf}
-use Rattle.meta_tree.specs.Sizes.{Misfit, Outside}
-use Rattle.meta_tree.specs.Sound.{Sound}
-use Rattle.meta_test.specs.Gate.{treeGate, openGate}
-use Rattle.fs_meta.specs.Tables.{Tables, tables, dirs, files, Has}
-use Rattle.fs_meta.specs.Calls.{Carry, carryGives, Make, makeGives, makeRows, makeDirDone, makeFileDone, Lookup, lookupGives, lookupRows, lookupDone}
-use Rattle.fs_meta.specs.Format.{formatRows, formatted, FormatMisfit, FormatOutside}
-use Rattle.fs_meta.specs.Promise.{worked}
-use Rattle.fs_meta.specs.Public.{LookupPromise}
+use Rattle.tree_key.specs.Key.{nameKey}
+use Rattle.tree_key.specs.Hash.{hashOf, mix, rotated}
+use Rattle.tree_table.specs.Field.{field}
+use Rattle.tree_table.specs.View.{parent, LiveIn}
+use Rattle.tree_table.specs.Steps.{freeOf}
+use Rattle.tree_sound.specs.Sizes.{Misfit, Outside}
+use Rattle.tree_sound.specs.Sound.{Sound}
+use Rattle.tree_test.specs.Gate.{treeGate, openGate}
+use Rattle.tree_promises.specs.Tables.{Tables, tables, dirs, files, Has}
+use Rattle.tree_promises.specs.Calls.{Carry, carryGives, Make, makeGives, makeRows, makeDirDone, makeFileDone, Lookup, lookupGives, lookupRows, lookupDone}
+use Rattle.tree_promises.specs.Format.{formatRows, formatted, FormatMisfit, FormatOutside}
+use Rattle.tree_promises.specs.Promise.{worked}
+use Rattle.tree_promises.specs.Public.{LookupPromise}
 use Rattle.checks.specs.Check.{Shows}
 use Rattle.checks.specs.Tree.{
   s0,

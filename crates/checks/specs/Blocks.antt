@@ -10,7 +10,7 @@ use Rattle.fat_table.specs.Steps.{created, deleted, resized}
 use Rattle.fat_test.specs.Promise.{TestPromise}
 use Rattle.fat_test.specs.declared.Tested.{Tested}
 use Rattle.order.specs.Beside.{Beside}
-use Rattle.fat.specs.Calls.{
+use Rattle.fat_promises.specs.Calls.{
   Create,
   CreatePromise,
   Change,

@@ -6,14 +6,14 @@ use lib.ListN.{replicate}
 use Rattle.words.specs.Word.{word}
 use Rattle.order.specs.Answer.{numberOf}
 use Rattle.order.specs.Beside.{Beside}
-use Rattle.meta_key.specs.Hash.{hashOf}
-use Rattle.meta_key.specs.Key.{nameKey}
-use Rattle.meta_table.specs.Field.{field}
-use Rattle.fs_meta.specs.Tables.{Tables, tables, dirs}
-use Rattle.fs_meta.specs.Steps.{madeDir}
-use Rattle.fs_meta.specs.Calls.{Carry, Make, Lookup}
-use Rattle.fs_meta.specs.Format.{FormatPromise, formatted}
-use Rattle.fs_meta.specs.Public.{MakeDirPromise, MakeFilePromise, LookupPromise}
+use Rattle.tree_key.specs.Hash.{hashOf}
+use Rattle.tree_key.specs.Key.{nameKey}
+use Rattle.tree_table.specs.Field.{field}
+use Rattle.tree_promises.specs.Tables.{Tables, tables, dirs}
+use Rattle.tree_promises.specs.Steps.{madeDir}
+use Rattle.tree_promises.specs.Calls.{Carry, Make, Lookup}
+use Rattle.tree_promises.specs.Format.{FormatPromise, formatted}
+use Rattle.tree_promises.specs.Public.{MakeDirPromise, MakeFilePromise, LookupPromise}
 use Rattle.checks.specs.Check.{Check}
 
 -- the root's key; the name 61 and fifteen zeros, and its key under the root

@@ -1,11 +1,1 @@
-pub mod Over
-pub mod Joins
-pub mod Few
-pub mod Cases
-pub mod Walks
-pub mod Hops
-pub mod Done
 pub mod Public
-pub mod Resizes
-pub mod Lists
-pub mod Unique

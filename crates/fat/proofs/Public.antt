@@ -22,8 +22,9 @@ use Rattle.fat_test.specs.Gate.{blockGate}
 use Rattle.fat_test.specs.Promise.{Opened, GateOf}
 use Rattle.fat_test.specs.declared.Gated.{Gated}
 use Rattle.fat_test.specs.declared.Gated.the-variants.{Open, Refused}
-use Rattle.fat.specs.Promise.{beside, Promise}
-use Rattle.fat.specs.Inner.{Volume}
+use Rattle.fat_promises.specs.Promise.{beside, Promise}
+use Rattle.fat_inner.specs.Inner.{Volume}
+use Rattle.fat_inner.specs.Stretches.{Data}
 
 module _ {A : Type 0} (refuse : Answer → A) (t : Bytes) (d l : ℕ) (work : List ℕ) (own : List (Row A)) (done : A) where
   -- the gate refuses
@@ -59,6 +60,9 @@ module _ (t : Bytes) (d l : ℕ) (work work′ : List ℕ) (free files : ℕ) (g
     ⊎-elim (λ h. h) (λ h. absurd (g .none .1 .0 (inr (inl (omega (arith, h)))))) (le-or-lt 1 l),
     ⊎-elim (λ h. h) (λ h. absurd (g .none .1 .0 (inr (inr h)))) (le-or-lt l 65536),
   )
+
+  pub open-blocks : Data (blocks t) d l
+  open-blocks = record { some = open-block .0; few = open-block .1; fits = open-data }
 
 -- the gate's answer, taken apart
 pub says-open : (t : Bytes) (d l : ℕ) (work work′ : List ℕ) (r : Gated) (free files : ℕ) → GateOf t d l work work′ r → r ≡ Open free files → Opened t d l work work′ free files

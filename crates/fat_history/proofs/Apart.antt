@@ -28,10 +28,10 @@ use Rattle.fat_table.proofs.Files.{
   whole-resized,
   whole-deleted,
 }
-use Rattle.fat.specs.Promise.{Beside}
-use Rattle.fat.specs.Blocks.{blocksOf, placeOf, written}
-use Rattle.fat.specs.Calls.{Create, Change, Carry}
-use Rattle.fat.proofs.Lists.{length-blocks}
+use Rattle.fat_promises.specs.Promise.{Beside}
+use Rattle.fat_promises.specs.Blocks.{blocksOf, placeOf, written}
+use Rattle.fat_promises.specs.Calls.{Create, Change, Carry}
+use Rattle.fat_inner.proofs.Lists.{length-blocks}
 use Rattle.fat_history.specs.Away.{Away, none, creates, resizes, deletes, writes}
 use Rattle.fat_history.proofs.Means.{MayCarry, create-keeps, resize-keeps, delete-keeps, write-keeps}
 use Rattle.fat_history.proofs.Honest.{blocks-of}

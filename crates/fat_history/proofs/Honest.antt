@@ -37,8 +37,8 @@ use Rattle.fat_table.proofs.Files.{
   whole-deleted,
 }
 use Rattle.fat_table.proofs.Agreeing.{holds-agree, agree-holds}
-use Rattle.fat.specs.Promise.{Beside}
-use Rattle.fat.specs.Calls.{Create, Change}
+use Rattle.fat_promises.specs.Promise.{Beside}
+use Rattle.fat_promises.specs.Calls.{Create, Change}
 use Rattle.fat_history.specs.Run as runs
 use Rattle.words.specs.Word.{AreBytes}
 use Rattle.fat_history.specs.Run.{formats, creates, resizes, deletes, resizesIn}

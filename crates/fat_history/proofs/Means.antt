@@ -26,8 +26,8 @@ use Rattle.fat_table.proofs.Decided.{sound-decided, file-decided}
 use Rattle.fat_test.specs.Gate.{testGate, blockGate}
 use Rattle.fat_test.specs.Promise.{testRefused, testDone}
 use Rattle.fat_test.specs.declared.Tested.{Tested}
-use Rattle.fat.specs.Promise.{Beside, beside, within}
-use Rattle.fat.specs.Calls.{
+use Rattle.fat_promises.specs.Promise.{Beside, beside, within}
+use Rattle.fat_promises.specs.Calls.{
   sizeOf,
   Create,
   createGives,

@@ -15,7 +15,7 @@ use Rattle.fat_node.specs.Node.{Run, run}
 use Rattle.fat_node.proofs.Nodes.{le-or-lt}
 use Rattle.fat_table.specs.Layout.{hits, covers}
 use Rattle.fat_table.proofs.Layouts.{hits-in, hits-lo, hits-hi, hits-split}
-use Rattle.fat.specs.Blocks.{blocksFrom, blocksOf, placeOf, bytesAt, written}
+use Rattle.fat_promises.specs.Blocks.{blocksFrom, blocksOf, placeOf, bytesAt, written}
 
 -- how often a number stands in a list -----------------------------------------------------------------------------
 

@@ -19,9 +19,9 @@ use Rattle.fat_table.specs.Agree.{Agree}
 use Rattle.fat_table.proofs.Files.{Whole, whole-formatted, whole-created, whole-resized, whole-deleted}
 use Rattle.fat_test.specs.Promise.{TestPromise}
 use Rattle.fat_test.specs.declared.Tested.{Tested}
-use Rattle.fat.specs.Promise.{Beside}
-use Rattle.fat.specs.Blocks.{blocksOf, placeOf, bytesAt, written}
-use Rattle.fat.specs.Calls.{Create, CreatePromise, Change, ResizePromise, DeletePromise, Carry, ReadPromise, WritePromise, sizeOf}
+use Rattle.fat_promises.specs.Promise.{Beside}
+use Rattle.fat_promises.specs.Blocks.{blocksOf, placeOf, bytesAt, written}
+use Rattle.fat_promises.specs.Calls.{Create, CreatePromise, Change, ResizePromise, DeletePromise, Carry, ReadPromise, WritePromise, sizeOf}
 use Rattle.words.specs.Word.{AreBytes}
 use Rattle.fat_history.specs.Run.{Run, resizesIn}
 use Rattle.fat_history.specs.OneChain.{OneChain}

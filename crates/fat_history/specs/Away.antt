@@ -4,8 +4,8 @@ use mathlib.Core.Logic.{_≢_}
 use Prim.Native.Nat.{ℕ}
 use lib.ListN.{length}
 use Rattle.fat_node.specs.Entry.{Bytes}
-use Rattle.fat.specs.Promise.{Beside}
-use Rattle.fat.specs.Calls.{Create, CreatePromise, Change, ResizePromise, DeletePromise, Carry, WritePromise}
+use Rattle.fat_promises.specs.Promise.{Beside}
+use Rattle.fat_promises.specs.Calls.{Create, CreatePromise, Change, ResizePromise, DeletePromise, Carry, WritePromise}
 
 -- calls from the table t and the data d on, with blocks of l bytes, that end in t′ and d′: whatever each answers, and none is given the block b. The other
 -- calls (test, open list, read) are lent table and data unchangeable.

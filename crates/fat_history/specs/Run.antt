@@ -9,8 +9,8 @@ use Rattle.order.specs.declared.Answer.the-variants.{Done}
 use Rattle.fat_node.specs.Entry.{Bytes}
 use Rattle.fat_node.specs.Format.{FormatPromise}
 use Rattle.fat_node.specs.declared.Formatted.{Formatted}
-use Rattle.fat.specs.Promise.{Beside}
-use Rattle.fat.specs.Calls.{Create, CreatePromise, Change, ResizePromise, DeletePromise}
+use Rattle.fat_promises.specs.Promise.{Beside}
+use Rattle.fat_promises.specs.Calls.{Create, CreatePromise, Change, ResizePromise, DeletePromise}
 
 -- a run of k calls after format, that ends in the table; d is the length of the data, l the block length
 pub data Run : ℕ → Bytes → Type 0 where

@@ -101,7 +101,7 @@ fn read(
     pos: usize,
     buf: &mut [u8],
 ) {
-    let r = fat_data::read(table, data, block_len, work, first, pos, buf);
+    let r = fat::read(table, data, block_len, work, first, pos, buf);
     let answer = r.answer;
     line(what, answer);
 }
@@ -116,7 +116,7 @@ fn write(
     pos: usize,
     buf: &[u8],
 ) {
-    let r = fat_data::write(table, data, block_len, work, first, pos, buf);
+    let r = fat::write(table, data, block_len, work, first, pos, buf);
     let answer = r.answer;
     line(what, answer);
 }

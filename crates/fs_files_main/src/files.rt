@@ -29,7 +29,7 @@ pub fn make(what: &[u8], t: Tree, parent: u32, letter: u8) -> Tree {
     let mut work = [0u32; 7];
     let n = name(letter);
     let carried = [7u8; 20];
-    let r = fs_changes::make_file(
+    let r = tree::change::make_file(
         &dh,
         &mut d,
         &mut fh,
@@ -52,7 +52,7 @@ pub fn rename(what: &[u8], t: Tree, x: u32, parent: u32, letter: u8) -> Tree {
     let opens = t.file_opens;
     let mut work = [0u32; 7];
     let n = name(letter);
-    let answer = fs_changes::rename_file(
+    let answer = tree::change::rename_file(
         &dh,
         &mut d,
         &mut fh,
@@ -74,7 +74,7 @@ pub fn delete(what: &[u8], t: Tree, x: u32) -> Tree {
     let mut f = t.files;
     let mut opens = t.file_opens;
     let mut work = [0u32; 7];
-    let answer = fs_changes::delete_file(&dh, &mut d, &mut fh, &mut f, &mut work, &mut opens, x);
+    let answer = tree::change::delete_file(&dh, &mut d, &mut fh, &mut f, &mut work, &mut opens, x);
     line(what, answer);
     with(t, d, fh, f, opens)
 }
@@ -86,7 +86,7 @@ pub fn open(what: &[u8], t: Tree, x: u32) -> Tree {
     let f = t.files;
     let mut opens = t.file_opens;
     let mut work = [0u32; 7];
-    let answer = fs_calls::open_file(&dh, &d, &fh, &f, &mut work, &mut opens, x);
+    let answer = tree::opens::open_file(&dh, &d, &fh, &f, &mut work, &mut opens, x);
     line(what, answer);
     with(t, d, fh, f, opens)
 }
@@ -98,7 +98,7 @@ pub fn close(what: &[u8], t: Tree, x: u32) -> Tree {
     let f = t.files;
     let mut opens = t.file_opens;
     let mut work = [0u32; 7];
-    let answer = fs_calls::close_file(&dh, &d, &fh, &f, &mut work, &mut opens, x);
+    let answer = tree::opens::close_file(&dh, &d, &fh, &f, &mut work, &mut opens, x);
     line(what, answer);
     with(t, d, fh, f, opens)
 }
@@ -110,7 +110,7 @@ fn set_carried(what: &[u8], t: Tree, x: u32) -> Tree {
     let mut f = t.files;
     let opens = t.file_opens;
     let mut work = [0u32; 7];
-    let answer = fs_calls::set_carried_file(&dh, &d, &fh, &mut f, &mut work, x, [8u8; 20]);
+    let answer = tree::carry::set_carried_file(&dh, &d, &fh, &mut f, &mut work, x, [8u8; 20]);
     line(what, answer);
     with(t, d, fh, f, opens)
 }

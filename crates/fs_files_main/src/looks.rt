@@ -12,7 +12,7 @@ fn lookup_file(what: &[u8], t: Tree, parent: u32, letter: u8) {
     let f = t.files;
     let mut work = [0u32; 7];
     let n = name(letter);
-    let r = fs_calls::lookup_file(&dh, &d, &fh, &f, &mut work, parent, &n);
+    let r = tree::look::lookup_file(&dh, &d, &fh, &f, &mut work, parent, &n);
     tell_looked(what, r);
 }
 
@@ -22,7 +22,7 @@ fn list_files(what: &[u8], t: Tree, x: u32, list: &mut [u32]) {
     let fh = t.file_hash;
     let f = t.files;
     let mut work = [0u32; 7];
-    let r = fs_calls::list_files(&dh, &d, &fh, &f, &mut work, x, list);
+    let r = tree::look::list_files(&dh, &d, &fh, &f, &mut work, x, list);
     tell_listed(what, r);
 }
 
@@ -33,7 +33,7 @@ fn carried_file(what: &[u8], t: Tree, x: u32) {
     let fh = t.file_hash;
     let f = t.files;
     let mut work = [0u32; 7];
-    let r = fs_calls::carried_file(&dh, &d, &fh, &f, &mut work, x);
+    let r = tree::carry::carried_file(&dh, &d, &fh, &f, &mut work, x);
     let answer = r.answer;
     let bytes = r.bytes;
     line_with(what, answer, bytes[19] as u64);

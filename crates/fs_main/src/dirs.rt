@@ -22,7 +22,7 @@ pub fn make(what: &[u8], t: Tree, parent: u32, letter: u8) -> Tree {
     let mut work = [0u32; 7];
     let n = name(letter);
     let padding = [1u8, 2, 3, 4];
-    let r = fs_changes::make_dir(
+    let r = tree::change::make_dir(
         &mut dh,
         &mut d,
         &fh,
@@ -45,7 +45,7 @@ pub fn rename(what: &[u8], t: Tree, x: u32, parent: u32, letter: u8) -> Tree {
     let opens = t.dir_opens;
     let mut work = [0u32; 7];
     let n = name(letter);
-    let answer = fs_changes::rename_dir(&mut dh, &mut d, &fh, &f, &mut work, &opens, x, parent, &n);
+    let answer = tree::change::rename_dir(&mut dh, &mut d, &fh, &f, &mut work, &opens, x, parent, &n);
     line(what, answer);
     with(t, dh, d, opens)
 }
@@ -57,7 +57,7 @@ pub fn delete(what: &[u8], t: Tree, x: u32) -> Tree {
     let f = t.files;
     let mut opens = t.dir_opens;
     let mut work = [0u32; 7];
-    let answer = fs_changes::delete_dir(&mut dh, &mut d, &fh, &f, &mut work, &mut opens, x);
+    let answer = tree::change::delete_dir(&mut dh, &mut d, &fh, &f, &mut work, &mut opens, x);
     line(what, answer);
     with(t, dh, d, opens)
 }
@@ -69,7 +69,7 @@ pub fn open(what: &[u8], t: Tree, x: u32) -> Tree {
     let f = t.files;
     let mut opens = t.dir_opens;
     let mut work = [0u32; 7];
-    let answer = fs_calls::open_dir(&dh, &d, &fh, &f, &mut work, &mut opens, x);
+    let answer = tree::opens::open_dir(&dh, &d, &fh, &f, &mut work, &mut opens, x);
     line(what, answer);
     with(t, dh, d, opens)
 }
@@ -81,7 +81,7 @@ pub fn close(what: &[u8], t: Tree, x: u32) -> Tree {
     let f = t.files;
     let mut opens = t.dir_opens;
     let mut work = [0u32; 7];
-    let answer = fs_calls::close_dir(&dh, &d, &fh, &f, &mut work, &mut opens, x);
+    let answer = tree::opens::close_dir(&dh, &d, &fh, &f, &mut work, &mut opens, x);
     line(what, answer);
     with(t, dh, d, opens)
 }
@@ -93,7 +93,7 @@ fn set_carried(what: &[u8], t: Tree, x: u32) -> Tree {
     let f = t.files;
     let opens = t.dir_opens;
     let mut work = [0u32; 7];
-    let answer = fs_calls::set_carried_dir(&dh, &mut d, &fh, &f, &mut work, x, [9u8; 4]);
+    let answer = tree::carry::set_carried_dir(&dh, &mut d, &fh, &f, &mut work, x, [9u8; 4]);
     line(what, answer);
     with(t, dh, d, opens)
 }

@@ -9,7 +9,7 @@ use fs_tell::tree::Tree;
 fn format_dirs(what: &[u8], dir_hash: &mut [u8], dirs: &mut [u8]) {
     let mut fh = [0u8; 12];
     let mut f = [0u8; 144];
-    let answer = fs_format::format(dir_hash, dirs, 4, &mut fh, &mut f, 3);
+    let answer = tree::format::format(dir_hash, dirs, 4, &mut fh, &mut f, 3);
     line(what, answer);
 }
 
@@ -19,7 +19,7 @@ fn format_with(what: &[u8], dir_max: usize, file_max: usize) {
     let mut d = [0u8; 160];
     let mut fh = [0u8; 12];
     let mut f = [0u8; 144];
-    let answer = fs_format::format(&mut dh, &mut d, dir_max, &mut fh, &mut f, file_max);
+    let answer = tree::format::format(&mut dh, &mut d, dir_max, &mut fh, &mut f, file_max);
     line(what, answer);
 }
 
@@ -58,13 +58,13 @@ pub fn no_space() {
     let mut d = [0u8; 160];
     let mut fh = [0u8; 12];
     let mut f = [0u8; 48];
-    let answer = fs_format::format(&mut dh, &mut d, 4, &mut fh, &mut f, 1);
+    let answer = tree::format::format(&mut dh, &mut d, 4, &mut fh, &mut f, 1);
     line(b"Done, format with file maximum 1", answer);
     let mut work = [0u32; 5];
     let mut opens = [0u32; 1];
     let n = name(b'a');
     let carried = [0u8; 20];
-    let r = fs_changes::make_file(
+    let r = tree::change::make_file(
         &dh,
         &mut d,
         &mut fh,
@@ -83,7 +83,7 @@ fn test(what: &[u8], t: Tree, dir_hash: &[u8], work: &mut [u32]) {
     let d = t.dirs;
     let fh = t.file_hash;
     let f = t.files;
-    let r = meta_test::test(dir_hash, &d, &fh, &f, work);
+    let r = tree_test::test(dir_hash, &d, &fh, &f, work);
     let answer = r.answer;
     line(what, answer);
 }
@@ -96,7 +96,7 @@ fn few_opens(t: Tree) {
     let f = t.files;
     let mut work = [0u32; 7];
     let mut opens = [0u32; 3];
-    let answer = fs_calls::open_dir(&dh, &d, &fh, &f, &mut work, &mut opens, 1);
+    let answer = tree::opens::open_dir(&dh, &d, &fh, &f, &mut work, &mut opens, 1);
     line(b"WorkTooShort, open_dir with 3 open counts of 4", answer);
 }
 

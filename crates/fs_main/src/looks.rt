@@ -1,5 +1,5 @@
 // The calls that look at directories, names and counts, each with what it writes.
-use fs_meta::Kind;
+use tree_promises::Kind;
 use fs_tell::tell::line;
 use fs_tell::tell::line_with;
 use fs_tell::tell::name;
@@ -14,7 +14,7 @@ fn lookup_dir(what: &[u8], t: Tree, parent: u32, letter: u8) {
     let f = t.files;
     let mut work = [0u32; 7];
     let n = name(letter);
-    let r = fs_calls::lookup_dir(&dh, &d, &fh, &f, &mut work, parent, &n);
+    let r = tree::look::lookup_dir(&dh, &d, &fh, &f, &mut work, parent, &n);
     tell_looked(what, r);
 }
 
@@ -26,7 +26,7 @@ fn list_dirs(what: &[u8], t: Tree, x: u32) {
     let f = t.files;
     let mut work = [0u32; 7];
     let mut list = [0u32; 1];
-    let r = fs_calls::list_dirs(&dh, &d, &fh, &f, &mut work, x, &mut list);
+    let r = tree::look::list_dirs(&dh, &d, &fh, &f, &mut work, x, &mut list);
     tell_listed(what, r);
 }
 
@@ -37,7 +37,7 @@ fn carried_dir(what: &[u8], t: Tree, x: u32) {
     let fh = t.file_hash;
     let f = t.files;
     let mut work = [0u32; 7];
-    let r = fs_calls::carried_dir(&dh, &d, &fh, &f, &mut work, x);
+    let r = tree::carry::carried_dir(&dh, &d, &fh, &f, &mut work, x);
     let answer = r.answer;
     let bytes = r.bytes;
     line_with(what, answer, bytes[0] as u64);
@@ -49,7 +49,7 @@ fn named(what: &[u8], t: Tree, kind: Kind, x: u32) {
     let fh = t.file_hash;
     let f = t.files;
     let mut work = [0u32; 7];
-    let r = fs_name::name_answer(&dh, &d, &fh, &f, &mut work, kind, x);
+    let r = tree::name::name_answer(&dh, &d, &fh, &f, &mut work, kind, x);
     let answer = r.answer;
     line(what, answer);
 }
@@ -61,7 +61,7 @@ fn stat(what: &[u8], t: Tree) {
     let fh = t.file_hash;
     let f = t.files;
     let mut work = [0u32; 7];
-    let r = fs_calls::stat(&dh, &d, &fh, &f, &mut work);
+    let r = tree::look::stat(&dh, &d, &fh, &f, &mut work);
     let answer = r.answer;
     line_with(what, answer, r.dir_free as u64);
     let answer = r.answer;

@@ -1,7 +1,7 @@
 // What the program writes, and the names that it uses.
-use fs_meta::look::Listed;
-use fs_meta::look::Looked;
-use fs_step::make::Made;
+use tree_inner::look::Listed;
+use tree_inner::look::Looked;
+use tree_inner::make::Made;
 
 // Writes what is expected and was asked, and the number of the answer.
 pub fn line(what: &[u8], answer: order::Answer) {

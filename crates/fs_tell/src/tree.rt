@@ -14,7 +14,7 @@ pub fn new() -> Tree {
     let mut dirs = [0u8; 160];
     let mut file_hash = [0u8; 12];
     let mut files = [0u8; 144];
-    fs_format::format(&mut dir_hash, &mut dirs, 4, &mut file_hash, &mut files, 3);
+    tree::format::format(&mut dir_hash, &mut dirs, 4, &mut file_hash, &mut files, 3);
     Tree {
         dir_hash,
         dirs,

@@ -12,16 +12,16 @@ use Rattle.order.specs.Beside.{Beside, beside, Promised}
 use Rattle.order.specs.Answer.{numberOf}
 use Rattle.order.specs.declared.Answer.{Answer}
 use Rattle.order.specs.declared.Answer.the-variants.{Done, NotFound, BrokenTree, SizeMismatch, InvalidValue}
-use Rattle.meta_tree.specs.Sizes.{Misfit, rooms}
-use Rattle.meta_test.specs.Gate.{treeGate}
-use Rattle.meta_test.specs.Promise.{tested, testDone}
-use Rattle.meta_test.specs.declared.Tested.{Tested}
-use Rattle.fs_meta.specs.Tables.{Tables}
-use Rattle.fs_meta.specs.Ready.{LiveAt}
-use Rattle.meta_marks.specs.Marks.{Tells}
-use Rattle.meta_test.proofs.Cases.{tells-not}
-use Rattle.fs_meta.specs.declared.Kind.the-variants.{Directory, File}
-use Rattle.fs_name.specs.Name.{NameAnswerPromise}
+use Rattle.tree_sound.specs.Sizes.{Misfit, rooms}
+use Rattle.tree_test.specs.Gate.{treeGate}
+use Rattle.tree_test.specs.Promise.{tested, testDone}
+use Rattle.tree_test.specs.declared.Tested.{Tested}
+use Rattle.tree_promises.specs.Tables.{Tables}
+use Rattle.tree_promises.specs.Ready.{LiveAt}
+use Rattle.tree_marks.specs.Marks.{Tells}
+use Rattle.tree_test.proofs.Cases.{tells-not}
+use Rattle.tree_promises.specs.declared.Kind.the-variants.{Directory, File}
+use Rattle.tree.specs.Name.{NameAnswerPromise}
 use Rattle.mukthiban.specs.Export.{Exported}
 use Rattle.mukthiban.specs.Name.{Naming, namedGives, placed, nameRows, nameDone, NamePromise}
 

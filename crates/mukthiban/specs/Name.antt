@@ -9,11 +9,11 @@ use Rattle.order.specs.Gate.{gate}
 use Rattle.order.specs.Beside.{Beside, beside, Promised}
 use Rattle.order.specs.declared.Answer.{Answer}
 use Rattle.order.specs.declared.Answer.the-variants.{Done, NotFound, BrokenTree}
-use Rattle.meta_table.specs.View.{View, LiveIn}
-use Rattle.meta_tree.specs.Sizes.{Misfit, Outside, rooms}
-use Rattle.meta_tree.specs.Sound.{Sound}
-use Rattle.fs_meta.specs.Tables.{Tables, dirs, files}
-use Rattle.fs_meta.specs.Promise.{worked}
+use Rattle.tree_table.specs.View.{View, LiveIn}
+use Rattle.tree_sound.specs.Sizes.{Misfit, Outside, rooms}
+use Rattle.tree_sound.specs.Sound.{Sound}
+use Rattle.tree_promises.specs.Tables.{Tables, dirs, files}
+use Rattle.tree_promises.specs.Promise.{worked}
 
 -- the answer, and where the sixteen name bytes begin
 pub record Naming : Type 0 where

@@ -2,11 +2,11 @@
 ghost use mathlib.Core.Path.{_≡_};
 ghost use lib.ListN.{length};
 ghost use Rattle.order.specs.Answer.{numberOf};
-ghost use Rattle.fat.specs.Promise.{beside};
+ghost use Rattle.fat_promises.specs.Promise.{beside};
 ghost use Rattle.fat_node.specs.Format.{FormatPromise};
 ghost use Rattle.fat_node.specs.declared.Formatted.{Formatted};
 ghost use Rattle.fat_test.specs.Promise.{TestPromise, tested};
-ghost use Rattle.fat.specs.Calls.{CreatePromise, createGives, ResizePromise, DeletePromise, changeGives, ListPromise, listGives, ReadPromise, WritePromise, carryGives};
+ghost use Rattle.fat_promises.specs.Calls.{CreatePromise, createGives, ResizePromise, DeletePromise, changeGives, ListPromise, listGives, ReadPromise, WritePromise, carryGives};
 ghost use Rattle.mukthiban.specs.Export.{Exported};
 use crate::Created;
 use crate::Listed;
@@ -121,7 +121,7 @@ pub extern "C" fn mukthiban_fat_read(
 ) -> Plain
     ensures { λ p. ⌜ Exported (p .answer) (λ a. ReadPromise (now (table .entry)) (now («data» .entry)) «block_len» (now (work .entry)) «first_block» pos (now (buf .entry)) (beside (carryGives a (now (buf .exit))) (now (work .exit)))) ⌝ }
 {
-    let r = fat_data::read(table, data, block_len, work, first_block, pos, buf);
+    let r = fat::read(table, data, block_len, work, first_block, pos, buf);
     let answer = r.answer;
     Plain {
         answer: order::number(answer),
@@ -140,7 +140,7 @@ pub extern "C" fn mukthiban_fat_write(
 ) -> Plain
     ensures { λ p. ⌜ Exported (p .answer) (λ a. WritePromise (now (table .entry)) (now («data» .entry)) «block_len» (now (work .entry)) «first_block» pos (now (buf .entry)) (beside (carryGives a (now («data» .exit))) (now (work .exit)))) ⌝ }
 {
-    let r = fat_data::write(table, data, block_len, work, first_block, pos, buf);
+    let r = fat::write(table, data, block_len, work, first_block, pos, buf);
     let answer = r.answer;
     Plain {
         answer: order::number(answer),

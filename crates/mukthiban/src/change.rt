@@ -1,8 +1,8 @@
 // The calls that change the entry tables: make, rename and delete.
 ghost use Rattle.order.specs.Beside.{beside};
-ghost use Rattle.fs_meta.specs.Tables.{tables};
-ghost use Rattle.fs_meta.specs.Calls.{makeGives, changeGives};
-ghost use Rattle.fs_meta.specs.Public.{MakeDirPromise, MakeFilePromise, RenameDirPromise, RenameFilePromise, DeleteDirPromise, DeleteFilePromise};
+ghost use Rattle.tree_promises.specs.Tables.{tables};
+ghost use Rattle.tree_promises.specs.Calls.{makeGives, changeGives};
+ghost use Rattle.tree_promises.specs.Public.{MakeDirPromise, MakeFilePromise, RenameDirPromise, RenameFilePromise, DeleteDirPromise, DeleteFilePromise};
 ghost use Rattle.mukthiban.specs.Export.{Exported};
 use crate::Made;
 use crate::Plain;
@@ -21,7 +21,7 @@ pub extern "C" fn mukthiban_tree_make_dir(
 ) -> Made
     ensures { λ p. ⌜ Exported (p .answer) (λ a. MakeDirPromise (tables (now («dir_hash» .entry)) (now («dir_table» .entry)) (now («file_hash» .entry)) (now («file_table» .entry))) (now (opens .entry)) (now (work .entry)) parent (now (name .entry)) (now (carried .entry)) (beside (makeGives a (p .inode) (tables (now («dir_hash» .exit)) (now («dir_table» .exit)) (now («file_hash» .entry)) (now («file_table» .entry))) (now (opens .exit))) (now (work .exit)))) ⌝ }
 {
-    let r = fs_changes::make_dir(
+    let r = tree::change::make_dir(
         dir_hash,
         dir_table,
         file_hash,
@@ -53,7 +53,7 @@ pub extern "C" fn mukthiban_tree_make_file(
 ) -> Made
     ensures { λ p. ⌜ Exported (p .answer) (λ a. MakeFilePromise (tables (now («dir_hash» .entry)) (now («dir_table» .entry)) (now («file_hash» .entry)) (now («file_table» .entry))) (now (opens .entry)) (now (work .entry)) parent (now (name .entry)) (now (carried .entry)) (beside (makeGives a (p .inode) (tables (now («dir_hash» .entry)) (now («dir_table» .exit)) (now («file_hash» .exit)) (now («file_table» .exit))) (now (opens .exit))) (now (work .exit)))) ⌝ }
 {
-    let r = fs_changes::make_file(
+    let r = tree::change::make_file(
         dir_hash,
         dir_table,
         file_hash,
@@ -85,7 +85,7 @@ pub extern "C" fn mukthiban_tree_rename_dir(
 ) -> Plain
     ensures { λ p. ⌜ Exported (p .answer) (λ a. RenameDirPromise (tables (now («dir_hash» .entry)) (now («dir_table» .entry)) (now («file_hash» .entry)) (now («file_table» .entry))) (now (opens .entry)) (now (work .entry)) inode parent (now (name .entry)) (beside (changeGives a (tables (now («dir_hash» .exit)) (now («dir_table» .exit)) (now («file_hash» .entry)) (now («file_table» .entry))) (now (opens .entry))) (now (work .exit)))) ⌝ }
 {
-    let answer = fs_changes::rename_dir(
+    let answer = tree::change::rename_dir(
         dir_hash,
         dir_table,
         file_hash,
@@ -115,7 +115,7 @@ pub extern "C" fn mukthiban_tree_rename_file(
 ) -> Plain
     ensures { λ p. ⌜ Exported (p .answer) (λ a. RenameFilePromise (tables (now («dir_hash» .entry)) (now («dir_table» .entry)) (now («file_hash» .entry)) (now («file_table» .entry))) (now (opens .entry)) (now (work .entry)) inode parent (now (name .entry)) (beside (changeGives a (tables (now («dir_hash» .entry)) (now («dir_table» .exit)) (now («file_hash» .exit)) (now («file_table» .exit))) (now (opens .entry))) (now (work .exit)))) ⌝ }
 {
-    let answer = fs_changes::rename_file(
+    let answer = tree::change::rename_file(
         dir_hash,
         dir_table,
         file_hash,
@@ -143,7 +143,7 @@ pub extern "C" fn mukthiban_tree_delete_dir(
 ) -> Plain
     ensures { λ p. ⌜ Exported (p .answer) (λ a. DeleteDirPromise (tables (now («dir_hash» .entry)) (now («dir_table» .entry)) (now («file_hash» .entry)) (now («file_table» .entry))) (now (opens .entry)) (now (work .entry)) inode (beside (changeGives a (tables (now («dir_hash» .exit)) (now («dir_table» .exit)) (now («file_hash» .entry)) (now («file_table» .entry))) (now (opens .exit))) (now (work .exit)))) ⌝ }
 {
-    let answer = fs_changes::delete_dir(
+    let answer = tree::change::delete_dir(
         dir_hash,
         dir_table,
         file_hash,
@@ -169,7 +169,7 @@ pub extern "C" fn mukthiban_tree_delete_file(
 ) -> Plain
     ensures { λ p. ⌜ Exported (p .answer) (λ a. DeleteFilePromise (tables (now («dir_hash» .entry)) (now («dir_table» .entry)) (now («file_hash» .entry)) (now («file_table» .entry))) (now (opens .entry)) (now (work .entry)) inode (beside (changeGives a (tables (now («dir_hash» .entry)) (now («dir_table» .exit)) (now («file_hash» .exit)) (now («file_table» .exit))) (now (opens .exit))) (now (work .exit)))) ⌝ }
 {
-    let answer = fs_changes::delete_file(
+    let answer = tree::change::delete_file(
         dir_hash,
         dir_table,
         file_hash,

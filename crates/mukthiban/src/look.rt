@@ -1,8 +1,8 @@
 // The calls that look at the entry tables, and those that touch open counts and carried bytes alone.
 ghost use Rattle.order.specs.Beside.{beside};
-ghost use Rattle.fs_meta.specs.Tables.{tables, dirs, files};
-ghost use Rattle.fs_meta.specs.Calls.{lookupGives, listGives, statGives, shownGives, carryGives, openingGives};
-ghost use Rattle.fs_meta.specs.Public.{LookupPromise, ListPromise, StatPromise, CarriedDirPromise, CarriedFilePromise, SetCarriedDirPromise, SetCarriedFilePromise, OpenDirPromise, OpenFilePromise, CloseDirPromise, CloseFilePromise};
+ghost use Rattle.tree_promises.specs.Tables.{tables, dirs, files};
+ghost use Rattle.tree_promises.specs.Calls.{lookupGives, listGives, statGives, shownGives, carryGives, openingGives};
+ghost use Rattle.tree_promises.specs.Public.{LookupPromise, ListPromise, StatPromise, CarriedDirPromise, CarriedFilePromise, SetCarriedDirPromise, SetCarriedFilePromise, OpenDirPromise, OpenFilePromise, CloseDirPromise, CloseFilePromise};
 ghost use Rattle.mukthiban.specs.Export.{Exported};
 use crate::Found;
 use crate::Listed;
@@ -21,7 +21,7 @@ pub extern "C" fn mukthiban_tree_lookup_dir(
 ) -> Found
     ensures { λ p. ⌜ Exported (p .answer) (λ a. LookupPromise (tables (now («dir_hash» .entry)) (now («dir_table» .entry)) (now («file_hash» .entry)) (now («file_table» .entry))) (dirs (tables (now («dir_hash» .entry)) (now («dir_table» .entry)) (now («file_hash» .entry)) (now («file_table» .entry)))) (now (work .entry)) parent (now (name .entry)) (beside (lookupGives a (p .inode) (p .compared)) (now (work .exit)))) ⌝ }
 {
-    let r = fs_calls::lookup_dir(
+    let r = tree::look::lookup_dir(
         dir_hash,
         dir_table,
         file_hash,
@@ -50,7 +50,7 @@ pub extern "C" fn mukthiban_tree_list_dirs(
 ) -> Listed
     ensures { λ p. ⌜ Exported (p .answer) (λ a. ListPromise (tables (now («dir_hash» .entry)) (now («dir_table» .entry)) (now («file_hash» .entry)) (now («file_table» .entry))) (dirs (tables (now («dir_hash» .entry)) (now («dir_table» .entry)) (now («file_hash» .entry)) (now («file_table» .entry)))) (now (work .entry)) inode (now (list .entry)) (beside (listGives a (p .count) (now (list .exit))) (now (work .exit)))) ⌝ }
 {
-    let r = fs_calls::list_dirs(
+    let r = tree::look::list_dirs(
         dir_hash,
         dir_table,
         file_hash,
@@ -78,7 +78,7 @@ pub extern "C" fn mukthiban_tree_carried_dir(
 ) -> Plain
     ensures { λ p. ⌜ Exported (p .answer) (λ a. CarriedDirPromise (tables (now («dir_hash» .entry)) (now («dir_table» .entry)) (now («file_hash» .entry)) (now («file_table» .entry))) (now (work .entry)) inode (beside (shownGives a (now (carried .exit))) (now (work .exit)))) ⌝ }
 {
-    let r = fs_calls::carried_dir(dir_hash, dir_table, file_hash, file_table, work, inode);
+    let r = tree::carry::carried_dir(dir_hash, dir_table, file_hash, file_table, work, inode);
     let bytes = r.bytes;
     *carried = bytes;
     let answer = r.answer;
@@ -100,7 +100,7 @@ pub extern "C" fn mukthiban_tree_set_carried_dir(
     ensures { λ p. ⌜ Exported (p .answer) (λ a. SetCarriedDirPromise (tables (now («dir_hash» .entry)) (now («dir_table» .entry)) (now («file_hash» .entry)) (now («file_table» .entry))) (now (work .entry)) inode (now (carried .entry)) (beside (carryGives a (tables (now («dir_hash» .entry)) (now («dir_table» .exit)) (now («file_hash» .entry)) (now («file_table» .entry)))) (now (work .exit)))) ⌝ }
 {
     let bytes = *carried;
-    let answer = fs_calls::set_carried_dir(
+    let answer = tree::carry::set_carried_dir(
         dir_hash,
         dir_table,
         file_hash,
@@ -126,7 +126,7 @@ pub extern "C" fn mukthiban_tree_open_dir(
 ) -> Plain
     ensures { λ p. ⌜ Exported (p .answer) (λ a. OpenDirPromise (tables (now («dir_hash» .entry)) (now («dir_table» .entry)) (now («file_hash» .entry)) (now («file_table» .entry))) (now (opens .entry)) (now (work .entry)) inode (beside (openingGives a (now (opens .exit))) (now (work .exit)))) ⌝ }
 {
-    let answer = fs_calls::open_dir(
+    let answer = tree::opens::open_dir(
         dir_hash,
         dir_table,
         file_hash,
@@ -152,7 +152,7 @@ pub extern "C" fn mukthiban_tree_close_dir(
 ) -> Plain
     ensures { λ p. ⌜ Exported (p .answer) (λ a. CloseDirPromise (tables (now («dir_hash» .entry)) (now («dir_table» .entry)) (now («file_hash» .entry)) (now («file_table» .entry))) (now (opens .entry)) (now (work .entry)) inode (beside (openingGives a (now (opens .exit))) (now (work .exit)))) ⌝ }
 {
-    let answer = fs_calls::close_dir(
+    let answer = tree::opens::close_dir(
         dir_hash,
         dir_table,
         file_hash,
@@ -178,7 +178,7 @@ pub extern "C" fn mukthiban_tree_lookup_file(
 ) -> Found
     ensures { λ p. ⌜ Exported (p .answer) (λ a. LookupPromise (tables (now («dir_hash» .entry)) (now («dir_table» .entry)) (now («file_hash» .entry)) (now («file_table» .entry))) (files (tables (now («dir_hash» .entry)) (now («dir_table» .entry)) (now («file_hash» .entry)) (now («file_table» .entry)))) (now (work .entry)) parent (now (name .entry)) (beside (lookupGives a (p .inode) (p .compared)) (now (work .exit)))) ⌝ }
 {
-    let r = fs_calls::lookup_file(
+    let r = tree::look::lookup_file(
         dir_hash,
         dir_table,
         file_hash,
@@ -207,7 +207,7 @@ pub extern "C" fn mukthiban_tree_list_files(
 ) -> Listed
     ensures { λ p. ⌜ Exported (p .answer) (λ a. ListPromise (tables (now («dir_hash» .entry)) (now («dir_table» .entry)) (now («file_hash» .entry)) (now («file_table» .entry))) (files (tables (now («dir_hash» .entry)) (now («dir_table» .entry)) (now («file_hash» .entry)) (now («file_table» .entry)))) (now (work .entry)) inode (now (list .entry)) (beside (listGives a (p .count) (now (list .exit))) (now (work .exit)))) ⌝ }
 {
-    let r = fs_calls::list_files(
+    let r = tree::look::list_files(
         dir_hash,
         dir_table,
         file_hash,
@@ -235,7 +235,7 @@ pub extern "C" fn mukthiban_tree_carried_file(
 ) -> Plain
     ensures { λ p. ⌜ Exported (p .answer) (λ a. CarriedFilePromise (tables (now («dir_hash» .entry)) (now («dir_table» .entry)) (now («file_hash» .entry)) (now («file_table» .entry))) (now (work .entry)) inode (beside (shownGives a (now (carried .exit))) (now (work .exit)))) ⌝ }
 {
-    let r = fs_calls::carried_file(dir_hash, dir_table, file_hash, file_table, work, inode);
+    let r = tree::carry::carried_file(dir_hash, dir_table, file_hash, file_table, work, inode);
     let bytes = r.bytes;
     *carried = bytes;
     let answer = r.answer;
@@ -257,7 +257,7 @@ pub extern "C" fn mukthiban_tree_set_carried_file(
     ensures { λ p. ⌜ Exported (p .answer) (λ a. SetCarriedFilePromise (tables (now («dir_hash» .entry)) (now («dir_table» .entry)) (now («file_hash» .entry)) (now («file_table» .entry))) (now (work .entry)) inode (now (carried .entry)) (beside (carryGives a (tables (now («dir_hash» .entry)) (now («dir_table» .entry)) (now («file_hash» .entry)) (now («file_table» .exit)))) (now (work .exit)))) ⌝ }
 {
     let bytes = *carried;
-    let answer = fs_calls::set_carried_file(
+    let answer = tree::carry::set_carried_file(
         dir_hash,
         dir_table,
         file_hash,
@@ -283,7 +283,7 @@ pub extern "C" fn mukthiban_tree_open_file(
 ) -> Plain
     ensures { λ p. ⌜ Exported (p .answer) (λ a. OpenFilePromise (tables (now («dir_hash» .entry)) (now («dir_table» .entry)) (now («file_hash» .entry)) (now («file_table» .entry))) (now (opens .entry)) (now (work .entry)) inode (beside (openingGives a (now (opens .exit))) (now (work .exit)))) ⌝ }
 {
-    let answer = fs_calls::open_file(
+    let answer = tree::opens::open_file(
         dir_hash,
         dir_table,
         file_hash,
@@ -309,7 +309,7 @@ pub extern "C" fn mukthiban_tree_close_file(
 ) -> Plain
     ensures { λ p. ⌜ Exported (p .answer) (λ a. CloseFilePromise (tables (now («dir_hash» .entry)) (now («dir_table» .entry)) (now («file_hash» .entry)) (now («file_table» .entry))) (now (opens .entry)) (now (work .entry)) inode (beside (openingGives a (now (opens .exit))) (now (work .exit)))) ⌝ }
 {
-    let answer = fs_calls::close_file(
+    let answer = tree::opens::close_file(
         dir_hash,
         dir_table,
         file_hash,
@@ -333,7 +333,7 @@ pub extern "C" fn mukthiban_tree_stat(
 ) -> Stat
     ensures { λ p. ⌜ Exported (p .answer) (λ a. StatPromise (tables (now («dir_hash» .entry)) (now («dir_table» .entry)) (now («file_hash» .entry)) (now («file_table» .entry))) (now (work .entry)) (beside (statGives a (p .«dir_total») (p .«dir_free») (p .«file_total») (p .«file_free»)) (now (work .exit)))) ⌝ }
 {
-    let r = fs_calls::stat(dir_hash, dir_table, file_hash, file_table, work);
+    let r = tree::look::stat(dir_hash, dir_table, file_hash, file_table, work);
     let answer = r.answer;
     Stat {
         answer: order::number(answer),

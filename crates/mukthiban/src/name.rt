@@ -6,15 +6,15 @@ ghost use Rattle.order.specs.Answer.{numberOf};
 ghost use Rattle.order.specs.First.{First, row};
 ghost use Rattle.order.specs.Beside.{beside};
 ghost use Rattle.order.specs.declared.Answer.the-variants.{Done, NotFound, SizeMismatch, InvalidValue};
-ghost use Rattle.meta_tree.specs.Sizes.{Misfit};
-ghost use Rattle.fs_meta.specs.Tables.{tables};
-ghost use Rattle.fs_meta.specs.Ready.{Ready, Single, LiveAt};
+ghost use Rattle.tree_sound.specs.Sizes.{Misfit};
+ghost use Rattle.tree_promises.specs.Tables.{tables};
+ghost use Rattle.tree_promises.specs.Ready.{Ready, Single, LiveAt};
 ghost use Rattle.mukthiban.specs.Name.{namedGives, placed, nameRows, nameDone, NamePromise};
 ghost use Rattle.mukthiban.specs.Export.{Exported};
 use crate::Named;
-use fs_meta::Kind;
-use meta_key::SaveExtDirEntry;
-use meta_key::SaveExtFileEntry;
+use tree_promises::Kind;
+use tree_key::SaveExtDirEntry;
+use tree_key::SaveExtFileEntry;
 use order::Answer;
 
 // Where the name stands in an entry: behind the parent's four bytes.
@@ -42,7 +42,7 @@ fn other_kind(dir_hash: &[u8], dir_table: &[u8], file_hash: &[u8], file_table: &
     ensures { λ r. ⌜ First (row (Misfit (now («dir_hash» .entry)) (now («dir_table» .entry)) (now («file_hash» .entry)) (now («file_table» .entry))) SizeMismatch ∷ []) InvalidValue r ⌝ }
 {
     let mut work = [0u32; 1];
-    let r = meta_test::test(dir_hash, dir_table, file_hash, file_table, &mut work);
+    let r = tree_test::test(dir_hash, dir_table, file_hash, file_table, &mut work);
     let answer = r.answer;
     let number = order::number(answer);
     if number == 1 {
@@ -64,7 +64,7 @@ pub extern "C" fn mukthiban_tree_name(
     ensures { λ p. ⌜ Exported (p .answer) (λ a. NamePromise (tables (now («dir_hash» .entry)) (now («dir_table» .entry)) (now («file_hash» .entry)) (now («file_table» .entry))) (now (work .entry)) kind inode (beside (namedGives a (p .offset)) (now (work .exit)))) ⌝ }
 {
     if kind == 0 {
-        let r = fs_name::name_answer(
+        let r = tree::name::name_answer(
             dir_hash,
             dir_table,
             file_hash,
@@ -77,7 +77,7 @@ pub extern "C" fn mukthiban_tree_name(
         return named(answer, inode as usize * SaveExtDirEntry::WIDTH + NAME);
     }
     if kind == 1 {
-        let r = fs_name::name_answer(
+        let r = tree::name::name_answer(
             dir_hash,
             dir_table,
             file_hash,
@@ -98,7 +98,7 @@ fn name_in(hash: &[u8], table: &[u8], w: usize, x: u32, at: usize) -> Named
     requires { ⌜ Single (now hash) (now table) w ⌝ }
     ensures { λ p. ⌜ Exported (p .answer) (λ a. First (row (LiveAt w (now (table .entry)) x → ⊥) (namedGives NotFound 0) ∷ []) (namedGives Done at) (namedGives a (p .offset))) ⌝ }
 {
-    if !fs_meta::look::live(hash, table, w, x) {
+    if !tree_inner::look::live(hash, table, w, x) {
         return named(Answer::NotFound, 0);
     }
     named(Answer::Done, at)

@@ -1,9 +1,9 @@
 // The inner calls on the block table, for a side that has tested its table once and keeps it sound. Each requires what the test tells, and tests nothing.
 ghost use lib.ListN.{length};
 ghost use Rattle.order.specs.First.{First};
-ghost use Rattle.fat.specs.Inner.{Volume};
-ghost use Rattle.fat_data.specs.Stretches.{Data};
-ghost use Rattle.fat.specs.Calls.{createRows, createDone, createGives, resizeRows, resizeDone, deleteRows, deleteDone, changeGives, listRows, listDone, listGives, carryRows, readDone, writeDone, carryGives};
+ghost use Rattle.fat_inner.specs.Inner.{Volume};
+ghost use Rattle.fat_inner.specs.Stretches.{Data};
+ghost use Rattle.fat_promises.specs.Calls.{createRows, createDone, createGives, resizeRows, resizeDone, deleteRows, deleteDone, changeGives, listRows, listDone, listGives, carryRows, readDone, writeDone, carryGives};
 ghost use Rattle.mukthiban.specs.Export.{Exported};
 use crate::Created;
 use crate::Listed;
@@ -18,7 +18,7 @@ pub extern "C" fn mukthiban_tested_fat_create(
     requires { ⌜ Volume n (now table) ⌝ }
     ensures { λ p. ⌜ Exported (p .answer) (λ a. First (createRows n (now (table .entry)) «block_count») (createDone n (now (table .entry)) «block_count») (createGives a (p .«first_block») (now (table .exit)))) ⌝ }
 {
-    let r = fat::create_sound(table, n, block_count);
+    let r = fat_inner::step::create_sound(table, n, block_count);
     let answer = r.answer;
     Created {
         answer: order::number(answer),
@@ -36,7 +36,7 @@ pub extern "C" fn mukthiban_tested_fat_resize(
     requires { ⌜ Volume n (now table) ⌝ }
     ensures { λ p. ⌜ Exported (p .answer) (λ a. First (resizeRows n (now (table .entry)) «first_block» «block_count») (resizeDone n (now (table .entry)) «first_block» «block_count») (changeGives a (now (table .exit)))) ⌝ }
 {
-    let r = fat::resize_sound(table, n, first_block, block_count);
+    let r = fat_inner::step::resize_sound(table, n, first_block, block_count);
     let answer = r.answer;
     Plain {
         answer: order::number(answer),
@@ -52,7 +52,7 @@ pub extern "C" fn mukthiban_tested_fat_delete(
     requires { ⌜ Volume n (now table) ⌝ }
     ensures { λ p. ⌜ Exported (p .answer) (λ a. First (deleteRows n (now (table .entry)) «first_block») (deleteDone n (now (table .entry)) «first_block») (changeGives a (now (table .exit)))) ⌝ }
 {
-    let r = fat::delete_sound(table, n, first_block);
+    let r = fat_inner::step::delete_sound(table, n, first_block);
     let answer = r.answer;
     Plain {
         answer: order::number(answer),
@@ -69,7 +69,7 @@ pub extern "C" fn mukthiban_tested_fat_open_list(
     requires { ⌜ Volume n (now table) ⌝ }
     ensures { λ p. ⌜ Exported (p .answer) (λ a. First (listRows n (now (table .entry)) «first_block» (now (list .entry))) (listDone n (now (table .entry)) «first_block» (now (list .entry))) (listGives a (p .count) (now (list .exit)))) ⌝ }
 {
-    let r = fat::open_list_sound(table, n, first_block, list);
+    let r = fat_inner::list::open_list_sound(table, n, first_block, list);
     let answer = r.answer;
     Listed {
         answer: order::number(answer),
@@ -91,7 +91,7 @@ pub extern "C" fn mukthiban_tested_fat_read(
     requires { ⌜ Data n (length (now «data»)) «block_len» ⌝ }
     ensures { λ p. ⌜ Exported (p .answer) (λ a. First (carryRows n (now (table .entry)) «block_len» «first_block» pos (length (now (buf .entry))) (now (buf .entry))) (readDone n (now (table .entry)) (now («data» .entry)) «block_len» «first_block» pos (now (buf .entry))) (carryGives a (now (buf .exit)))) ⌝ }
 {
-    let r = fat_data::read_sound(table, data, block_len, n, first_block, pos, buf);
+    let r = fat_inner::copy::read_sound(table, data, block_len, n, first_block, pos, buf);
     let answer = r.answer;
     Plain {
         answer: order::number(answer),
@@ -112,7 +112,7 @@ pub extern "C" fn mukthiban_tested_fat_write(
     requires { ⌜ Data n (length (now «data»)) «block_len» ⌝ }
     ensures { λ p. ⌜ Exported (p .answer) (λ a. First (carryRows n (now (table .entry)) «block_len» «first_block» pos (length (now (buf .entry))) (now («data» .entry))) (writeDone n (now (table .entry)) (now («data» .entry)) «block_len» «first_block» pos (now (buf .entry))) (carryGives a (now («data» .exit)))) ⌝ }
 {
-    let r = fat_data::write_sound(table, data, block_len, n, first_block, pos, buf);
+    let r = fat_inner::copy::write_sound(table, data, block_len, n, first_block, pos, buf);
     let answer = r.answer;
     Plain {
         answer: order::number(answer),

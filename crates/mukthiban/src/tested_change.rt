@@ -3,10 +3,10 @@
 ghost use Prim.Native.Nat.{_/_, _≤_};
 ghost use lib.ListN.{length};
 ghost use Rattle.order.specs.First.{First};
-ghost use Rattle.meta_key.specs.Key.{nameKey};
-ghost use Rattle.fs_meta.specs.Ready.{Ready};
-ghost use Rattle.fs_meta.specs.Tables.{tables, dirs, files};
-ghost use Rattle.fs_meta.specs.Calls.{makeRows, makeDirDone, makeFileDone, makeGives, changeGives, deleteFileRows, deleteFileDone, deleteDirRows, deleteDirDone, renameFileRows, renameFileDone, renameDirRows, renameDirDone};
+ghost use Rattle.tree_key.specs.Key.{nameKey};
+ghost use Rattle.tree_promises.specs.Ready.{Ready};
+ghost use Rattle.tree_promises.specs.Tables.{tables, dirs, files};
+ghost use Rattle.tree_promises.specs.Calls.{makeRows, makeDirDone, makeFileDone, makeGives, changeGives, deleteFileRows, deleteFileDone, deleteDirRows, deleteDirDone, renameFileRows, renameFileDone, renameDirRows, renameDirDone};
 ghost use Rattle.mukthiban.specs.Export.{Exported};
 use crate::Made;
 use crate::Plain;
@@ -25,7 +25,7 @@ pub extern "C" fn mukthiban_tested_tree_make_dir(
     requires { ⌜ Ready (tables (now «dir_hash») (now «dir_table») (now «file_hash») (now «file_table»)) × (length (now «dir_table») / 40 ≤ length (now opens)) ⌝ }
     ensures { λ p. ⌜ Exported (p .answer) (λ a. First (makeRows (tables (now («dir_hash» .entry)) (now («dir_table» .entry)) (now («file_hash» .entry)) (now («file_table» .entry))) (dirs (tables (now («dir_hash» .entry)) (now («dir_table» .entry)) (now («file_hash» .entry)) (now («file_table» .entry)))) (now (opens .entry)) parent (nameKey parent (now (name .entry)))) (makeDirDone (tables (now («dir_hash» .entry)) (now («dir_table» .entry)) (now («file_hash» .entry)) (now («file_table» .entry))) (now (opens .entry)) parent (now (name .entry)) (now (carried .entry))) (makeGives a (p .inode) (tables (now («dir_hash» .exit)) (now («dir_table» .exit)) (now («file_hash» .entry)) (now («file_table» .entry))) (now (opens .exit)))) ⌝ }
 {
-    let r = fs_step::make::make_dir(
+    let r = tree_inner::make::make_dir(
         dir_hash,
         dir_table,
         file_hash,
@@ -56,7 +56,7 @@ pub extern "C" fn mukthiban_tested_tree_make_file(
     requires { ⌜ Ready (tables (now «dir_hash») (now «dir_table») (now «file_hash») (now «file_table»)) × (length (now «file_table») / 48 ≤ length (now opens)) ⌝ }
     ensures { λ p. ⌜ Exported (p .answer) (λ a. First (makeRows (tables (now («dir_hash» .entry)) (now («dir_table» .entry)) (now («file_hash» .entry)) (now («file_table» .entry))) (files (tables (now («dir_hash» .entry)) (now («dir_table» .entry)) (now («file_hash» .entry)) (now («file_table» .entry)))) (now (opens .entry)) parent (nameKey parent (now (name .entry)))) (makeFileDone (tables (now («dir_hash» .entry)) (now («dir_table» .entry)) (now («file_hash» .entry)) (now («file_table» .entry))) (now (opens .entry)) parent (now (name .entry)) (now (carried .entry))) (makeGives a (p .inode) (tables (now («dir_hash» .entry)) (now («dir_table» .exit)) (now («file_hash» .exit)) (now («file_table» .exit))) (now (opens .exit)))) ⌝ }
 {
-    let r = fs_step::make::make_file(
+    let r = tree_inner::make::make_file(
         dir_hash,
         dir_table,
         file_hash,
@@ -87,7 +87,7 @@ pub extern "C" fn mukthiban_tested_tree_rename_dir(
     requires { ⌜ Ready (tables (now «dir_hash») (now «dir_table») (now «file_hash») (now «file_table»)) × (length (now «dir_table») / 40 ≤ length (now opens)) ⌝ }
     ensures { λ p. ⌜ Exported (p .answer) (λ a. First (renameDirRows (tables (now («dir_hash» .entry)) (now («dir_table» .entry)) (now («file_hash» .entry)) (now («file_table» .entry))) (now (opens .entry)) inode parent (now (name .entry))) (renameDirDone (tables (now («dir_hash» .entry)) (now («dir_table» .entry)) (now («file_hash» .entry)) (now («file_table» .entry))) (now (opens .entry)) inode parent (now (name .entry))) (changeGives a (tables (now («dir_hash» .exit)) (now («dir_table» .exit)) (now («file_hash» .entry)) (now («file_table» .entry))) (now (opens .entry)))) ⌝ }
 {
-    let answer = fs_step::change::rename_dir(
+    let answer = tree_inner::change::rename_dir(
         dir_hash,
         dir_table,
         file_hash,
@@ -116,7 +116,7 @@ pub extern "C" fn mukthiban_tested_tree_rename_file(
     requires { ⌜ Ready (tables (now «dir_hash») (now «dir_table») (now «file_hash») (now «file_table»)) × (length (now «file_table») / 48 ≤ length (now opens)) ⌝ }
     ensures { λ p. ⌜ Exported (p .answer) (λ a. First (renameFileRows (tables (now («dir_hash» .entry)) (now («dir_table» .entry)) (now («file_hash» .entry)) (now («file_table» .entry))) (now (opens .entry)) inode parent (now (name .entry))) (renameFileDone (tables (now («dir_hash» .entry)) (now («dir_table» .entry)) (now («file_hash» .entry)) (now («file_table» .entry))) (now (opens .entry)) inode parent (now (name .entry))) (changeGives a (tables (now («dir_hash» .entry)) (now («dir_table» .exit)) (now («file_hash» .exit)) (now («file_table» .exit))) (now (opens .entry)))) ⌝ }
 {
-    let answer = fs_step::change::rename_file(
+    let answer = tree_inner::change::rename_file(
         dir_hash,
         dir_table,
         file_hash,
@@ -143,7 +143,7 @@ pub extern "C" fn mukthiban_tested_tree_delete_dir(
     requires { ⌜ Ready (tables (now «dir_hash») (now «dir_table») (now «file_hash») (now «file_table»)) × (length (now «dir_table») / 40 ≤ length (now opens)) ⌝ }
     ensures { λ p. ⌜ Exported (p .answer) (λ a. First (deleteDirRows (tables (now («dir_hash» .entry)) (now («dir_table» .entry)) (now («file_hash» .entry)) (now («file_table» .entry))) (now (opens .entry)) inode) (deleteDirDone (tables (now («dir_hash» .entry)) (now («dir_table» .entry)) (now («file_hash» .entry)) (now («file_table» .entry))) (now (opens .entry)) inode) (changeGives a (tables (now («dir_hash» .exit)) (now («dir_table» .exit)) (now («file_hash» .entry)) (now («file_table» .entry))) (now (opens .exit)))) ⌝ }
 {
-    let answer = fs_step::change::delete_dir(
+    let answer = tree_inner::change::delete_dir(
         dir_hash,
         dir_table,
         file_hash,
@@ -168,7 +168,7 @@ pub extern "C" fn mukthiban_tested_tree_delete_file(
     requires { ⌜ Ready (tables (now «dir_hash») (now «dir_table») (now «file_hash») (now «file_table»)) × (length (now «file_table») / 48 ≤ length (now opens)) ⌝ }
     ensures { λ p. ⌜ Exported (p .answer) (λ a. First (deleteFileRows (tables (now («dir_hash» .entry)) (now («dir_table» .entry)) (now («file_hash» .entry)) (now («file_table» .entry))) (now (opens .entry)) inode) (deleteFileDone (tables (now («dir_hash» .entry)) (now («dir_table» .entry)) (now («file_hash» .entry)) (now («file_table» .entry))) (now (opens .entry)) inode) (changeGives a (tables (now («dir_hash» .entry)) (now («dir_table» .exit)) (now («file_hash» .exit)) (now («file_table» .exit))) (now (opens .exit)))) ⌝ }
 {
-    let answer = fs_step::change::delete_file(
+    let answer = tree_inner::change::delete_file(
         dir_hash,
         dir_table,
         file_hash,

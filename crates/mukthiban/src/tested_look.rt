@@ -2,17 +2,17 @@
 // tests nothing.
 ghost use mathlib.Core.Path.{_≡_};
 ghost use Rattle.order.specs.First.{First};
-ghost use Rattle.meta_key.specs.Key.{nameKey};
-ghost use Rattle.fs_meta.specs.Ready.{Ready};
-ghost use Rattle.fs_meta.specs.Tables.{tables, dirs, files};
-ghost use Rattle.fs_meta.specs.Calls.{lookupRows, lookupDone, lookupGives, ListDirs, ListFiles, listGives, statGives, statDone};
+ghost use Rattle.tree_key.specs.Key.{nameKey};
+ghost use Rattle.tree_promises.specs.Ready.{Ready};
+ghost use Rattle.tree_promises.specs.Tables.{tables, dirs, files};
+ghost use Rattle.tree_promises.specs.Calls.{lookupRows, lookupDone, lookupGives, ListDirs, ListFiles, listGives, statGives, statDone};
 ghost use Rattle.mukthiban.specs.Export.{Exported};
 use crate::Found;
 use crate::Listed;
 use crate::Stat;
-use meta_key::SaveExtDirEntry;
-use meta_key::SaveExtFileEntry;
-use meta_key::SaveExtKey;
+use tree_key::SaveExtDirEntry;
+use tree_key::SaveExtFileEntry;
+use tree_key::SaveExtKey;
 
 #[no_mangle]
 pub extern "C" fn mukthiban_tested_tree_lookup_dir(
@@ -27,7 +27,7 @@ pub extern "C" fn mukthiban_tested_tree_lookup_dir(
     ensures { λ p. ⌜ Exported (p .answer) (λ a. First (lookupRows (dirs (tables (now («dir_hash» .entry)) (now («dir_table» .entry)) (now («file_hash» .entry)) (now («file_table» .entry)))) (nameKey parent (now (name .entry)))) (lookupDone (dirs (tables (now («dir_hash» .entry)) (now («dir_table» .entry)) (now («file_hash» .entry)) (now («file_table» .entry)))) (nameKey parent (now (name .entry)))) (lookupGives a (p .inode) (p .compared))) ⌝ }
 {
     let key = SaveExtKey::new(parent, name);
-    let r = fs_meta::look::lookup(dir_hash, dir_table, SaveExtDirEntry::WIDTH, key);
+    let r = tree_inner::look::lookup(dir_hash, dir_table, SaveExtDirEntry::WIDTH, key);
     let answer = r.answer;
     Found {
         answer: order::number(answer),
@@ -49,7 +49,7 @@ pub extern "C" fn mukthiban_tested_tree_lookup_file(
     ensures { λ p. ⌜ Exported (p .answer) (λ a. First (lookupRows (files (tables (now («dir_hash» .entry)) (now («dir_table» .entry)) (now («file_hash» .entry)) (now («file_table» .entry)))) (nameKey parent (now (name .entry)))) (lookupDone (files (tables (now («dir_hash» .entry)) (now («dir_table» .entry)) (now («file_hash» .entry)) (now («file_table» .entry)))) (nameKey parent (now (name .entry)))) (lookupGives a (p .inode) (p .compared))) ⌝ }
 {
     let key = SaveExtKey::new(parent, name);
-    let r = fs_meta::look::lookup(file_hash, file_table, SaveExtFileEntry::WIDTH, key);
+    let r = tree_inner::look::lookup(file_hash, file_table, SaveExtFileEntry::WIDTH, key);
     let answer = r.answer;
     Found {
         answer: order::number(answer),
@@ -70,7 +70,7 @@ pub extern "C" fn mukthiban_tested_tree_list_dirs(
     requires { ⌜ Ready (tables (now «dir_hash») (now «dir_table») (now «file_hash») (now «file_table»)) ⌝ }
     ensures { λ p. ⌜ Exported (p .answer) (λ a. ListDirs (tables (now («dir_hash» .entry)) (now («dir_table» .entry)) (now («file_hash» .entry)) (now («file_table» .entry))) inode (now (list .entry)) (listGives a (p .count) (now (list .exit)))) ⌝ }
 {
-    let r = fs_meta::look::list_dirs(dir_hash, dir_table, file_hash, file_table, inode, list);
+    let r = tree_inner::look::list_dirs(dir_hash, dir_table, file_hash, file_table, inode, list);
     let answer = r.answer;
     Listed {
         answer: order::number(answer),
@@ -90,7 +90,7 @@ pub extern "C" fn mukthiban_tested_tree_list_files(
     requires { ⌜ Ready (tables (now «dir_hash») (now «dir_table») (now «file_hash») (now «file_table»)) ⌝ }
     ensures { λ p. ⌜ Exported (p .answer) (λ a. ListFiles (tables (now («dir_hash» .entry)) (now («dir_table» .entry)) (now («file_hash» .entry)) (now («file_table» .entry))) inode (now (list .entry)) (listGives a (p .count) (now (list .exit)))) ⌝ }
 {
-    let r = fs_meta::look::list_files(dir_hash, dir_table, file_hash, file_table, inode, list);
+    let r = tree_inner::look::list_files(dir_hash, dir_table, file_hash, file_table, inode, list);
     let answer = r.answer;
     Listed {
         answer: order::number(answer),
@@ -108,7 +108,7 @@ pub extern "C" fn mukthiban_tested_tree_stat(
     requires { ⌜ Ready (tables (now «dir_hash») (now «dir_table») (now «file_hash») (now «file_table»)) ⌝ }
     ensures { λ p. ⌜ Exported (p .answer) (λ a. (statGives a (p .«dir_total») (p .«dir_free») (p .«file_total») (p .«file_free») ≡ statDone (tables (now («dir_hash» .entry)) (now («dir_table» .entry)) (now («file_hash» .entry)) (now («file_table» .entry))))) ⌝ }
 {
-    let r = fs_meta::look::stat(dir_hash, dir_table, file_hash, file_table);
+    let r = tree_inner::look::stat(dir_hash, dir_table, file_hash, file_table);
     let answer = r.answer;
     Stat {
         answer: order::number(answer),

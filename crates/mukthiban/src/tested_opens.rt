@@ -2,14 +2,14 @@
 ghost use Prim.Native.Nat.{_≤_};
 ghost use lib.ListN.{length};
 ghost use Rattle.order.specs.First.{First};
-ghost use Rattle.meta_tree.specs.Sizes.{dirRoom, fileRoom};
-ghost use Rattle.fs_meta.specs.Ready.{Ready};
-ghost use Rattle.fs_meta.specs.Tables.{tables, dirs, files};
-ghost use Rattle.fs_meta.specs.Calls.{openRows, openDone, closeRows, closeDone, openingGives};
+ghost use Rattle.tree_sound.specs.Sizes.{dirRoom, fileRoom};
+ghost use Rattle.tree_promises.specs.Ready.{Ready};
+ghost use Rattle.tree_promises.specs.Tables.{tables, dirs, files};
+ghost use Rattle.tree_promises.specs.Calls.{openRows, openDone, closeRows, closeDone, openingGives};
 ghost use Rattle.mukthiban.specs.Export.{Exported};
 use crate::Plain;
-use meta_key::SaveExtDirEntry;
-use meta_key::SaveExtFileEntry;
+use tree_key::SaveExtDirEntry;
+use tree_key::SaveExtFileEntry;
 
 #[no_mangle]
 pub extern "C" fn mukthiban_tested_tree_open_dir(
@@ -24,7 +24,7 @@ pub extern "C" fn mukthiban_tested_tree_open_dir(
     requires { ⌜ dirRoom (now «dir_table») ≤ length (now opens) ⌝ }
     ensures { λ p. ⌜ Exported (p .answer) (λ a. First (openRows (dirs (tables (now («dir_hash» .entry)) (now («dir_table» .entry)) (now («file_hash» .entry)) (now («file_table» .entry)))) (now (opens .entry)) inode) (openDone (now (opens .entry)) inode) (openingGives a (now (opens .exit)))) ⌝ }
 {
-    let answer = fs_meta::look::open(dir_hash, dir_table, SaveExtDirEntry::WIDTH, opens, inode);
+    let answer = tree_inner::look::open(dir_hash, dir_table, SaveExtDirEntry::WIDTH, opens, inode);
     Plain {
         answer: order::number(answer),
     }
@@ -43,7 +43,7 @@ pub extern "C" fn mukthiban_tested_tree_open_file(
     requires { ⌜ fileRoom (now «file_table») ≤ length (now opens) ⌝ }
     ensures { λ p. ⌜ Exported (p .answer) (λ a. First (openRows (files (tables (now («dir_hash» .entry)) (now («dir_table» .entry)) (now («file_hash» .entry)) (now («file_table» .entry)))) (now (opens .entry)) inode) (openDone (now (opens .entry)) inode) (openingGives a (now (opens .exit)))) ⌝ }
 {
-    let answer = fs_meta::look::open(file_hash, file_table, SaveExtFileEntry::WIDTH, opens, inode);
+    let answer = tree_inner::look::open(file_hash, file_table, SaveExtFileEntry::WIDTH, opens, inode);
     Plain {
         answer: order::number(answer),
     }
@@ -62,7 +62,7 @@ pub extern "C" fn mukthiban_tested_tree_close_dir(
     requires { ⌜ dirRoom (now «dir_table») ≤ length (now opens) ⌝ }
     ensures { λ p. ⌜ Exported (p .answer) (λ a. First (closeRows (dirs (tables (now («dir_hash» .entry)) (now («dir_table» .entry)) (now («file_hash» .entry)) (now («file_table» .entry)))) (now (opens .entry)) inode) (closeDone (now (opens .entry)) inode) (openingGives a (now (opens .exit)))) ⌝ }
 {
-    let answer = fs_meta::look::close(dir_hash, dir_table, SaveExtDirEntry::WIDTH, opens, inode);
+    let answer = tree_inner::look::close(dir_hash, dir_table, SaveExtDirEntry::WIDTH, opens, inode);
     Plain {
         answer: order::number(answer),
     }
@@ -81,7 +81,7 @@ pub extern "C" fn mukthiban_tested_tree_close_file(
     requires { ⌜ fileRoom (now «file_table») ≤ length (now opens) ⌝ }
     ensures { λ p. ⌜ Exported (p .answer) (λ a. First (closeRows (files (tables (now («dir_hash» .entry)) (now («dir_table» .entry)) (now («file_hash» .entry)) (now («file_table» .entry)))) (now (opens .entry)) inode) (closeDone (now (opens .entry)) inode) (openingGives a (now (opens .exit)))) ⌝ }
 {
-    let answer = fs_meta::look::close(file_hash, file_table, SaveExtFileEntry::WIDTH, opens, inode);
+    let answer = tree_inner::look::close(file_hash, file_table, SaveExtFileEntry::WIDTH, opens, inode);
     Plain {
         answer: order::number(answer),
     }

@@ -1,10 +1,10 @@
 // The calls on the entry tables.
 ghost use Rattle.order.specs.First.{First};
-ghost use Rattle.meta_test.specs.Gate.{treeGate};
-ghost use Rattle.meta_test.specs.Promise.{tested, testDone};
-ghost use Rattle.fs_meta.specs.Tables.{tables};
-ghost use Rattle.fs_meta.specs.Calls.{carryGives};
-ghost use Rattle.fs_meta.specs.Format.{FormatPromise};
+ghost use Rattle.tree_test.specs.Gate.{treeGate};
+ghost use Rattle.tree_test.specs.Promise.{tested, testDone};
+ghost use Rattle.tree_promises.specs.Tables.{tables};
+ghost use Rattle.tree_promises.specs.Calls.{carryGives};
+ghost use Rattle.tree_promises.specs.Format.{FormatPromise};
 ghost use Rattle.mukthiban.specs.Export.{Exported};
 use crate::Plain;
 
@@ -19,7 +19,7 @@ pub extern "C" fn mukthiban_tree_format(
 ) -> Plain
     ensures { λ p. ⌜ Exported (p .answer) (λ a. FormatPromise (tables (now («dir_hash» .entry)) (now («dir_table» .entry)) (now («file_hash» .entry)) (now («file_table» .entry))) «dir_max» «file_max» (carryGives a (tables (now («dir_hash» .exit)) (now («dir_table» .exit)) (now («file_hash» .exit)) (now («file_table» .exit))))) ⌝ }
 {
-    let answer = fs_format::format(
+    let answer = tree::format::format(
         dir_hash,
         dir_table,
         dir_max,
@@ -42,7 +42,7 @@ pub extern "C" fn mukthiban_tree_test(
 ) -> Plain
     ensures { λ p. ⌜ Exported (p .answer) (λ a. First (treeGate tested (now («dir_hash» .entry)) (now («dir_table» .entry)) (now («file_hash» .entry)) (now («file_table» .entry)) (now (work .entry))) (testDone (now («dir_table» .entry)) (now («file_table» .entry)) (now (work .entry))) (tested a (now (work .exit)))) ⌝ }
 {
-    let r = meta_test::test(dir_hash, dir_table, file_hash, file_table, work);
+    let r = tree_test::test(dir_hash, dir_table, file_hash, file_table, work);
     let answer = r.answer;
     Plain {
         answer: order::number(answer),

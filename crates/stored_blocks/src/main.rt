@@ -61,7 +61,7 @@ fn read(table: &[u8], data: &[u8], work: &mut [u32], buf: &mut [u8], kept: &[u8]
     let first = stored::wide_size(kept, 8);
     let pos = stored::wide_size(kept, 16);
     let block_len = stored::wide_size(kept, 24);
-    let r = fat_data::read(table, data, block_len, work, first, pos, buf);
+    let r = fat::read(table, data, block_len, work, first, pos, buf);
     let answer = r.answer;
     stored::answers(kept, order::number(answer), 0, 0)
 }
@@ -72,7 +72,7 @@ fn write(table: &[u8], data: &mut [u8], work: &mut [u32], buf: &[u8], kept: &[u8
     let first = stored::wide_size(kept, 8);
     let pos = stored::wide_size(kept, 16);
     let block_len = stored::wide_size(kept, 24);
-    let r = fat_data::write(table, data, block_len, work, first, pos, buf);
+    let r = fat::write(table, data, block_len, work, first, pos, buf);
     let answer = r.answer;
     stored::answers(kept, order::number(answer), 0, 0)
 }

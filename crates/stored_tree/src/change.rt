@@ -13,7 +13,7 @@ pub fn format(
 {
     let dir_max = stored::wide_size(kept, 56);
     let file_max = stored::wide_size(kept, 64);
-    let answer = fs_format::format(
+    let answer = tree::format::format(
         dir_hash,
         dir_table,
         dir_max,
@@ -38,7 +38,7 @@ pub fn make_dir(
     let parent = crate::read::parent(kept);
     let name = crate::read::name(kept);
     let padding = crate::read::padding(kept);
-    let r = fs_changes::make_dir(
+    let r = tree::change::make_dir(
         dir_hash,
         dir_table,
         file_hash,
@@ -68,7 +68,7 @@ pub fn rename_dir(
     let inode = crate::read::inode(kept);
     let parent = crate::read::parent(kept);
     let name = crate::read::name(kept);
-    let answer = fs_changes::rename_dir(
+    let answer = tree::change::rename_dir(
         dir_hash,
         dir_table,
         file_hash,
@@ -94,7 +94,7 @@ pub fn delete_dir(
     requires { ⌜ length (now kept) ≡ 1456 ⌝ }
 {
     let inode = crate::read::inode(kept);
-    let answer = fs_changes::delete_dir(
+    let answer = tree::change::delete_dir(
         dir_hash,
         dir_table,
         file_hash,
@@ -118,7 +118,7 @@ pub fn set_carried_dir(
 {
     let inode = crate::read::inode(kept);
     let padding = crate::read::padding(kept);
-    let answer = fs_calls::set_carried_dir(
+    let answer = tree::carry::set_carried_dir(
         dir_hash,
         dir_table,
         file_hash,
@@ -142,7 +142,7 @@ pub fn open_dir(
     requires { ⌜ length (now kept) ≡ 1456 ⌝ }
 {
     let inode = crate::read::inode(kept);
-    let answer = fs_calls::open_dir(
+    let answer = tree::opens::open_dir(
         dir_hash,
         dir_table,
         file_hash,
@@ -166,7 +166,7 @@ pub fn close_dir(
     requires { ⌜ length (now kept) ≡ 1456 ⌝ }
 {
     let inode = crate::read::inode(kept);
-    let answer = fs_calls::close_dir(
+    let answer = tree::opens::close_dir(
         dir_hash,
         dir_table,
         file_hash,
@@ -192,7 +192,7 @@ pub fn make_file(
     let parent = crate::read::parent(kept);
     let name = crate::read::name(kept);
     let carried = crate::read::carried(kept);
-    let r = fs_changes::make_file(
+    let r = tree::change::make_file(
         dir_hash,
         dir_table,
         file_hash,
@@ -222,7 +222,7 @@ pub fn rename_file(
     let inode = crate::read::inode(kept);
     let parent = crate::read::parent(kept);
     let name = crate::read::name(kept);
-    let answer = fs_changes::rename_file(
+    let answer = tree::change::rename_file(
         dir_hash,
         dir_table,
         file_hash,
@@ -248,7 +248,7 @@ pub fn delete_file(
     requires { ⌜ length (now kept) ≡ 1456 ⌝ }
 {
     let inode = crate::read::inode(kept);
-    let answer = fs_changes::delete_file(
+    let answer = tree::change::delete_file(
         dir_hash,
         dir_table,
         file_hash,
@@ -272,7 +272,7 @@ pub fn set_carried_file(
 {
     let inode = crate::read::inode(kept);
     let carried = crate::read::carried(kept);
-    let answer = fs_calls::set_carried_file(
+    let answer = tree::carry::set_carried_file(
         dir_hash,
         dir_table,
         file_hash,
@@ -296,7 +296,7 @@ pub fn open_file(
     requires { ⌜ length (now kept) ≡ 1456 ⌝ }
 {
     let inode = crate::read::inode(kept);
-    let answer = fs_calls::open_file(
+    let answer = tree::opens::open_file(
         dir_hash,
         dir_table,
         file_hash,
@@ -320,7 +320,7 @@ pub fn close_file(
     requires { ⌜ length (now kept) ≡ 1456 ⌝ }
 {
     let inode = crate::read::inode(kept);
-    let answer = fs_calls::close_file(
+    let answer = tree::opens::close_file(
         dir_hash,
         dir_table,
         file_hash,

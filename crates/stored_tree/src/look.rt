@@ -1,5 +1,5 @@
 // Replays the tree calls that change no table.
-use fs_meta::Kind;
+use tree_promises::Kind;
 ghost use mathlib.Core.Path.{_≡_};
 ghost use lib.ListN.{length};
 
@@ -13,7 +13,7 @@ pub fn test(
 ) -> bool
     requires { ⌜ length (now kept) ≡ 1456 ⌝ }
 {
-    let r = meta_test::test(dir_hash, dir_table, file_hash, file_table, work);
+    let r = tree_test::test(dir_hash, dir_table, file_hash, file_table, work);
     let answer = r.answer;
     crate::read::number_alone(kept, answer)
 }
@@ -30,7 +30,7 @@ fn lookup_dir(
 {
     let parent = crate::read::parent(kept);
     let name = crate::read::name(kept);
-    let r = fs_calls::lookup_dir(
+    let r = tree::look::lookup_dir(
         dir_hash,
         dir_table,
         file_hash,
@@ -57,7 +57,7 @@ fn lookup_file(
 {
     let parent = crate::read::parent(kept);
     let name = crate::read::name(kept);
-    let r = fs_calls::lookup_file(
+    let r = tree::look::lookup_file(
         dir_hash,
         dir_table,
         file_hash,
@@ -100,7 +100,7 @@ fn list_dirs(
     requires { ⌜ length (now kept) ≡ 1456 ⌝ }
 {
     let inode = crate::read::inode(kept);
-    let r = fs_calls::list_dirs(
+    let r = tree::look::list_dirs(
         dir_hash,
         dir_table,
         file_hash,
@@ -125,7 +125,7 @@ fn list_files(
     requires { ⌜ length (now kept) ≡ 1456 ⌝ }
 {
     let inode = crate::read::inode(kept);
-    let r = fs_calls::list_files(
+    let r = tree::look::list_files(
         dir_hash,
         dir_table,
         file_hash,
@@ -165,7 +165,7 @@ pub fn stat(
 ) -> bool
     requires { ⌜ length (now kept) ≡ 1456 ⌝ }
 {
-    let r = fs_calls::stat(dir_hash, dir_table, file_hash, file_table, work);
+    let r = tree::look::stat(dir_hash, dir_table, file_hash, file_table, work);
     let answer = r.answer;
     crate::read::answers(
         kept,
@@ -188,7 +188,7 @@ fn carried_dir(
     requires { ⌜ length (now kept) ≡ 1456 ⌝ }
 {
     let inode = crate::read::inode(kept);
-    let r = fs_calls::carried_dir(dir_hash, dir_table, file_hash, file_table, work, inode);
+    let r = tree::carry::carried_dir(dir_hash, dir_table, file_hash, file_table, work, inode);
     let answer = r.answer;
     let bytes = r.bytes;
     crate::read::carries(kept, answer, &bytes)
@@ -205,7 +205,7 @@ fn carried_file(
     requires { ⌜ length (now kept) ≡ 1456 ⌝ }
 {
     let inode = crate::read::inode(kept);
-    let r = fs_calls::carried_file(dir_hash, dir_table, file_hash, file_table, work, inode);
+    let r = tree::carry::carried_file(dir_hash, dir_table, file_hash, file_table, work, inode);
     let answer = r.answer;
     let bytes = r.bytes;
     crate::read::carries(kept, answer, &bytes)
@@ -248,7 +248,7 @@ pub fn name_answer(
 {
     let inode = crate::read::inode(kept);
     let kind = kind(kept);
-    let r = fs_name::name_answer(
+    let r = tree::name::name_answer(
         dir_hash,
         dir_table,
         file_hash,
@@ -291,7 +291,7 @@ pub fn name<'a>(
 {
     let inode = crate::read::inode(kept);
     let kind = kind(kept);
-    let part = fs_name::name(
+    let part = tree::name::name(
         dir_hash,
         dir_table,
         file_hash,

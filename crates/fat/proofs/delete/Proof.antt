@@ -1,6 +1,6 @@
 use native.Mathlib.Omega.{arith}
 use Rattle.fat_node.specs.Sizes.{blocks}
-use Rattle.fat.specs.Calls.{changeGives, deleteRows, deleteDone}
+use Rattle.fat_promises.specs.Calls.{changeGives, deleteRows, deleteDone}
 use Rattle.fat.proofs.Public.{shut, passed, open-eight, open-volume, says-open, says-refused}
 use borrow.Author.Needs.{needs}
 use Rattle.fat.proofs.delete.Statement.{statement}

@@ -1,6 +1,6 @@
 -- `mukthiban_tested_tree_set_carried_dir` meets its contract. Assumes nothing.
-use Rattle.fs_meta.specs.Tables.{tables}
-use Rattle.fs_meta.proofs.Opens.{set-dir}
+use Rattle.tree_promises.specs.Tables.{tables}
+use Rattle.tree_inner.proofs.Opens.{set-dir}
 use borrow.Author.Needs.{needs}
 use Rattle.mukthiban.proofs.tested_carried.mukthiban_tested_tree_set_carried_dir.Statement.{
   statement,

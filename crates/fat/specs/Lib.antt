@@ -1,4 +1,0 @@
-pub mod Blocks
-pub mod Promise
-pub mod Calls
-pub mod Inner

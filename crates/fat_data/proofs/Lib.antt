@@ -1,4 +1,0 @@
-pub mod Copied
-pub mod InRow
-pub mod Puts
-pub mod Carries

@@ -1,0 +1,158 @@
+-- What the inner calls return, from what they call. Assumes nothing.
+use mathlib.Core.Path.{_≡_, refl, sym, ap, subst, subst⁻¹, _∙_}
+use mathlib.Core.List.{List, [], _∷_, _++_, append-assoc}
+use mathlib.Core.Logic.{inl, inr}
+use mathlib.Core.Bool.{Bool, true, false}
+use Prim.Native.Nat.{ℕ, _+_, _-_, _≤_}
+use native.Mathlib.Omega.{arith}
+use native.Mathlib.Numerals.{add-one}
+use Rattle.words.proofs.Laws as words
+use Rattle.order.specs.First.{First}
+use Rattle.order.specs.declared.Answer.the-variants as is
+use Rattle.fat_node.specs.Entry.{Bytes}
+use Rattle.fat_node.specs.Node.{Run, nextAt, setHead}
+use Rattle.fat_table.specs.Sound.{File}
+use Rattle.fat_table.specs.Chain.{total, sizeAt, headAt, chainAt, freeAt, fileAt}
+use Rattle.fat_table.specs.Steps.{first, created, deleted}
+use Rattle.fat_table.proofs.Laying.{first-inside}
+use Rattle.fat_promises.specs.Calls.{createGives, createRows, createDone, changeGives, deleteRows, deleteDone}
+use Rattle.fat_inner.specs.Inner.{Volume, Standing, StandingAt, Chain, ChainFrom, joinAt, cutAt, Inside, LastIs, none, node, Beyond, SeekSays, LastAt}
+use Rattle.fat_inner.specs.declared.walk.Sought.{Sought}
+use Rattle.fat_inner.specs.declared.walk.Sought.the-variants.{Within, Past}
+use Rattle.fat_table.proofs.Unchanged.{total-append}
+use Rattle.fat_inner.proofs.Joins.{mid-standing, mid-next, mid-size}
+use Rattle.fat_inner.proofs.Few.{free-chain, file-chain, created-few, deleted-few}
+use Rattle.fat_inner.proofs.Hops.{whole-of}
+
+-- chains and their nodes --------------------------------------------------------------------------------
+
+-- the node that starts what comes after some runs stands
+after-standing : (n : ℕ) (t : Bytes) (P B : List Run) (i : ℕ) → Chain n t (P ++ B) → first B ≡ i → StandingAt n t i
+after-standing n t P [] i c e b h = let z : ⊥ = omega (arith, e, h) in absurd z
+after-standing n t P (y ∷ B) i c e b h =
+    let q : y .start ≡ b = omega (arith, e, h) in
+    subst (Standing n t) q (mid-standing n t P y B c)
+
+pub first-standing : (n : ℕ) (t : Bytes) (i : ℕ) → ChainFrom n t i → StandingAt n t i
+first-standing n t i c = after-standing n t [] (chainAt t n i) i (c .chain) (c .at)
+
+pub first-below : (n : ℕ) (t : Bytes) (i : ℕ) → ChainFrom n t i → i ≤ n
+first-below n t i c = omega (arith, c .at, first-inside n (chainAt t n i) (c .chain .positive) (c .chain .inside))
+
+pub last-standing : (n : ℕ) (t : Bytes) (l : List Run) (b : ℕ) → Chain n t l → LastAt l b → Standing n t b
+last-standing n t l b c w = subst (Standing n t) (w .at) (mid-standing n t (w .before) (w .node) [] (subst (Chain n t) (w .is) c))
+
+module _ (n : ℕ) (t : Bytes) (l : List Run) (k b m : ℕ) (c : Chain n t l) (w : Inside l k b m) where
+  within-chain : Chain n t (w .before ++ w .node ∷ w .after)
+  within-chain = subst (Chain n t) (w .is) c
+
+  pub inside-standing : Standing n t b
+  inside-standing = subst (Standing n t) (w .at) (mid-standing n t (w .before) (w .node) (w .after) within-chain)
+
+  pub inside-next : StandingAt n t (nextAt t b)
+  inside-next =
+      after-standing n t (w .before ++ w .node ∷ []) (w .after) (nextAt t b)
+      (subst (Chain n t) (sym (append-assoc (w .before) (w .node ∷ []) (w .after))) within-chain)
+      (sym (mid-next n t (w .before) (w .node) (w .after) within-chain) ∙ ap (nextAt t) (w .at))
+
+  pub inside-size : sizeAt t b ≡ w .node .size
+  inside-size = ap (sizeAt t) (sym (w .at)) ∙ mid-size n t (w .before) (w .node) (w .after) within-chain
+
+  pub inside-part : (1 ≤ m) × (m ≤ sizeAt t b)
+  inside-part = (w .some, omega (arith, w .fits, inside-size))
+
+  pub inside-count : k ≤ total l
+  inside-count = omega (arith, w .sum, w .fits, ap total (w .is), total-append (w .before) (w .node ∷ w .after))
+
+  pub inside-first : 1 ≤ first l
+  inside-first = some-first l (w .before) (w .is)
+    where
+      some-first : (l before : List Run) → l ≡ before ++ w .node ∷ w .after → 1 ≤ first l
+      some-first l [] e = omega (arith, ap first e)
+      some-first l (r ∷ before) e = omega (arith, ap first e)
+
+-- the last node, found by seeking more blocks than there are
+pub last-past : (n : ℕ) (t : Bytes) (i k j m : ℕ) → ChainFrom n t i → (i ≡ 0 → ⊥) → Beyond (chainAt t n i) k j m → LastAt (chainAt t n i) (j - 1)
+last-past n t i k j m c h w = go (w .last)
+  where
+    go : LastIs (chainAt t n i) j → LastAt (chainAt t n i) (j - 1)
+    go (none e k) = absurd (h (sym (c .at) ∙ ap first e))
+    go (node before y e k) = record { before = before; node = y; is = e; at = omega (arith, k) }
+
+pub last-some : (n : ℕ) (t : Bytes) (i k j m : ℕ) → ChainFrom n t i → (i ≡ 0 → ⊥) → Beyond (chainAt t n i) k j m → 1 ≤ j
+last-some n t i k j m c h w = go (w .last)
+  where
+    go : LastIs (chainAt t n i) j → 1 ≤ j
+    go (none e k) = absurd (h (sym (c .at) ∙ ap first e))
+    go (node before y e k) = omega (arith, k)
+
+pub last-within : (n : ℕ) (t : Bytes) (i b m : ℕ) → ChainFrom n t i → Inside (chainAt t n i) (n + 1) b m → LastAt (chainAt t n i) b
+last-within n t i b m c w =
+    let z : ⊥ = omega (arith, inside-count n t (chainAt t n i) (n + 1) b m (c .chain) w, c .chain .sum) in
+    absurd z
+
+-- the chains of a volume, by the code's b + 1 -------------------------------------------------------------
+
+module _ (n : ℕ) (t : Bytes) (v : Volume n t) (g : words.Bytes t) where
+  pub head-chain : (h : ℕ) → h ≡ headAt t → ChainFrom n t h
+  head-chain h e = subst⁻¹ (ChainFrom n t) e (free-chain n t (whole-of n t v g))
+
+  pub file-from : (b : ℕ) → File t n b → ChainFrom n t (b + 1)
+  file-from b f = subst⁻¹ (ChainFrom n t) (add-one b) (file-chain n t (whole-of n t v g) b f)
+
+  -- delete -------------------------------------------------------------------------------------------------
+
+  pub deleted-is : (b y h : ℕ) (u x : Bytes) → File t n b → LastAt (chainAt t n (b + 1)) y → h ≡ headAt t → u ≡ joinAt t y h → x ≡ setHead u (b + 1) → x ≡ deleted n t b
+  deleted-is b y h u x f w e p q =
+      let k : fileAt n t b ≡ w .before ++ w .node ∷ [] = ap (chainAt t n) (sym (add-one b)) ∙ w .is in
+      q
+      ∙ ap (λ (z : Bytes). setHead z (b + 1)) (p ∙ ap (λ (z : ℕ). joinAt t z h) (sym (w .at)) ∙ ap (joinAt t (w .node .start)) e)
+      ∙ deleted-few n t (whole-of n t v g) b f (w .before) (w .node) k
+
+  pub delete-done : (b y h : ℕ) (u x : Bytes) (r : Bool) → (r ≡ true → File t n b) × (File t n b → r ≡ true) → r ≡ true → LastAt (chainAt t n (b + 1)) y → h ≡ headAt t
+      → u ≡ joinAt t y h → x ≡ setHead u (b + 1) → First (deleteRows n t b) (deleteDone n t b) (changeGives is.Done x)
+  delete-done b y h u x r s i w e p q = inr (
+    (λ z. z (s .0 i)),
+    ap (changeGives is.Done) (deleted-is b y h u x (s .0 i) w e p q),
+  )
+
+  -- create -------------------------------------------------------------------------------------------------
+
+  pub create-none : (k h i m : ℕ) → (k ≡ 0 → ⊥) → h ≡ headAt t → Beyond (chainAt t n h) k i m → First (createRows n t k) (createDone n t k) (createGives is.NoSpace 0 t)
+  create-none k h i m z e w = inr (z, inl (omega (arith, w .sum, w .some, ap (λ (j : ℕ). total (chainAt t n j)) e), refl))
+
+  pub create-done : (k h b m : ℕ) (u : Bytes) → (k ≡ 0 → ⊥) → h ≡ headAt t → Inside (chainAt t n h) k b m → u ≡ cutAt t b m
+      → First (createRows n t k) (createDone n t k) (createGives is.Done (h - 1) u)
+  create-done k h b m u z e w p =
+      let q : freeAt n t ≡ w .before ++ w .node ∷ w .after = ap (chainAt t n) (sym e) ∙ w .is in
+      let c : u ≡ created n t k =
+      p ∙ ap (λ (j : ℕ). cutAt t j m) (sym (w .at)) ∙ created-few n t (whole-of n t v g) (w .before) (w .node) (w .after) m k q (w .some) (w .fits) (w .sum) in
+      let l : k ≤ total (chainAt t n h) = inside-count n t (chainAt t n h) k b m (head-chain h e .chain) w in
+      inr (
+        z,
+        inr (
+          (λ o. omega (arith, o, l, ap (λ (j : ℕ). total (chainAt t n j)) e)),
+          ap (λ (j : ℕ). createGives is.Done (j - 1) u) e ∙ ap (createGives is.Done (headAt t - 1)) c,
+        ),
+      )
+
+-- a block that is no file's first
+pub not-file : (t : Bytes) (n b : ℕ) (r : Bool) → (r ≡ true → File t n b) × (File t n b → r ≡ true) → r ≡ false → File t n b → ⊥
+not-file t n b r s e f = let z : r ≡ true = s .1 f in let z₁ : _≡_ {A = ℕ} 0 1 = cc in omega (arith, z₁)
+
+-- what is sought, by how it is taken apart
+pub says-within : (l : List Run) (k : ℕ) (r : Sought) (b m : ℕ) → SeekSays l k r → r ≡ Within b m → Inside l k b m
+says-within l k r b m w e = subst (SeekSays l k) e w
+
+pub says-past : (l : List Run) (k : ℕ) (r : Sought) (i m : ℕ) → SeekSays l k r → r ≡ Past i m → Beyond l k i m
+says-past l k r i m w e = subst (SeekSays l k) e w
+
+module _ (n : ℕ) (t : Bytes) (i : ℕ) (r : Sought) (c : ChainFrom n t i) (w : SeekSays (chainAt t n i) (n + 1) r) where
+  pub last-in : (b m : ℕ) → r ≡ Within b m → LastAt (chainAt t n i) b
+  last-in b m e = last-within n t i b m c (says-within (chainAt t n i) (n + 1) r b m w e)
+
+  pub last-out : (j m : ℕ) → (i ≡ 0 → ⊥) → r ≡ Past j m → LastAt (chainAt t n i) (j - 1)
+  last-out j m h e = last-past n t i (n + 1) j m c h (says-past (chainAt t n i) (n + 1) r j m w e)
+
+  pub last-out-some : (j m : ℕ) → (i ≡ 0 → ⊥) → r ≡ Past j m → 1 ≤ j
+  last-out-some j m h e = last-some n t i (n + 1) j m c h (says-past (chainAt t n i) (n + 1) r j m w e)

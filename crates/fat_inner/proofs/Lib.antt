@@ -1,0 +1,13 @@
+pub mod Over
+pub mod Joins
+pub mod Few
+pub mod Cases
+pub mod Walks
+pub mod Hops
+pub mod Done
+pub mod Resizes
+pub mod Lists
+pub mod Copied
+pub mod InRow
+pub mod Puts
+pub mod Carries

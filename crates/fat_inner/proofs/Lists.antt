@@ -1,0 +1,178 @@
+-- The blocks of a chain written into a list. Assumes nothing.
+use mathlib.Core.Path.{_≡_, refl, sym, ap, subst, _∙_}
+use mathlib.Core.List.{List, [], _∷_, _++_, append-assoc}
+use mathlib.Core.Logic.{inl, inr, ⊎-elim}
+use Prim.Native.Nat.{ℕ, zero, suc, _+_, _-_, _*_, _≤_, _<_}
+use native.Mathlib.Omega.{arith}
+use native.Mathlib.Numerals.{add-one}
+use lib.ListN.{length, set, drop, length-set, length-append}
+use lib.Seq.{sets, length-sets, sets-eq}
+use Rattle.order.specs.First.{First}
+use Rattle.order.specs.declared.Answer.the-variants as is
+use Rattle.fat_node.specs.Entry.{Bytes}
+use Rattle.fat_node.proofs.Nodes.{le-or-lt}
+use Rattle.fat_table.specs.Sound.{File}
+use Rattle.fat_promises.specs.Calls.{listGives, listRows, listDone}
+use Rattle.fat_inner.proofs.Done.{inside-count}
+use Rattle.fat_node.specs.Node.{Run, nextAt}
+use Rattle.fat_table.specs.Chain.{total, sizeAt, chainAt, fileAt}
+use Rattle.fat_table.specs.Steps.{first}
+use Rattle.fat_promises.specs.Blocks.{blocksFrom, blocksOf}
+use Rattle.fat_inner.specs.Inner.{Standing, Chain, ChainFrom, Inside, Beyond, Least}
+use Rattle.fat_table.proofs.Unchanged.{total-append}
+use Rattle.fat_inner.proofs.Joins.{mid-size, mid-next, mid-standing, mid-pos, mid-within}
+use Rattle.fat_inner.proofs.Walks.{Named, named, ended}
+
+pub length-from : (s b : ℕ) → length (blocksFrom s b) ≡ s
+length-from zero b = refl
+length-from (suc s) b = ap suc (length-from s (suc b))
+
+pub length-blocks : (l : List Run) → length (blocksOf l) ≡ total l
+length-blocks [] = refl
+length-blocks (r ∷ l) = omega (arith, length-append (blocksFrom (r .size) (r .start)) (blocksOf l), length-from (r .size) (r .start), length-blocks l)
+
+pub sets-append : (xs ys l : List ℕ) (i : ℕ) → sets l i (xs ++ ys) ≡ sets (sets l i xs) (i + length xs) ys
+sets-append [] ys l i = ap (λ (j : ℕ). sets l j ys) (omega arith)
+sets-append (x ∷ xs) ys l i =
+    let e : suc i + length xs ≡ i + suc (length xs) = omega arith in
+    sets-append xs ys (set l i x) (suc i) ∙ ap (λ (j : ℕ). sets (sets (set l i x) (suc i) xs) j ys) e
+
+-- k numbers of a run are written
+pub record Numbering (l₀ : List ℕ) (at b size : ℕ) (l : List ℕ) (k : ℕ) : Type 0 where
+  pub is : sets l₀ at (blocksFrom size b) ≡ sets l (at + k) (blocksFrom (size - k) (b + k))
+  pub within : k ≤ size
+  pub long : length l ≡ length l₀
+
+pub number-begin : (l : List ℕ) (at b size : ℕ) → Numbering l at b size l 0
+number-begin l at b size =
+    let e : at ≡ at + 0 = omega arith in
+    let f : b ≡ b + 0 = omega arith in
+    let h : size ≡ size - 0 = omega arith in
+    record {
+      is = ap (λ (j : ℕ). sets l j (blocksFrom size b)) e ∙ ap (λ (j : ℕ). sets l (at + 0) (blocksFrom size j)) f
+          ∙ ap (λ (j : ℕ). sets l (at + 0) (blocksFrom j (b + 0))) h;
+      within = omega arith;
+      long = refl;
+    }
+
+pub number-turn : (l₀ : List ℕ) (at b size : ℕ) (l : List ℕ) (k : ℕ) → Numbering l₀ at b size l k → k < size → Numbering l₀ at b size (set l (at + k) (b + k)) (k + 1)
+number-turn l₀ at b size l k w h =
+    let m : ℕ = size - (k + 1) in
+    let e : size - k ≡ suc m = omega arith in
+    let f : suc (at + k) ≡ at + (k + 1) = omega arith in
+    let g : suc (b + k) ≡ b + (k + 1) = omega arith in
+    record {
+      is = w .is
+          ∙ ap (λ (j : ℕ). sets l (at + k) (blocksFrom j (b + k))) e
+          ∙ ap (λ (j : ℕ). sets (set l (at + k) (b + k)) j (blocksFrom m (suc (b + k)))) f
+          ∙ ap (λ (j : ℕ). sets (set l (at + k) (b + k)) (at + (k + 1)) (blocksFrom m j)) g;
+      within = omega arith;
+      long = length-set l (at + k) (b + k) ∙ w .long;
+    }
+
+pub number-end : (l₀ : List ℕ) (at b size : ℕ) (l : List ℕ) (k : ℕ) → Numbering l₀ at b size l k → size ≤ k → l ≡ sets l₀ at (blocksFrom size b)
+number-end l₀ at b size l k w h =
+    let e : size - k ≡ 0 = omega arith in
+    sym (w .is ∙ ap (λ (j : ℕ). sets l (at + k) (blocksFrom j (b + k))) e)
+
+-- the blocks of some runs of a chain are written, and index i names the next
+pub record Filling (c : List Run) (l₀ : List ℕ) (i at : ℕ) (l : List ℕ) : Type 0 where
+  pub passed : List Run
+  pub rest : List Run
+  pub is : c ≡ passed ++ rest
+  pub at-first : first rest ≡ i
+  pub sum : at ≡ total passed
+  pub done : sets l₀ 0 (blocksOf c) ≡ sets l at (blocksOf rest)
+  pub long : length l ≡ length l₀
+
+pub fill-begin : (c : List Run) (l : List ℕ) (i : ℕ) → first c ≡ i → Filling c l i 0 l
+fill-begin c l i e = record { passed = []; rest = c; is = refl; at-first = e; sum = refl; done = refl; long = refl }
+
+module _ (n : ℕ) (t : Bytes) (c : List Run) (l₀ : List ℕ) (i at : ℕ) (l : List ℕ) (k : Chain n t c) (w : Filling c l₀ i at l) where
+  pub fill-end : i ≡ 0 → l ≡ sets l₀ 0 (blocksOf c)
+  fill-end h = sym (w .done ∙ ap (λ (r : List Run). sets l at (blocksOf r)) (ended (w .rest) i (w .at-first) h))
+
+  module _ (h : i ≡ 0 → ⊥) where
+    abbrev here : Named (w .rest) i
+    here = named (w .rest) i (w .at-first) h
+
+    here-is : c ≡ w .passed ++ here .node ∷ here .after
+    here-is = w .is ∙ ap (λ (r : List Run). w .passed ++ r) (here .is)
+
+    here-chain : Chain n t (w .passed ++ here .node ∷ here .after)
+    here-chain = subst (Chain n t) here-is k
+
+    pub fill-standing : Standing n t (i - 1)
+    fill-standing = subst (Standing n t) (here .at) (mid-standing n t (w .passed) (here .node) (here .after) here-chain)
+
+    here-size : sizeAt t (i - 1) ≡ here .node .size
+    here-size = ap (sizeAt t) (sym (here .at)) ∙ mid-size n t (w .passed) (here .node) (here .after) here-chain
+
+    pub fill-room : 8 * (i - 1) + 16 ≤ length t
+    fill-room = let s = fill-standing in omega (arith, s .room, s .node .some, s .node .within)
+
+    pub fill-fits : (s : ℕ) → s ≡ sizeAt t (i - 1) → total c ≤ length l₀ → (at + s ≤ length l) × (1 ≤ s) × ((i - 1) + s ≤ 1000000)
+    fill-fits s e f = (
+      omega (arith, w .sum, e, here-size, f, w .long, ap total here-is, total-append (w .passed) (here .node ∷ here .after)),
+      omega (arith, e, here-size, mid-pos n t (w .passed) (here .node) (here .after) here-chain),
+      omega (arith, e, here-size, mid-within n t (w .passed) (here .node) (here .after) here-chain, here .at, k .few),
+    )
+
+    pub fill-next : (s q : ℕ) (l′ : List ℕ) → s ≡ sizeAt t (i - 1) → q ≡ nextAt t (i - 1) → l′ ≡ sets l at (blocksFrom s (i - 1)) → Filling c l₀ q (at + s) l′
+    fill-next s q l′ e f p =
+        let x : Run = here .node in
+        let z : s ≡ x .size = e ∙ here-size in
+        record {
+          passed = w .passed ++ here .node ∷ [];
+          rest = here .after;
+          is = here-is ∙ sym (append-assoc (w .passed) (here .node ∷ []) (here .after));
+          at-first = sym (f ∙ ap (nextAt t) (sym (here .at)) ∙ mid-next n t (w .passed) (here .node) (here .after) here-chain);
+          sum = omega (arith, w .sum, total-append (w .passed) (here .node ∷ []), z);
+          done = w .done
+              ∙ ap (λ (r : List Run). sets l at (blocksOf r)) (here .is)
+              ∙ sets-append (blocksFrom (x .size) (x .start)) (blocksOf (here .after)) l at
+              ∙ ap (λ (j : ℕ). sets (sets l at (blocksFrom (x .size) (x .start))) (at + j) (blocksOf (here .after))) (length-from (x .size) (x .start) ∙ sym z)
+              ∙ ap (λ (y : List ℕ). sets y (at + s) (blocksOf (here .after)))
+              (ap (λ (j : ℕ). sets l at (blocksFrom j (x .start))) (sym z) ∙ ap (λ (j : ℕ). sets l at (blocksFrom s j)) (here .at) ∙ sym p);
+          long = ap length p ∙ length-sets l at (blocksFrom s (i - 1)) ∙ w .long;
+        }
+
+-- the whole list: the blocks, and the later places as they were
+pub listed-is : (c : List Run) (l : List ℕ) → total c ≤ length l → sets l 0 (blocksOf c) ≡ blocksOf c ++ drop (total c) l
+listed-is c l h =
+    let e : 0 + length (blocksOf c) ≡ total c = omega (arith, length-blocks c) in
+    sets-eq (blocksOf c) l 0 (omega (arith, e, h)) ∙ ap (λ (j : ℕ). blocksOf c ++ drop j l) e
+
+-- open list: what is sought past the list's room, or past the table's blocks
+module _ (n : ℕ) (t : Bytes) (b : ℕ) (list : List ℕ) (c : ChainFrom n t (b + 1)) (f : File t n b) (room : ℕ) (o : Least (length list) n room) where
+  same : total (chainAt t n (b + 1)) ≡ total (fileAt n t b)
+  same = ap (λ (i : ℕ). total (chainAt t n i)) (add-one b)
+
+  pub list-short : (x m : ℕ) → Inside (chainAt t n (b + 1)) (room + 1) x m → First (listRows n t b list) (listDone n t b list) (listGives is.ListTooShort 0 list)
+  list-short x m w =
+      let k : room + 1 ≤ total (chainAt t n (b + 1)) = inside-count n t (chainAt t n (b + 1)) (room + 1) x m (c .chain) w in
+      let l : length list < total (fileAt n t b) = ⊎-elim
+      (λ h. omega (arith, h, k, same))
+      (λ h. let z : ⊥ = omega (arith, o .one h, k, c .chain .sum) in absurd z)
+      (le-or-lt (length list) room) in
+      inr ((λ z. z f), inl (l, refl))
+
+  pub list-room : (i m : ℕ) → Beyond (chainAt t n (b + 1)) (room + 1) i m → total (chainAt t n (b + 1)) ≤ length list
+  list-room i m w = omega (arith, w .sum, w .some, o .left)
+
+  pub list-count : (i m : ℕ) → Beyond (chainAt t n (b + 1)) (room + 1) i m → (room + 1 - m ≡ total (fileAt n t b)) × (m ≤ room + 1)
+  list-count i m w = (omega (arith, w .sum, same), omega (arith, w .sum))
+
+  pub list-done : (i m : ℕ) (l : List ℕ) → Beyond (chainAt t n (b + 1)) (room + 1) i m → l ≡ sets list 0 (blocksOf (chainAt t n (b + 1)))
+      → First (listRows n t b list) (listDone n t b list) (listGives is.Done (room + 1 - m) l)
+  list-done i m l w e =
+      let h : total (chainAt t n (b + 1)) ≤ length list = list-room i m w in
+      let p : l ≡ blocksOf (fileAt n t b) ++ drop (total (fileAt n t b)) list =
+      e ∙ listed-is (chainAt t n (b + 1)) list h ∙ ap (λ (j : ℕ). blocksOf (chainAt t n j) ++ drop (total (chainAt t n j)) list) (add-one b) in
+      inr (
+        (λ z. z f),
+        inr (
+          (λ z. omega (arith, z, h, same)),
+          ap (λ (j : ℕ). listGives is.Done j l) (list-count i m w .0) ∙ ap (listGives is.Done (total (fileAt n t b))) p,
+        ),
+      )

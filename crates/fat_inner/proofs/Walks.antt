@@ -1,0 +1,96 @@
+-- A walk along a chain that stands. Assumes nothing.
+use mathlib.Core.Path.{_≡_, refl, sym, ap, subst, subst⁻¹, _∙_}
+use mathlib.Core.List.{List, [], _∷_, _++_, append-nil, append-assoc}
+use Prim.Native.Nat.{ℕ, suc, _+_, _-_, _*_, _≤_, _<_}
+use native.Mathlib.Omega.{arith}
+use lib.ListN.{length}
+use Rattle.fat_node.specs.Entry.{Bytes}
+use Rattle.fat_node.specs.Node.{Run, nextAt}
+use Rattle.fat_table.specs.Chain.{total, sizeAt}
+use Rattle.fat_table.specs.Steps.{first}
+use Rattle.fat_inner.specs.Inner.{Standing, Chain, Inside, LastIs, none, node, Beyond}
+use Rattle.fat_table.proofs.Unchanged.{total-append}
+use Rattle.fat_inner.proofs.Joins.{mid-size, mid-next, mid-standing, mid-pos}
+
+-- a walk along l that seeks block k₀, at index i, with k blocks to go
+pub record Seeking (l : List Run) (k₀ i last k : ℕ) : Type 0 where
+  pub passed : List Run
+  pub rest : List Run
+  pub is : l ≡ passed ++ rest
+  pub at : first rest ≡ i
+  pub end : LastIs passed last
+  pub sum : k₀ ≡ total passed + k
+  pub some : 1 ≤ k
+
+-- an index that is not 0 names the first node of what it starts
+pub record Named (rest : List Run) (i : ℕ) : Type 0 where
+  pub node : Run
+  pub after : List Run
+  pub is : rest ≡ node ∷ after
+  pub at : node .start ≡ i - 1
+  pub suc-at : i ≡ suc (node .start)
+
+pub named : (rest : List Run) (i : ℕ) → first rest ≡ i → (i ≡ 0 → ⊥) → Named rest i
+named [] i e h = absurd (h (sym e))
+named (x ∷ B) i e h = record { node = x; after = B; is = refl; at = omega (arith, e); suc-at = sym e }
+
+pub ended : (rest : List Run) (i : ℕ) → first rest ≡ i → i ≡ 0 → rest ≡ []
+ended [] i e h = refl
+ended (x ∷ B) i e h = let z : ⊥ = omega (arith, e, h) in absurd z
+
+pub seek-begin : (l : List Run) (i k : ℕ) → first l ≡ i → 1 ≤ k → Seeking l k i 0 k
+seek-begin l i k e h = record { passed = []; rest = l; is = refl; at = e; end = none refl refl; sum = omega arith; some = h }
+
+module _ (n : ℕ) (t : Bytes) (l : List Run) (k₀ i last k : ℕ) (c : Chain n t l) (w : Seeking l k₀ i last k) where
+  pub seek-past : i ≡ 0 → Beyond l k₀ last k
+  seek-past h =
+      let e : l ≡ w .passed = w .is ∙ ap (λ (r : List Run). w .passed ++ r) (ended (w .rest) i (w .at) h) ∙ append-nil (w .passed) in
+      record { last = subst⁻¹ (λ (r : List Run). LastIs r last) e (w .end); sum = w .sum ∙ ap (λ (r : List Run). total r + k) (sym e); some = w .some }
+
+  module _ (h : i ≡ 0 → ⊥) where
+    abbrev here : Named (w .rest) i
+    here = named (w .rest) i (w .at) h
+
+    here-is : l ≡ w .passed ++ here .node ∷ here .after
+    here-is = w .is ∙ ap (λ (r : List Run). w .passed ++ r) (here .is)
+
+    here-chain : Chain n t (w .passed ++ here .node ∷ here .after)
+    here-chain = subst (Chain n t) here-is c
+
+    pub seek-at : Standing n t (i - 1)
+    seek-at = subst (Standing n t) (here .at) (mid-standing n t (w .passed) (here .node) (here .after) here-chain)
+
+    here-size : sizeAt t (i - 1) ≡ here .node .size
+    here-size = ap (sizeAt t) (sym (here .at)) ∙ mid-size n t (w .passed) (here .node) (here .after) here-chain
+
+    here-next : nextAt t (i - 1) ≡ first (here .after)
+    here-next = ap (nextAt t) (sym (here .at)) ∙ mid-next n t (w .passed) (here .node) (here .after) here-chain
+
+    pub seek-within : (s : ℕ) → s ≡ sizeAt t (i - 1) → k ≤ s → Inside l k₀ (i - 1) k
+    seek-within s e m = record {
+      before = w .passed;
+      node = here .node;
+      after = here .after;
+      is = here-is;
+      at = here .at;
+      sum = w .sum;
+      some = w .some;
+      fits = omega (arith, e, here-size);
+    }
+
+    pub seek-next : (s q : ℕ) → s ≡ sizeAt t (i - 1) → s < k → q ≡ nextAt t (i - 1) → Seeking l k₀ q i (k - s)
+    seek-next s q e m f = record {
+      passed = w .passed ++ here .node ∷ [];
+      rest = here .after;
+      is = here-is ∙ sym (append-assoc (w .passed) (here .node ∷ []) (here .after));
+      at = sym (f ∙ here-next);
+      end = node (w .passed) (here .node) refl (here .suc-at);
+      sum = omega (arith, w .sum, total-append (w .passed) (here .node ∷ []), e, here-size);
+      some = omega arith;
+    }
+
+    pub seek-less : (s : ℕ) → s ≡ sizeAt t (i - 1) → s < k → k - s < k
+    seek-less s e m = omega (arith, e, here-size, mid-pos n t (w .passed) (here .node) (here .after) here-chain)
+
+    pub seek-room : 8 * (i - 1) + 16 ≤ length t
+    seek-room = let s = seek-at in omega (arith, s .room, s .node .some, s .node .within)

@@ -1,0 +1,85 @@
+use Rattle.fat_inner.proofs.Carries.{Writing, write-begin, write-end, write-turn, write-long, at-some, at-standing, at-fits, turn-some, turn-upto, turn-data}
+use Rattle.fat_table.specs.Chain.{chainAt}
+use lib.ListN.{length, length-take, length-drop}
+use borrow.Author.Needs.{needs}
+use native.Mathlib.Omega.{arith}
+use Prim.Native.Nat.{_+_, _-_}
+use mathlib.Core.Path.{_≡_, refl}
+use Rattle.fat_inner.proofs.copy.store.Statement.{statement}
+use Rattle.fat_inner.proofs.copy.store.Tie as tie
+
+abbrev Inv-loop : tie.InvT-loop
+Inv-loop table data₀ block-len n first pos buf len node₀ from₀ done₀ «data» node from done = Writing (chainAt table n first) buf block-len pos data₀ «data» node from done × (length «data» ≡ length data₀)
+
+abbrev μ-loop : tie.MeasureT-loop
+μ-loop table data₀ block-len n first pos buf len node₀ from₀ done₀ «data» node from done = len - done
+
+cursor-at-requires : tie.Need-cursor-at-requires Inv-loop μ-loop
+cursor-at-requires c κs = (c .before .before .before .pre .0, (c .before .before .before .pre .1 .0 .some, c .before .before .before .pre .1 .0 .few, omega (arith, c .before .before .before .pre .1 .1)))
+
+loop-holds : tie.Need-loop-holds Inv-loop μ-loop
+loop-holds c = (write-begin _ _ _ _ _ _ _ (c .before .before .before .before .pre .1 .1) (c .cursor-at .ensures), refl)
+
+sub-stretch-at : tie.Need-sub-stretch-at Inv-loop μ-loop
+sub-stretch-at c =
+    let at-pre = c .before .before .before .before .before .before .pre in
+    at-some _ _ _ _ _ _ _ (at-pre .0 .chain) (c .before .loop .inv .0 .at (c .loop-test .taken))
+
+sub-stretch-at-2 : tie.Need-sub-stretch-at-2 Inv-loop μ-loop
+sub-stretch-at-2 c = omega arith
+
+stretch-at-requires : tie.Need-stretch-at-requires Inv-loop μ-loop
+stretch-at-requires c κs =
+    let at-pre = c .before .before .before .before .before .before .pre in
+    (at-standing _ _ _ _ _ _ _ (at-pre .0 .chain) (c .before .loop .inv .0 .at (c .loop-test .taken)), (at-pre .1 .0 .few, at-fits _ _ _ _ _ _ _ (at-pre .0 .chain) (c .before .loop .inv .0 .at (c .loop-test .taken))))
+
+add-end : tie.Need-add-end Inv-loop μ-loop
+add-end c = omega (arith, turn-upto _ _ _ _ _ _ _ _ _ _ _ _ (c .before .before .before .before .before .before .before .before .pre .0 .chain) (c .before .before .before .before .before .before .before .before .pre .1 .0 .some) (c .before .before .before .before .before .before .before .before .pre .1 .1) (c .before .before .loop-test .taken) (c .before .before .before .loop .inv .0 .at (c .before .before .loop-test .taken)) (c .before .stretch-at .ensures))
+
+sub-put-row : tie.Need-sub-put-row Inv-loop μ-loop
+sub-put-row c = omega arith
+
+part-put-row-start : tie.Need-part-put-row-start Inv-loop μ-loop
+part-put-row-start c = omega arith
+
+part-put-row-end : tie.Need-part-put-row-end Inv-loop μ-loop
+part-put-row-end c = omega (arith, turn-upto _ _ _ _ _ _ _ _ _ _ _ _ (c .before .before .before .before .before .before .before .before .before .pre .0 .chain) (c .before .before .before .before .before .before .before .before .before .pre .1 .0 .some) (c .before .before .before .before .before .before .before .before .before .pre .1 .1) (c .before .before .before .loop-test .taken) (c .before .before .before .before .loop .inv .0 .at (c .before .before .before .loop-test .taken)) (c .before .before .stretch-at .ensures))
+
+put-row-requires : tie.Need-put-row-requires Inv-loop μ-loop
+put-row-requires c κs = let h = turn-data _ _ _ _ _ _ _ _ _ _ _ _ (c .before .before .before .before .before .before .before .before .before .before .pre .0 .chain) (c .before .before .before .before .before .before .before .before .before .before .pre .1 .0 .some) (c .before .before .before .before .before .before .before .before .before .before .pre .1 .1) (c .before .before .before .before .loop-test .taken) (c .before .before .before .before .before .loop .inv .0 .at (c .before .before .before .before .loop-test .taken)) (c .before .before .before .stretch-at .ensures) in let k = turn-upto _ _ _ _ _ _ _ _ _ _ _ _ (c .before .before .before .before .before .before .before .before .before .before .pre .0 .chain) (c .before .before .before .before .before .before .before .before .before .before .pre .1 .0 .some) (c .before .before .before .before .before .before .before .before .before .before .pre .1 .1) (c .before .before .before .before .loop-test .taken) (c .before .before .before .before .before .loop .inv .0 .at (c .before .before .before .before .loop-test .taken)) (c .before .before .before .stretch-at .ensures) in (c .before .before .before .before .before .before .before .before .before .before .pre .1 .0 .some, simp (length-take, length-drop) (omega (arith, h, k, c .before .before .before .before .before .before .before .before .before .before .pre .1 .0 .fits, c .before .before .before .before .before .loop .inv .1)))
+
+loop-less : tie.Need-loop-less Inv-loop μ-loop
+loop-less c = omega (arith, turn-some _ _ _ _ _ _ _ _ _ _ _ _ (c .before .before .before .before .before .before .before .before .before .before .before .before .before .pre .0 .chain) (c .before .before .before .before .before .before .before .before .before .before .before .before .before .pre .1 .0 .some) (c .before .before .before .before .before .before .before .before .before .before .before .before .before .pre .1 .1) (c .before .before .before .before .before .before .before .loop-test .taken) (c .before .before .before .before .before .before .before .before .loop .inv .0 .at (c .before .before .before .before .before .before .before .loop-test .taken)) (c .before .before .before .before .before .before .stretch-at .ensures), turn-upto _ _ _ _ _ _ _ _ _ _ _ _ (c .before .before .before .before .before .before .before .before .before .before .before .before .before .pre .0 .chain) (c .before .before .before .before .before .before .before .before .before .before .before .before .before .pre .1 .0 .some) (c .before .before .before .before .before .before .before .before .before .before .before .before .before .pre .1 .1) (c .before .before .before .before .before .before .before .loop-test .taken) (c .before .before .before .before .before .before .before .before .loop .inv .0 .at (c .before .before .before .before .before .before .before .loop-test .taken)) (c .before .before .before .before .before .before .stretch-at .ensures))
+
+loop-again : tie.Need-loop-again Inv-loop μ-loop
+loop-again c = (
+  write-turn _ _ _ _ _ _ _ _ _ _ _ _ (c .before .before .before .before .before .before .before .before .before .before .before .before .before .pre .0 .chain) (c .before .before .before .before .before .before .before .before .before .before .before .before .before .pre .1 .0 .some) (c .before .before .before .before .before .before .before .before .before .before .before .before .before .pre .1 .1) (c .before .before .before .before .before .before .before .loop-test .taken) (c .before .before .before .before .before .before .before .before .loop .inv .0 .at (c .before .before .before .before .before .before .before .loop-test .taken)) (c .before .before .before .before .before .before .stretch-at .ensures) _ _ _ _ _ (c .before .before .before .before .before .before .before .before .loop .done + c .before .before .before .before .before .before .stretch-at .result .len - c .before .before .before .before .before .before .before .before .loop .done) refl (c .before .before .before .before .before .before .before .before .loop .inv .0) (omega arith) refl (c .before .before .put-row .ensures),
+  write-long _ _ _ _ _ _ _ _ _ _ _ _ (c .before .before .before .before .before .before .before .before .before .before .before .before .before .pre .0 .chain) (c .before .before .before .before .before .before .before .before .before .before .before .before .before .pre .1 .0 .some) (c .before .before .before .before .before .before .before .before .before .before .before .before .before .pre .1 .1) (c .before .before .before .before .before .before .before .loop-test .taken) (c .before .before .before .before .before .before .before .before .loop .inv .0 .at (c .before .before .before .before .before .before .before .loop-test .taken)) (c .before .before .before .before .before .before .stretch-at .ensures) _ _ _ _ _ (c .before .before .before .before .before .before .before .before .loop .done + c .before .before .before .before .before .before .stretch-at .result .len - c .before .before .before .before .before .before .before .before .loop .done) refl (c .before .before .before .before .before .before .before .before .loop .inv .0) (omega arith) refl (c .before .before .put-row .ensures) (c .before .before .before .before .before .before .before .before .loop .inv .1),
+)
+
+same-length : tie.Need-same-length Inv-loop μ-loop
+same-length c = search needs
+
+returns : tie.Need-returns Inv-loop μ-loop
+returns c = write-end _ _ _ _ _ _ _ _ _ (c .before .loop .inv .0) (omega arith)
+
+pub store-spec : {M : Type 1} → statement M
+store-spec =
+    tie.close
+    (tie.spec
+    Inv-loop
+    μ-loop
+    cursor-at-requires
+    loop-holds
+    sub-stretch-at
+    sub-stretch-at-2
+    stretch-at-requires
+    add-end
+    sub-put-row
+    part-put-row-start
+    part-put-row-end
+    put-row-requires
+    loop-less
+    loop-again
+    same-length
+    returns)

@@ -1,0 +1,249 @@
+// Read and write on sound tables: they follow a chain and leave the table as it is.
+ghost use mathlib.Core.Path.{_≡_};
+ghost use Prim.Native.Nat.{_+_, _*_, _≤_, _<_};
+ghost use lib.ListN.{length};
+ghost use lib.Seq.{sets};
+ghost use mathlib.Core.Bool.{true};
+ghost use Rattle.fat_table.specs.Chain.{total, sizeAt, chainAt};
+ghost use Rattle.fat_inner.specs.Inner.{Volume, Standing, ChainFrom};
+ghost use Rattle.order.specs.First.{First};
+ghost use Rattle.fat_promises.specs.Blocks.{blocksOf};
+ghost use mathlib.Core.Bool.{true, false};
+ghost use Rattle.fat_table.specs.Chain.{total, sizeAt, chainAt};
+ghost use Rattle.fat_promises.specs.Blocks.{blocksOf, bytesAt, written};
+ghost use Rattle.fat_inner.specs.Inner.{Volume, Standing, ChainFrom};
+ghost use Rattle.fat_inner.specs.Stretches.{Data, CursorAt, StretchOf};
+ghost use Rattle.fat_promises.specs.Calls.{carryGives, carryRows, readDone, writeDone};
+use crate::step::Answered;
+use crate::walk::Sought;
+use crate::walk::is_file;
+use crate::walk::least;
+use crate::walk::seek;
+use crate::walk::size_at;
+use order::Answer;
+
+// Copies one part over another of the same length. It compiles to a vector loop, 32 bytes a turn: after `rt staticlib mukthiban` look for movups in
+// fat_inner::copy::read_sound and fat_inner::copy::write_sound in `objdump -d target/staticlib/libmukthiban.a`.
+fn copy(dst: &mut [u8], src: &[u8])
+    requires { ⌜ length (now src) ≡ length (now dst) ⌝ }
+    ensures { λ _. ⌜ now (dst .exit) ≡ now (src .entry) ⌝ }
+{
+    let len = dst.len();
+    let mut i = 0;
+    while i < len {
+        dst[i] = src[i];
+        i += 1;
+    }
+}
+
+// The number of blocks of the chain that index first starts.
+fn count_of(table: &[u8], n: usize, first: usize) -> usize
+    requires { ⌜ ChainFrom n (now table) first ⌝ }
+    ensures { λ r. ⌜ r ≡ total (chainAt (now (table .entry)) n first) ⌝ }
+{
+    let sought = seek(table, n, first, n + 1);
+    match sought {
+        Sought::Within { node: _, part: _ } => 0,
+        Sought::Past { last: _, part } => n + 1 - part,
+    }
+}
+
+// Where a byte of a file lies: byte `from` of the node that index `node` names.
+struct Cursor {
+    node: usize,
+    from: usize,
+}
+
+// Where byte pos of the file lies whose chain index first starts. At the end of the file it says nothing.
+fn cursor_at(table: &[u8], block_len: usize, n: usize, first: usize, pos: usize) -> Cursor
+    requires { ⌜ ChainFrom n (now table) first ⌝ }
+    requires { ⌜ (1 ≤ «block_len») × («block_len» ≤ 65536) × (pos ≤ total (chainAt (now table) n first) * «block_len») ⌝ }
+    ensures { λ r. ⌜ (pos < total (chainAt (now (table .entry)) n first) * «block_len» → CursorAt (chainAt (now (table .entry)) n first) «block_len» pos (r .node) (r .from)) ⌝ }
+{
+    let sought = seek(table, n, first, pos / block_len + 1);
+    match sought {
+        Sought::Within { node, part } => Cursor {
+            node: node + 1,
+            from: (part - 1) * block_len + pos % block_len,
+        },
+        Sought::Past { last: _, part: _ } => Cursor { node: 0, from: 0 },
+    }
+}
+
+// Bytes of a file that lie in a row in the data: `len` of them from place `at` on; index `next` names the node after theirs.
+struct Stretch {
+    at: usize,
+    len: usize,
+    next: usize,
+}
+
+// The bytes of the node at block b from its byte `from` on, no more than wanted.
+fn stretch_at(
+    table: &[u8],
+    block_len: usize,
+    n: usize,
+    b: usize,
+    from: usize,
+    want: usize,
+) -> Stretch
+    requires { ⌜ Standing n (now table) b ⌝ }
+    requires { ⌜ («block_len» ≤ 65536) × (from ≤ sizeAt (now table) b * «block_len») ⌝ }
+    ensures { λ r. ⌜ StretchOf (now (table .entry)) «block_len» b from want (r .at) (r .len) (r .next) ⌝ }
+{
+    let size = size_at(table, n, b);
+    let at = b * block_len + from;
+    let len = least(want, size * block_len - from);
+    let next = fat_node::next_of(table, b);
+    Stretch { at, len, next }
+}
+
+// Reads bytes of the file whose chain index first starts, from byte pos on: a copy for each node that they lie in.
+fn fetch(
+    table: &[u8],
+    data: &[u8],
+    block_len: usize,
+    n: usize,
+    first: usize,
+    pos: usize,
+    buf: &mut [u8],
+)
+    requires { ⌜ ChainFrom n (now table) first ⌝ }
+    requires { ⌜ Data n (length (now «data»)) «block_len» ⌝ }
+    requires { ⌜ pos + length (now buf) ≤ total (chainAt (now table) n first) * «block_len» ⌝ }
+    ensures { λ _. ⌜ now (buf .exit) ≡ bytesAt (length (now (buf .entry))) (now («data» .entry)) «block_len» (blocksOf (chainAt (now (table .entry)) n first)) pos ⌝ }
+{
+    let len = buf.len();
+    let c = cursor_at(table, block_len, n, first, pos);
+    let mut node = c.node;
+    let mut from = c.from;
+    let mut done: usize = 0;
+    while done < len {
+        let s = stretch_at(table, block_len, n, node - 1, from, len - done);
+        let at = s.at;
+        let to = at + s.len;
+        let end = done + s.len;
+        copy(&mut buf[done..end], &data[at..to]);
+        done = end;
+        from = 0;
+        node = s.next;
+    }
+}
+
+// Writes bytes over a row of bytes of the data, from place at on: each block's share into that block's own part.
+fn put_row(data: &mut [u8], block_len: usize, at: usize, buf: &[u8])
+    requires { ⌜ (1 ≤ «block_len») × (at + length (now buf) ≤ length (now «data»)) ⌝ }
+    ensures { λ _. ⌜ now («data» .exit) ≡ sets (now («data» .entry)) at (now (buf .entry)) ⌝ }
+{
+    let len = buf.len();
+    let mut i: usize = 0;
+    while i < len {
+        let a = at + i;
+        let share = least(len - i, block_len - a % block_len);
+        let e = a + share;
+        let j = i + share;
+        copy(&mut data[a..e], &buf[i..j]);
+        i = j;
+    }
+}
+
+// Writes bytes of the file whose chain index first starts, from byte pos on, node by node.
+fn store(
+    table: &[u8],
+    data: &mut [u8],
+    block_len: usize,
+    n: usize,
+    first: usize,
+    pos: usize,
+    buf: &[u8],
+)
+    requires { ⌜ ChainFrom n (now table) first ⌝ }
+    requires { ⌜ Data n (length (now «data»)) «block_len» ⌝ }
+    requires { ⌜ pos + length (now buf) ≤ total (chainAt (now table) n first) * «block_len» ⌝ }
+    ensures { λ _. ⌜ now («data» .exit) ≡ written (now (buf .entry)) (now («data» .entry)) «block_len» (blocksOf (chainAt (now (table .entry)) n first)) pos ⌝ }
+{
+    let len = buf.len();
+    let c = cursor_at(table, block_len, n, first, pos);
+    let mut node = c.node;
+    let mut from = c.from;
+    let mut done: usize = 0;
+    while done < len {
+        let s = stretch_at(table, block_len, n, node - 1, from, len - done);
+        let end = done + s.len;
+        put_row(data, block_len, s.at, &buf[done..end]);
+        done = end;
+        from = 0;
+        node = s.next;
+    }
+}
+
+// Whether so many bytes from pos on pass the end of a file of so many bytes. Nothing wraps, whatever the numbers.
+fn passes(size: usize, pos: usize, len: usize) -> bool
+    ensures { λ r. ⌜ (r ≡ true → size < pos + len) × (r ≡ false → pos + len ≤ size) ⌝ }
+{
+    if size < pos {
+        return true;
+    }
+    size - pos < len
+}
+
+// Reads bytes of the file at a block, on a sound table.
+pub fn read_sound(
+    table: &[u8],
+    data: &[u8],
+    block_len: usize,
+    n: usize,
+    first_block: usize,
+    pos: usize,
+    buf: &mut [u8],
+) -> Answered
+    requires { ⌜ Volume n (now table) ⌝ }
+    requires { ⌜ Data n (length (now «data»)) «block_len» ⌝ }
+    ensures { λ r. ⌜ First (carryRows n (now (table .entry)) «block_len» «first_block» pos (length (now (buf .entry))) (now (buf .entry))) (readDone n (now (table .entry)) (now («data» .entry)) «block_len» «first_block» pos (now (buf .entry))) (carryGives (r .answer) (now (buf .exit))) ⌝ }
+{
+    if !is_file(table, n, first_block) {
+        return Answered {
+            answer: Answer::NotAFile,
+        };
+    }
+    let size = count_of(table, n, first_block + 1) * block_len;
+    if passes(size, pos, buf.len()) {
+        return Answered {
+            answer: Answer::OutOfBound,
+        };
+    }
+    fetch(table, data, block_len, n, first_block + 1, pos, buf);
+    Answered {
+        answer: Answer::Done,
+    }
+}
+
+// Writes bytes of the file at a block, on a sound table.
+pub fn write_sound(
+    table: &[u8],
+    data: &mut [u8],
+    block_len: usize,
+    n: usize,
+    first_block: usize,
+    pos: usize,
+    buf: &[u8],
+) -> Answered
+    requires { ⌜ Volume n (now table) ⌝ }
+    requires { ⌜ Data n (length (now «data»)) «block_len» ⌝ }
+    ensures { λ r. ⌜ First (carryRows n (now (table .entry)) «block_len» «first_block» pos (length (now (buf .entry))) (now («data» .entry))) (writeDone n (now (table .entry)) (now («data» .entry)) «block_len» «first_block» pos (now (buf .entry))) (carryGives (r .answer) (now («data» .exit))) ⌝ }
+{
+    if !is_file(table, n, first_block) {
+        return Answered {
+            answer: Answer::NotAFile,
+        };
+    }
+    let size = count_of(table, n, first_block + 1) * block_len;
+    if passes(size, pos, buf.len()) {
+        return Answered {
+            answer: Answer::OutOfBound,
+        };
+    }
+    store(table, data, block_len, n, first_block + 1, pos, buf);
+    Answered {
+        answer: Answer::Done,
+    }
+}

@@ -1,0 +1,81 @@
+// A file's blocks, listed.
+ghost use mathlib.Core.Path.{_≡_};
+ghost use Prim.Native.Nat.{_+_, _≤_, _<_};
+ghost use lib.ListN.{length};
+ghost use lib.Seq.{sets};
+ghost use Rattle.fat_table.specs.Chain.{total, chainAt};
+ghost use Rattle.fat_inner.specs.Inner.{Volume, ChainFrom};
+ghost use Rattle.order.specs.First.{First};
+ghost use Rattle.fat_promises.specs.Calls.{listGives, listRows, listDone};
+ghost use Rattle.fat_promises.specs.Blocks.{blocksFrom, blocksOf};
+ghost use Rattle.fat_table.specs.Chain.{total, chainAt};
+ghost use Rattle.fat_promises.specs.Blocks.{blocksOf};
+ghost use Rattle.fat_inner.specs.Inner.{Volume, ChainFrom};
+use crate::walk::Sought;
+use crate::walk::is_file;
+use crate::walk::least;
+use crate::walk::seek;
+use crate::walk::size_at;
+use order::Answer;
+
+// Writes the numbers of size blocks from block b on into a list, from place at on.
+fn number_run(list: &mut [u32], at: usize, b: usize, size: usize)
+    requires { ⌜ at + size ≤ length (now list) ⌝ }
+    requires { ⌜ b + size ≤ 1000000 ⌝ }
+    ensures { λ _. ⌜ now (list .exit) ≡ sets (now (list .entry)) at (blocksFrom size b) ⌝ }
+{
+    let mut k: usize = 0;
+    while k < size {
+        list[at + k] = (b + k) as u32;
+        k += 1;
+    }
+}
+
+// Writes the blocks of the chain that index first starts into a list that has room for them, hopping by node.
+fn number_chain(table: &[u8], n: usize, first: usize, list: &mut [u32])
+    requires { ⌜ ChainFrom n (now table) first ⌝ }
+    requires { ⌜ total (chainAt (now table) n first) ≤ length (now list) ⌝ }
+    ensures { λ _. ⌜ now (list .exit) ≡ sets (now (list .entry)) 0 (blocksOf (chainAt (now (table .entry)) n first)) ⌝ }
+{
+    let mut i = first;
+    let mut at: usize = 0;
+    while i != 0 {
+        let b = i - 1;
+        let size = size_at(table, n, b);
+        number_run(list, at, b, size);
+        at += size;
+        i = fat_node::next_of(table, b);
+    }
+}
+
+// The answer of open_list: the number of the file's blocks.
+pub struct Listed {
+    pub answer: Answer,
+    pub count: usize,
+}
+
+// Lists the blocks of the file at a block, on a sound table, in chain order.
+pub fn open_list_sound(table: &[u8], n: usize, first_block: usize, list: &mut [u32]) -> Listed
+    requires { ⌜ Volume n (now table) ⌝ }
+    ensures { λ r. ⌜ First (listRows n (now (table .entry)) «first_block» (now (list .entry))) (listDone n (now (table .entry)) «first_block» (now (list .entry))) (listGives (r .answer) (r .count) (now (list .exit))) ⌝ }
+{
+    if !is_file(table, n, first_block) {
+        return Listed {
+            answer: Answer::NotAFile,
+            count: 0,
+        };
+    }
+    let room = least(list.len(), n);
+    let sought = seek(table, n, first_block + 1, room + 1);
+    let Sought::Past { last: _, part } = sought else {
+        return Listed {
+            answer: Answer::ListTooShort,
+            count: 0,
+        };
+    };
+    number_chain(table, n, first_block + 1, list);
+    Listed {
+        answer: Answer::Done,
+        count: room + 1 - part,
+    }
+}

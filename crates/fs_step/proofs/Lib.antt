@@ -1,5 +1,0 @@
-pub mod Seats
-pub mod Links
-pub mod Judges
-pub mod Changes
-pub mod Makes

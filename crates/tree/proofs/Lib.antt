@@ -1,0 +1,4 @@
+pub mod Room
+pub mod Named
+pub mod NameOnce
+pub mod Formats

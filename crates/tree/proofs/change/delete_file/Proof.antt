@@ -1,0 +1,91 @@
+use Rattle.tree_promises.specs.Tables.{tables}
+use Rattle.tree_promises.specs.Calls.{changeGives, deleteFileRows, deleteFileDone}
+use Rattle.tree_promises.proofs.Public.{shut, through, ready, long-enough}
+use Rattle.tree.proofs.Room.{enough}
+use borrow.Author.Needs.{needs}
+use Rattle.tree.proofs.change.delete_file.Statement.{statement}
+use Rattle.tree.proofs.change.delete_file.Tie as tie
+
+open-gate-requires : tie.Need-open-gate-requires
+open-gate-requires c κs = search needs
+
+enum-known-gated : tie.Need-enum-known-gated
+enum-known-gated c = search needs
+
+enum-told : tie.Need-enum-told
+enum-told c = search needs
+
+delete-file-requires : tie.Need-delete-file-requires
+delete-file-requires c κs =
+    let args = c .before .before .before .before .before .before .before .before .before .before .before .before .before .before .before .before .before .before .before .args in
+    let s = tables (args .dir-hash .now) (args .dir-table .now) (args .file-hash .now) (args .file-table .now) in
+    let gated = c .before .before .before .before .before .before .before .before .open-gate in
+    (ready s _ _ _ _ (gated .ensures) (c .before .before .before .before .enum-told .given .1), enough _ _ (long-enough s _ _ _ _ (gated .ensures) (c .before .before .before .before .enum-told .given .1)))
+
+same-length : tie.Need-same-length
+same-length c = search needs
+
+same-length-2 : tie.Need-same-length-2
+same-length-2 c = search needs
+
+same-length-3 : tie.Need-same-length-3
+same-length-3 c = search needs
+
+same-length-4 : tie.Need-same-length-4
+same-length-4 c = search needs
+
+returns : tie.Need-returns
+returns c =
+    let args = c .before .before .before .before .before .before .before .before .before .before .before .before .before .before .before .before .args in
+    let s = tables (args .dir-hash .now) (args .dir-table .now) (args .file-hash .now) (args .file-table .now) in
+    let gated = c .before .before .before .before .before .open-gate in
+    shut (λ a. changeGives a s (args .opens .now)) s _ _ _
+    (deleteFileRows s (args .opens .now) (args .inode))
+    (deleteFileDone s (args .opens .now) (args .inode)) _
+    (gated .ensures) _ (c .before .gated .given .1)
+
+same-length-5 : tie.Need-same-length-5
+same-length-5 c = search needs
+
+same-length-6 : tie.Need-same-length-6
+same-length-6 c = search needs
+
+same-length-7 : tie.Need-same-length-7
+same-length-7 c = search needs
+
+same-length-8 : tie.Need-same-length-8
+same-length-8 c = search needs
+
+same-length-9 : tie.Need-same-length-9
+same-length-9 c = search needs
+
+returns-2 : tie.Need-returns-2
+returns-2 c =
+    let args = c .before .before .before .before .before .before .before .before .before .before .before .before .before .before .before .before .before .before .before .before .before .before .before .before .before .before .before .before .args in
+    let s = tables (args .dir-hash .now) (args .dir-table .now) (args .file-hash .now) (args .file-table .now) in
+    let gated = c .before .before .before .before .before .before .before .before .before .before .before .before .before .before .before .before .before .open-gate in
+    through (λ a. changeGives a s (args .opens .now)) s _ _ _
+    (deleteFileRows s (args .opens .now) (args .inode))
+    (deleteFileDone s (args .opens .now) (args .inode)) _
+    (gated .ensures) _ (c .before .before .before .before .before .before .before .before .before .before .before .before .before .enum-told .given .1)
+    (c .before .before .before .before .before .before .before .before .delete-file .ensures)
+
+pub delete-file-spec : {M : Type 1} → statement M
+delete-file-spec =
+    tie.close
+    (tie.spec
+    open-gate-requires
+    enum-known-gated
+    enum-told
+    delete-file-requires
+    same-length
+    same-length-2
+    same-length-3
+    same-length-4
+    returns
+    same-length-5
+    same-length-6
+    same-length-7
+    same-length-8
+    same-length-9
+    returns-2)

@@ -1,0 +1,232 @@
+// The public calls that change the entry tables: make, rename and delete. Every call takes all four tables, a work list and the open counts of its own table;
+// it tests sizes and soundness, and then does its work by the call of tree_inner that requires soundness. What each promises on all inputs stands in tree_promises's
+// specs/Public.antt. A refusal gives its number and changes nothing but the work list.
+ghost use Rattle.order.specs.Beside.{beside};
+ghost use Rattle.tree_promises.specs.Tables.{tables};
+ghost use Rattle.tree_promises.specs.Calls.{makeGives, changeGives};
+ghost use Rattle.tree_promises.specs.Public.{MakeDirPromise, MakeFilePromise, RenameDirPromise, RenameFilePromise, DeleteDirPromise, DeleteFilePromise};
+use tree_inner::make::Made;
+use tree_key::SaveExtDirEntry;
+use tree_key::SaveExtFileEntry;
+use tree_test::Gated;
+use order::Answer;
+
+// Makes a directory in a parent. Done: its inode; it is the first of its parent and of its bucket, has no children, carries the padding, and is open once.
+pub fn make_dir(
+    dir_hash: &mut [u8],
+    dir_table: &mut [u8],
+    file_hash: &[u8],
+    file_table: &[u8],
+    work: &mut [u32],
+    opens: &mut [u32],
+    parent: u32,
+    name: &[u8; 16],
+    padding: &[u8; 4],
+) -> Made
+    ensures { λ r. ⌜ MakeDirPromise (tables (now («dir_hash» .entry)) (now («dir_table» .entry)) (now («file_hash» .entry)) (now («file_table» .entry))) (now (opens .entry)) (now (work .entry)) parent (now (name .entry)) (now (padding .entry)) (beside (makeGives (r .answer) (r .inode) (tables (now («dir_hash» .exit)) (now («dir_table» .exit)) (now («file_hash» .entry)) (now («file_table» .entry))) (now (opens .exit))) (now (work .exit))) ⌝ }
+{
+    let gated = tree_test::open_gate(
+        dir_hash,
+        dir_table,
+        file_hash,
+        file_table,
+        opens.len(),
+        dir_table.len() / SaveExtDirEntry::WIDTH,
+        work,
+    );
+    match gated {
+        Gated::Refused { answer } => Made { answer, inode: 0 },
+        Gated::Open => tree_inner::make::make_dir(
+            dir_hash,
+            dir_table,
+            file_hash,
+            file_table,
+            opens,
+            parent,
+            name,
+            padding,
+        ),
+    }
+}
+
+// Makes a file in a directory. Done: its inode; it is the first of its parent and of its bucket, carries the bytes, and is open once.
+pub fn make_file(
+    dir_hash: &[u8],
+    dir_table: &mut [u8],
+    file_hash: &mut [u8],
+    file_table: &mut [u8],
+    work: &mut [u32],
+    opens: &mut [u32],
+    parent: u32,
+    name: &[u8; 16],
+    carried: &[u8; 20],
+) -> Made
+    ensures { λ r. ⌜ MakeFilePromise (tables (now («dir_hash» .entry)) (now («dir_table» .entry)) (now («file_hash» .entry)) (now («file_table» .entry))) (now (opens .entry)) (now (work .entry)) parent (now (name .entry)) (now (carried .entry)) (beside (makeGives (r .answer) (r .inode) (tables (now («dir_hash» .entry)) (now («dir_table» .exit)) (now («file_hash» .exit)) (now («file_table» .exit))) (now (opens .exit))) (now (work .exit))) ⌝ }
+{
+    let gated = tree_test::open_gate(
+        dir_hash,
+        dir_table,
+        file_hash,
+        file_table,
+        opens.len(),
+        file_table.len() / SaveExtFileEntry::WIDTH,
+        work,
+    );
+    match gated {
+        Gated::Refused { answer } => Made { answer, inode: 0 },
+        Gated::Open => tree_inner::make::make_file(
+            dir_hash,
+            dir_table,
+            file_hash,
+            file_table,
+            opens,
+            parent,
+            name,
+            carried,
+        ),
+    }
+}
+
+// Gives a directory another parent and name. Done: it is the first of its new parent and bucket, and keeps inode, padding, children and open count.
+pub fn rename_dir(
+    dir_hash: &mut [u8],
+    dir_table: &mut [u8],
+    file_hash: &[u8],
+    file_table: &[u8],
+    work: &mut [u32],
+    opens: &[u32],
+    inode: u32,
+    parent: u32,
+    name: &[u8; 16],
+) -> Answer
+    ensures { λ r. ⌜ RenameDirPromise (tables (now («dir_hash» .entry)) (now («dir_table» .entry)) (now («file_hash» .entry)) (now («file_table» .entry))) (now (opens .entry)) (now (work .entry)) inode parent (now (name .entry)) (beside (changeGives r (tables (now («dir_hash» .exit)) (now («dir_table» .exit)) (now («file_hash» .entry)) (now («file_table» .entry))) (now (opens .entry))) (now (work .exit))) ⌝ }
+{
+    let gated = tree_test::open_gate(
+        dir_hash,
+        dir_table,
+        file_hash,
+        file_table,
+        opens.len(),
+        dir_table.len() / SaveExtDirEntry::WIDTH,
+        work,
+    );
+    match gated {
+        Gated::Refused { answer } => answer,
+        Gated::Open => tree_inner::change::rename_dir(
+            dir_hash,
+            dir_table,
+            file_hash,
+            file_table,
+            opens,
+            inode,
+            parent,
+            name,
+        ),
+    }
+}
+
+// Gives a file another parent and name. Done: it is the first of its new parent and bucket, and keeps inode, carried bytes and open count.
+pub fn rename_file(
+    dir_hash: &[u8],
+    dir_table: &mut [u8],
+    file_hash: &mut [u8],
+    file_table: &mut [u8],
+    work: &mut [u32],
+    opens: &[u32],
+    inode: u32,
+    parent: u32,
+    name: &[u8; 16],
+) -> Answer
+    ensures { λ r. ⌜ RenameFilePromise (tables (now («dir_hash» .entry)) (now («dir_table» .entry)) (now («file_hash» .entry)) (now («file_table» .entry))) (now (opens .entry)) (now (work .entry)) inode parent (now (name .entry)) (beside (changeGives r (tables (now («dir_hash» .entry)) (now («dir_table» .exit)) (now («file_hash» .exit)) (now («file_table» .exit))) (now (opens .entry))) (now (work .exit))) ⌝ }
+{
+    let gated = tree_test::open_gate(
+        dir_hash,
+        dir_table,
+        file_hash,
+        file_table,
+        opens.len(),
+        file_table.len() / SaveExtFileEntry::WIDTH,
+        work,
+    );
+    match gated {
+        Gated::Refused { answer } => answer,
+        Gated::Open => tree_inner::change::rename_file(
+            dir_hash,
+            dir_table,
+            file_hash,
+            file_table,
+            opens,
+            inode,
+            parent,
+            name,
+        ),
+    }
+}
+
+// Deletes a directory that has no children and is open once. Done: its entry is the first removed one, and its open count is 0.
+pub fn delete_dir(
+    dir_hash: &mut [u8],
+    dir_table: &mut [u8],
+    file_hash: &[u8],
+    file_table: &[u8],
+    work: &mut [u32],
+    opens: &mut [u32],
+    inode: u32,
+) -> Answer
+    ensures { λ r. ⌜ DeleteDirPromise (tables (now («dir_hash» .entry)) (now («dir_table» .entry)) (now («file_hash» .entry)) (now («file_table» .entry))) (now (opens .entry)) (now (work .entry)) inode (beside (changeGives r (tables (now («dir_hash» .exit)) (now («dir_table» .exit)) (now («file_hash» .entry)) (now («file_table» .entry))) (now (opens .exit))) (now (work .exit))) ⌝ }
+{
+    let gated = tree_test::open_gate(
+        dir_hash,
+        dir_table,
+        file_hash,
+        file_table,
+        opens.len(),
+        dir_table.len() / SaveExtDirEntry::WIDTH,
+        work,
+    );
+    match gated {
+        Gated::Refused { answer } => answer,
+        Gated::Open => tree_inner::change::delete_dir(
+            dir_hash,
+            dir_table,
+            file_hash,
+            file_table,
+            opens,
+            inode,
+        ),
+    }
+}
+
+// Deletes a file that is open once. Done: its entry is the first removed one, and its open count is 0.
+pub fn delete_file(
+    dir_hash: &[u8],
+    dir_table: &mut [u8],
+    file_hash: &mut [u8],
+    file_table: &mut [u8],
+    work: &mut [u32],
+    opens: &mut [u32],
+    inode: u32,
+) -> Answer
+    ensures { λ r. ⌜ DeleteFilePromise (tables (now («dir_hash» .entry)) (now («dir_table» .entry)) (now («file_hash» .entry)) (now («file_table» .entry))) (now (opens .entry)) (now (work .entry)) inode (beside (changeGives r (tables (now («dir_hash» .entry)) (now («dir_table» .exit)) (now («file_hash» .exit)) (now («file_table» .exit))) (now (opens .exit))) (now (work .exit))) ⌝ }
+{
+    let gated = tree_test::open_gate(
+        dir_hash,
+        dir_table,
+        file_hash,
+        file_table,
+        opens.len(),
+        file_table.len() / SaveExtFileEntry::WIDTH,
+        work,
+    );
+    match gated {
+        Gated::Refused { answer } => answer,
+        Gated::Open => tree_inner::change::delete_file(
+            dir_hash,
+            dir_table,
+            file_hash,
+            file_table,
+            opens,
+            inode,
+        ),
+    }
+}

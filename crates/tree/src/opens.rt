@@ -1,0 +1,141 @@
+// The public calls on open counts: open and close.
+ghost use Rattle.order.specs.Beside.{beside};
+ghost use Rattle.tree_promises.specs.Tables.{tables};
+ghost use Rattle.tree_promises.specs.Calls.{openingGives};
+ghost use Rattle.tree_promises.specs.Public.{OpenDirPromise, OpenFilePromise, CloseDirPromise, CloseFilePromise};
+use order::Answer;
+use tree_key::SaveExtDirEntry;
+use tree_key::SaveExtFileEntry;
+use tree_test::Gated;
+
+// Opens directory `inode` once more. Done: its open count is 1 higher.
+pub fn open_dir(
+    dir_hash: &[u8],
+    dir_table: &[u8],
+    file_hash: &[u8],
+    file_table: &[u8],
+    work: &mut [u32],
+    opens: &mut [u32],
+    inode: u32,
+) -> Answer
+    ensures { λ r. ⌜ OpenDirPromise (tables (now («dir_hash» .entry)) (now («dir_table» .entry)) (now («file_hash» .entry)) (now («file_table» .entry))) (now (opens .entry)) (now (work .entry)) inode (beside (openingGives r (now (opens .exit))) (now (work .exit))) ⌝ }
+{
+    let gated = tree_test::open_gate(
+        dir_hash,
+        dir_table,
+        file_hash,
+        file_table,
+        opens.len(),
+        dir_table.len() / SaveExtDirEntry::WIDTH,
+        work,
+    );
+    match gated {
+        Gated::Refused { answer } => answer,
+        Gated::Open => tree_inner::look::open(
+            dir_hash,
+            dir_table,
+            SaveExtDirEntry::WIDTH,
+            opens,
+            inode,
+        ),
+    }
+}
+
+// Opens file `inode` once more. Done: its open count is 1 higher.
+pub fn open_file(
+    dir_hash: &[u8],
+    dir_table: &[u8],
+    file_hash: &[u8],
+    file_table: &[u8],
+    work: &mut [u32],
+    opens: &mut [u32],
+    inode: u32,
+) -> Answer
+    ensures { λ r. ⌜ OpenFilePromise (tables (now («dir_hash» .entry)) (now («dir_table» .entry)) (now («file_hash» .entry)) (now («file_table» .entry))) (now (opens .entry)) (now (work .entry)) inode (beside (openingGives r (now (opens .exit))) (now (work .exit))) ⌝ }
+{
+    let gated = tree_test::open_gate(
+        dir_hash,
+        dir_table,
+        file_hash,
+        file_table,
+        opens.len(),
+        file_table.len() / SaveExtFileEntry::WIDTH,
+        work,
+    );
+    match gated {
+        Gated::Refused { answer } => answer,
+        Gated::Open => tree_inner::look::open(
+            file_hash,
+            file_table,
+            SaveExtFileEntry::WIDTH,
+            opens,
+            inode,
+        ),
+    }
+}
+
+// Closes directory `inode` once. Done: its open count is 1 lower.
+pub fn close_dir(
+    dir_hash: &[u8],
+    dir_table: &[u8],
+    file_hash: &[u8],
+    file_table: &[u8],
+    work: &mut [u32],
+    opens: &mut [u32],
+    inode: u32,
+) -> Answer
+    ensures { λ r. ⌜ CloseDirPromise (tables (now («dir_hash» .entry)) (now («dir_table» .entry)) (now («file_hash» .entry)) (now («file_table» .entry))) (now (opens .entry)) (now (work .entry)) inode (beside (openingGives r (now (opens .exit))) (now (work .exit))) ⌝ }
+{
+    let gated = tree_test::open_gate(
+        dir_hash,
+        dir_table,
+        file_hash,
+        file_table,
+        opens.len(),
+        dir_table.len() / SaveExtDirEntry::WIDTH,
+        work,
+    );
+    match gated {
+        Gated::Refused { answer } => answer,
+        Gated::Open => tree_inner::look::close(
+            dir_hash,
+            dir_table,
+            SaveExtDirEntry::WIDTH,
+            opens,
+            inode,
+        ),
+    }
+}
+
+// Closes file `inode` once. Done: its open count is 1 lower.
+pub fn close_file(
+    dir_hash: &[u8],
+    dir_table: &[u8],
+    file_hash: &[u8],
+    file_table: &[u8],
+    work: &mut [u32],
+    opens: &mut [u32],
+    inode: u32,
+) -> Answer
+    ensures { λ r. ⌜ CloseFilePromise (tables (now («dir_hash» .entry)) (now («dir_table» .entry)) (now («file_hash» .entry)) (now («file_table» .entry))) (now (opens .entry)) (now (work .entry)) inode (beside (openingGives r (now (opens .exit))) (now (work .exit))) ⌝ }
+{
+    let gated = tree_test::open_gate(
+        dir_hash,
+        dir_table,
+        file_hash,
+        file_table,
+        opens.len(),
+        file_table.len() / SaveExtFileEntry::WIDTH,
+        work,
+    );
+    match gated {
+        Gated::Refused { answer } => answer,
+        Gated::Open => tree_inner::look::close(
+            file_hash,
+            file_table,
+            SaveExtFileEntry::WIDTH,
+            opens,
+            inode,
+        ),
+    }
+}

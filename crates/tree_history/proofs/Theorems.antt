@@ -1,0 +1,110 @@
+-- The theorems of the entry tables over whole histories. Their statements name definitions of specs/ alone. Assumes nothing.
+use mathlib.Core.Path.{_≡_, refl}
+use mathlib.Core.List.{List}
+use Prim.Native.Nat.{ℕ, _≤_, _<_}
+use native.Mathlib.Omega.{arith}
+use lib.ListN.{length}
+use Rattle.order.specs.First.{First}
+use Rattle.order.specs.declared.Answer.{Answer}
+use Rattle.order.specs.declared.Answer.the-variants.{Done, BrokenTree}
+use Rattle.tree_sound.specs.Sizes.{rooms}
+use Rattle.tree_test.specs.Gate.{treeGate}
+use Rattle.tree_test.specs.Promise.{tested, testDone}
+use Rattle.tree_test.specs.declared.Tested.{Tested}
+use Rattle.tree_promises.specs.Tables.{dirs, files}
+use Rattle.tree_promises.specs.Calls.{Carry}
+use Rattle.tree_promises.specs.Format.{FormatPromise}
+use Rattle.tree_history.specs.Whole.{Lent, Whole}
+use Rattle.tree_history.specs.Call.{
+  State,
+  state,
+  Call,
+  format,
+  test,
+  lookup-dir,
+  lookup-file,
+  list-dirs,
+  list-files,
+  stat,
+  name-answer,
+  carried-dir,
+  carried-file,
+  set-carried-dir,
+  set-carried-file,
+  make-dir,
+  make-file,
+  rename-dir,
+  rename-file,
+  delete-dir,
+  delete-file,
+  open-dir,
+  open-file,
+  close-dir,
+  close-file,
+  KeptBy,
+}
+use Rattle.tree_history.specs.Run.{Run, none, calls}
+use Rattle.tree_history.proofs.Rows.{of-first}
+use Rattle.tree_history.proofs.Good.{Good}
+use Rattle.tree_history.proofs.Calls as changes
+use Rattle.tree_history.proofs.Looks as looks
+use Rattle.tree_history.proofs.Formats.{good-format}
+
+good : (s : State) → Lent (s .tables) → {a : Answer} {u : State} → Call s a u → Good s a u
+good s L (format dm fm o p) = good-format s L dm fm o p
+good s L (test work o p) = looks.good-test s L work o p
+good s L (lookup-dir work p name o q) = looks.good-lookup s L work (dirs (s .tables)) p name o q
+good s L (lookup-file work p name o q) = looks.good-lookup s L work (files (s .tables)) p name o q
+good s L (list-dirs work x list o q) = looks.good-list s L work (dirs (s .tables)) x list o q
+good s L (list-files work x list o q) = looks.good-list s L work (files (s .tables)) x list o q
+good s L (stat work o q) = looks.good-stat s L work o q
+good s L (name-answer work kind x o q) = looks.good-name s L work kind x o q
+good s L (carried-dir work x o q) = looks.good-carried-dir s L work x o q
+good s L (carried-file work x o q) = looks.good-carried-file s L work x o q
+good s L (set-carried-dir work x padding o b q) = changes.good-set-carried-dir s L work x padding b o q
+good s L (set-carried-file work x carried o b q) = changes.good-set-carried-file s L work x carried b o q
+good s L (make-dir work p name padding o bn bp q) = changes.good-make-dir s L work p name padding bn bp o q
+good s L (make-file work p name carried o bn bc q) = changes.good-make-file s L work p name carried bn bc o q
+good s L (rename-dir work x p name o bn q) = changes.good-rename-dir s L work x p name bn o q
+good s L (rename-file work x p name o bn q) = changes.good-rename-file s L work x p name bn o q
+good s L (delete-dir work x o q) = changes.good-delete-dir s L work x o q
+good s L (delete-file work x o q) = changes.good-delete-file s L work x o q
+good s L (open-dir work x o q) = changes.good-open-dir s L work x o q
+good s L (open-file work x o q) = changes.good-open-file s L work x o q
+good s L (close-dir work x o q) = changes.good-close-dir s L work x o q
+good s L (close-file work x o q) = changes.good-close-file s L work x o q
+
+-- kept: a public call on tables of bytes, answered Done, leaves sound tables of bytes, as long as they were; refused, it leaves tables and open counts as
+-- they were
+pub kept : (s u : State) (answer : Answer) → Lent (s .tables) → Call s answer u → KeptBy s answer u
+kept s u answer L c = let g = good s L c in (g .done, g .same)
+
+-- run-sound: over any history from sound tables, whatever the calls answer, the tables stay sound
+pub run-sound : (s t : State) → Whole (s .tables) → Run s t → Whole (t .tables)
+run-sound s t w none = w
+run-sound s t w (calls r u answer run c) = let v : Whole (r .tables) = run-sound s r w run in good r (v .lent) c .stays v
+
+-- format-sound: and so from a format that is answered Done
+pub format-sound : (s t : State) (dm fm : ℕ) (o : Carry) → Lent (s .tables) → FormatPromise (s .tables) dm fm o → o .answer ≡ Done
+    → Run (state (o .tables) (s .dirOpens) (s .fileOpens)) t → Whole (t .tables)
+format-sound s t dm fm o L p e r = run-sound (state (o .tables) (s .dirOpens) (s .fileOpens)) t (good-format s L dm fm o p .done e .0) r
+
+-- never-broken: after such a history no public call answers BrokenTree, the test among them
+pub never-broken : (s t u : State) (answer : Answer) → Whole (s .tables) → Run s t → Call t answer u → answer ≡ BrokenTree → ⊥
+never-broken s t u answer w r c = let v = run-sound s t w r in good t (v .lent) c .unbroken (v .sound)
+
+-- test-accepts: and the test, lent a work list that is long enough, answers Done
+pub test-accepts : (s t : State) (work : List ℕ) (o : Tested × List ℕ) → Whole (s .tables) → Run s t
+    → rooms (t .tables .dirTable) (t .tables .fileTable) ≤ length work
+    → First (treeGate tested (t .tables .dirHash) (t .tables .dirTable) (t .tables .fileHash) (t .tables .fileTable) work)
+    (testDone (t .tables .dirTable) (t .tables .fileTable) work) o
+    → o .0 .answer ≡ Done
+test-accepts s t work o w r h =
+    let v : Whole (t .tables) = run-sound s t w r in
+    of-first (λ (x : Tested × List ℕ). x .0 .answer ≡ Done)
+    (treeGate tested (t .tables .dirHash) (t .tables .dirTable) (t .tables .fileHash) (t .tables .fileTable) work)
+    (testDone (t .tables .dirTable) (t .tables .fileTable) work) o (
+      λ m. absurd (v .fits m),
+      (λ m. absurd (v .inside m), (λ (k : length work < rooms (t .tables .dirTable) (t .tables .fileTable)). absurd (omega arith), (λ n. absurd (n (v .sound)), tt))),
+    )
+    (λ _. refl)

@@ -1,0 +1,29 @@
+-- What a call leaves of the entry tables. Assumes nothing.
+use mathlib.Core.Path.{_≡_}
+use mathlib.Core.List.{List}
+use lib.ListN.{length}
+use Rattle.words.specs.Word.{AreBytes}
+use Rattle.tree_sound.specs.Sizes.{Misfit, Outside}
+use Rattle.tree_sound.specs.Sound.{Sound}
+use Rattle.tree_promises.specs.Tables.{Tables, dirs, files}
+
+-- four tables as they can be lent: bytes
+pub record Lent (s : Tables) : Type 0 where
+  pub dir-hash : AreBytes (s .dirHash)
+  pub dir-table : AreBytes (s .dirTable)
+  pub file-hash : AreBytes (s .fileHash)
+  pub file-table : AreBytes (s .fileTable)
+
+-- four tables of bytes whose sizes are within document 01's, and that are sound
+pub record Whole (s : Tables) : Type 0 where
+  pub lent : Lent s
+  pub fits : Misfit (s .dirHash) (s .dirTable) (s .fileHash) (s .fileTable) → ⊥
+  pub inside : Outside (s .dirHash) (s .dirTable) (s .fileHash) (s .fileTable) → ⊥
+  pub sound : Sound (dirs s) (files s)
+
+-- the tables s′ are as long as the tables s
+pub record SameSizes (s s′ : Tables) : Type 0 where
+  pub dir-hash : length (s′ .dirHash) ≡ length (s .dirHash)
+  pub dir-table : length (s′ .dirTable) ≡ length (s .dirTable)
+  pub file-hash : length (s′ .fileHash) ≡ length (s .fileHash)
+  pub file-table : length (s′ .fileTable) ≡ length (s .fileTable)

@@ -1,0 +1,338 @@
+-- The calls that change sound tables, by the places of their code. Assumes nothing.
+use mathlib.Core.Path.{_≡_, refl, sym, ap, ap₂, _∙_, subst}
+use mathlib.Core.Bool.{Bool, true, false}
+use mathlib.Core.List.{List, [], _∷_, _++_}
+use mathlib.Core.Logic.{_⊎_, inl, inr, ⊎-elim, _≢_}
+use Prim.Native.Nat.{ℕ, zero, suc, _+_, _-_, _*_, _/_, _%_, _≤_, _<_}
+use native.Mathlib.Omega.{arith}
+use lib.Dec.{eqb}
+use lib.ListN.{length, getD, set}
+use Rattle.order.specs.First.{Row, row, First}
+use Rattle.order.specs.Given.{Given, None}
+use Rattle.order.specs.declared.Answer.{Answer}
+use Rattle.order.specs.declared.Answer.the-variants.{Done, NotFound, NotOpen, Busy, DeletingRoot, IntoItself, AlreadyExist, NoSpace}
+use Rattle.words.specs.Word.{word}
+use Rattle.links.specs.Links.{_∈_, Links, Holds}
+use Rattle.links.specs.Change.{walk}
+use Rattle.links.proofs.Laws.{walked, fewer}
+use Rattle.links.proofs.Held.{same-or}
+use Rattle.tree_key.specs.Key.{nameKey}
+use Rattle.tree_table.specs.Field.{field, wrote}
+use Rattle.tree_table.specs.View.{View, LiveIn, keyAt, parent}
+use Rattle.tree_table.specs.Steps.{freeOf, giveWrites}
+use Rattle.tree_table.specs.Chain.{linkAt, listAt, Ends, member}
+use Rattle.tree_table.proofs.Chain.{member-in, not-member}
+use Rattle.tree_table.proofs.Field.{length-wrote}
+use Rattle.tree_sound.specs.Sound.{Table, Sound, up}
+use Rattle.tree_promises.specs.Tables.{Tables, tables, dirs, files, above, Has, HasOther}
+use Rattle.tree_promises.specs.Steps.{unlinkedDir, unlinkedFile, linkedDir, linkedFile}
+use Rattle.tree_promises.specs.Calls.{giving, heldTests, deleteTests, deleteDirTests, renameDirTests, renameFileTests, makeTests, changeGives, deleteFileRows, deleteFileDone, deleteDirRows, deleteDirDone, renameFileRows, renameFileDone, renameDirRows, renameDirDone, opened}
+use Rattle.tree_promises.specs.Ready.{Ready, LiveAt, Single, alone, hashed}
+use Rattle.tree_inner.specs.Seat.{headOf, Listed}
+use Rattle.tree_inner.specs.Judge.{JudgedBy}
+use Rattle.tree_inner.specs.declared.judge.Judged.{Judged}
+use Rattle.tree_inner.specs.declared.judge.Judged.the-variants.{Go, Refused}
+use Rattle.tree_inner.proofs.Lists.{inside, all-fit, count-few, child-ends, child-list, dir-single, file-single, ends-of, list-of}
+use Rattle.tree_marks.specs.Marks.{Tells}
+use Rattle.tree_test.proofs.Cases.{tells-not}
+use Rattle.tree_inner.proofs.Judges.{given-behind, none-both, passed, given-first, none-first, live-sure}
+
+-- ---- where a live entry stands in its parent's list
+
+module _ (s : Tables) (R : Ready s) (x : ℕ) where
+  -- a list of live entries is what a walk of the code finds
+  list-holds : (h t : List ℕ) (w : ℕ) (S : Single h t w) (first : ℕ) (P : ℕ → Type 0) (H : Holds (λ y. field w t y 6) first (λ y. LiveAt w t y × P y)) → listAt t w 20 first ≡ H .0
+  list-holds h t w S first P H =
+      child-list h t w S first P H
+      ∙ walked (λ y. field w t y 6) (field w t 0 1) first (H .0) (H .1)
+      (let q : length (H .0) < field w t 0 1 = fewer (λ y. field w t y 6) (field w t 0 1) first (H .0) (S .table .count-one) (H .1) (λ y m. H .2 y .0 m .0 .1) in omega arith)
+
+  module _ (l : LiveIn (dirs s) x) (n : x ≢ 1) where
+    dir-up : LiveIn (dirs s) (field 40 (s .dirTable) x 1)
+    dir-up = R .sound .dir-parents x l n
+
+    pub dir-listed : Listed (s .dirTable) 24 (s .dirTable) 40 x
+    unfolding field
+    dir-listed =
+        let H = R .sound .sub-dirs (field 40 (s .dirTable) x 1) dir-up in
+        let S = dir-single s R in
+        let P : ℕ → Type 0 = λ y. up (dirs s) y ≡ field 40 (s .dirTable) x 1 in
+        record {
+          inside = inside (s .dirTable) 40 x (field 40 (s .dirTable) 0 1) (l .1) (all-fit (s .dirHash) (s .dirTable) 40 S);
+          up-inside = inside (s .dirTable) 40 (field 40 (s .dirTable) x 1) (field 40 (s .dirTable) 0 1) (dir-up .1) (all-fit (s .dirHash) (s .dirTable) 40 S);
+          ends = child-ends (s .dirHash) (s .dirTable) 40 S (dirs s .head (field 40 (s .dirTable) x 1)) P H;
+          there = subst (λ z. x ∈ z) (sym (list-holds (s .dirHash) (s .dirTable) 40 S (dirs s .head (field 40 (s .dirTable) x 1)) P H)) (H .2 x .1 (l, refl));
+          walked = child-list (s .dirHash) (s .dirTable) 40 S (dirs s .head (field 40 (s .dirTable) x 1)) P H;
+        }
+
+  module _ (l : LiveIn (files s) x) where
+    file-up : LiveIn (dirs s) (field 48 (s .fileTable) x 1)
+    file-up = R .sound .file-parents x l
+
+    pub file-listed : Listed (s .dirTable) 28 (s .fileTable) 48 x
+    unfolding field
+    file-listed =
+        let H = R .sound .sub-files (field 48 (s .fileTable) x 1) file-up in
+        let S = file-single s R in
+        let P : ℕ → Type 0 = λ y. up (files s) y ≡ field 48 (s .fileTable) x 1 in
+        record {
+          inside = inside (s .fileTable) 48 x (field 48 (s .fileTable) 0 1) (l .1) (all-fit (s .fileHash) (s .fileTable) 48 S);
+          up-inside = inside (s .dirTable) 40 (field 48 (s .fileTable) x 1) (field 40 (s .dirTable) 0 1) (file-up .1) (all-fit (s .dirHash) (s .dirTable) 40 (dir-single s R));
+          ends = child-ends (s .fileHash) (s .fileTable) 48 S (files s .head (field 48 (s .fileTable) x 1)) P H;
+          there = subst (λ z. x ∈ z) (sym (list-holds (s .fileHash) (s .fileTable) 48 S (files s .head (field 48 (s .fileTable) x 1)) P H)) (H .2 x .1 (l, refl));
+          walked = child-list (s .fileHash) (s .fileTable) 48 S (files s .head (field 48 (s .fileTable) x 1)) P H;
+        }
+
+-- ---- the way up
+
+module _ (s : Tables) (R : Ready s) where
+  abbrev D : View
+  D = dirs s
+
+  root-up : up D 1 ≡ 0
+  root-up = ap parent (R .sound .root-key)
+
+  none-above : (z : ℕ) (zs : List ℕ) → Links (up D) 0 zs → z ∈ zs → ⊥
+  none-above z (b ∷ zs) k i = let p : 0 ≡ b = k .0 in let q : 0 < b = k .1 in omega arith
+
+  -- the directories above a live one are live
+  pub above-live : (y : ℕ) (xs : List ℕ) → LiveIn D y → Links (up D) y xs → (z : ℕ) → z ∈ xs → LiveIn D z
+  above-live y (a ∷ xs) ly l z (inl e) = subst (λ w. LiveIn D w) (l .0 ∙ sym e) ly
+  above-live y (a ∷ xs) ly l z (inr m) =
+      ⊎-elim
+      (λ (e : a ≡ 1). absurd (none-above z xs (subst (λ w. Links (up D) w xs) (ap (up D) e ∙ root-up) (l .2)) m))
+      (λ (n : a ≢ 1).
+      above-live (up D a) xs (R .sound .dir-parents a (subst (λ w. LiveIn D w) (l .0) ly) n) (l .2) z m)
+      (same-or a 1)
+
+  module _ (p : ℕ) (lp : LiveIn D p) where
+    S : Single (s .dirHash) (s .dirTable) 40
+    S = dir-single s R
+
+    up-same : (y : ℕ) → linkAt (s .dirTable) 40 0 y ≡ field 40 (s .dirTable) y 1
+    unfolding field
+    up-same y = refl
+
+    pub above-ends : Ends (s .dirTable) 40 0 p
+    above-ends =
+        let r = R .sound .reach p lp in
+        ends-of (s .dirTable) 40 0 (field 40 (s .dirTable) 0 1) p (λ y. field 40 (s .dirTable) y 1) up-same (r .0) (r .1) (R .sound .dirs .count-one)
+        (count-few (s .dirHash) (s .dirTable) 40 (dir-single s R)) (all-fit (s .dirHash) (s .dirTable) 40 (dir-single s R)) (λ y m. above-live p (r .0) lp (r .1) y m .1)
+
+    pub above-list : listAt (s .dirTable) 40 0 p ≡ above D p
+    above-list =
+        let r = R .sound .reach p lp in
+        list-of (s .dirTable) 40 0 (field 40 (s .dirTable) 0 1) p (λ y. field 40 (s .dirTable) y 1) up-same (r .0) (r .1) (R .sound .dirs .count-one)
+        (count-few (s .dirHash) (s .dirTable) 40 (dir-single s R)) (all-fit (s .dirHash) (s .dirTable) 40 (dir-single s R)) (λ y m. above-live p (r .0) lp (r .1) y m .1)
+
+-- ---- the tests of rename and make
+
+never : (n : ℕ) → n + 1 ≡ 0 → ⊥
+never n e = omega arith
+
+module _ (s : Tables) (opens : List ℕ) (x p : ℕ) (name : List ℕ) where
+  module _ (held : None (heldTests (files s) opens x)) where
+    pub file-parent : {r : Bool} → Tells (LiveIn (dirs s) p) r → r ≡ false → Given (renameFileTests s opens x p name) NotFound
+    file-parent T e = inr (held .0, inr (held .1 .0, inl (tells-not T e, refl)))
+
+    pub file-exists : {r q : Bool} → Tells (LiveIn (dirs s) p) r → r ≡ true → Tells (HasOther (files s) x (nameKey p name)) q → q ≡ true
+        → Given (renameFileTests s opens x p name) AlreadyExist
+    file-exists T e O f = inr (held .0, inr (held .1 .0, inr (λ n. n (T .yes e), inl (O .yes f, refl))))
+
+    pub file-go : {r q : Bool} → Tells (LiveIn (dirs s) p) r → r ≡ true → Tells (HasOther (files s) x (nameKey p name)) q → q ≡ false
+        → None (renameFileTests s opens x p name)
+    file-go T e O f = (held .0, (held .1 .0, (λ n. n (T .yes e), (tells-not O f, (never (freeOf (files s)), tt)))))
+
+  module _ (held : None (heldTests (dirs s) opens x)) where
+    pub dir-first : x ≡ 1 → Given (renameDirTests s opens x p name) DeletingRoot
+    dir-first e = inr (held .0, inr (held .1 .0, inl (e, refl)))
+
+    module _ (n1 : x ≡ 1 → ⊥) {r : Bool} (T : Tells (LiveIn (dirs s) p) r) where
+      pub dir-parent : r ≡ false → Given (renameDirTests s opens x p name) NotFound
+      dir-parent e = inr (held .0, inr (held .1 .0, inr (n1, inl (tells-not T e, refl))))
+
+      module _ (e : r ≡ true) {m : Bool} (em : m ≡ member x (listAt (s .dirTable) 40 0 p)) (R : Ready s) where
+        pub dir-into : m ≡ true → Given (renameDirTests s opens x p name) IntoItself
+        dir-into f =
+            inr (
+              held .0,
+              inr (
+                held .1 .0,
+                inr (
+                  n1,
+                  inr (
+                    λ n. n (T .yes e),
+                    inl (subst (λ z. x ∈ z) (above-list s R p (T .yes e)) (member-in x (listAt (s .dirTable) 40 0 p) (sym em ∙ f)), refl),
+                  ),
+                ),
+              ),
+            )
+
+        apart : m ≡ false → x ∈ above (dirs s) p → ⊥
+        apart f i = not-member x (listAt (s .dirTable) 40 0 p) (sym em ∙ f) (subst (λ z. x ∈ z) (sym (above-list s R p (T .yes e))) i)
+
+        pub dir-exists : {q : Bool} → m ≡ false → Tells (HasOther (dirs s) x (nameKey p name)) q → q ≡ true → Given (renameDirTests s opens x p name) AlreadyExist
+        dir-exists f O g = inr (held .0, inr (held .1 .0, inr (n1, inr (λ n. n (T .yes e), inr (apart f, inl (O .yes g, refl))))))
+
+        pub dir-free : {q : Bool} → m ≡ false → Tells (HasOther (dirs s) x (nameKey p name)) q → q ≡ false → None (renameDirTests s opens x p name)
+        dir-free f O g = (held .0, (held .1 .0, (n1, (λ n. n (T .yes e), (apart f, (tells-not O g, (never (freeOf (dirs s)), tt)))))))
+
+module _ (s : Tables) (v : View) (p : ℕ) (k : List ℕ) {r : Bool} (T : Tells (LiveIn (dirs s) p) r) where
+  pub make-parent : r ≡ false → Given (makeTests s v p k) NotFound
+  make-parent e = inl (tells-not T e, refl)
+
+  module _ (e : r ≡ true) {q : Bool} (O : Tells (HasOther v 0 k) q) where
+    pub make-exists : q ≡ true → Given (makeTests s v p k) AlreadyExist
+    make-exists f = let o = O .yes f in inr (λ n. n (T .yes e), inl ((o .0, o .1, o .3), refl))
+
+    fresh : q ≡ false → Has v k → ⊥
+    fresh f h = tells-not O f (h .0, h .1, (λ (z : h .0 ≡ 0). let u : 0 < h .0 = h .1 .0 in omega arith), h .2)
+
+    pub make-full : {u : Bool} → q ≡ false → Tells (freeOf v ≡ 0) u → u ≡ true → Given (makeTests s v p k) NoSpace
+    make-full f F g = inr (λ n. n (T .yes e), inr (fresh f, inl (F .yes g, refl)))
+
+    pub make-go : {u : Bool} → q ≡ false → Tells (freeOf v ≡ 0) u → u ≡ false → None (makeTests s v p k)
+    make-go f F g = (λ n. n (T .yes e), (fresh f, (tells-not F g, tt)))
+
+-- ---- what the calls give
+
+-- a call whose tests refuse
+pub call-refused : {A : Type 0} (g : Answer → A) (d : A) (tests : List (Row Answer)) (j : Judged) (a : Answer) → JudgedBy tests j → j ≡ Refused a → First (giving g tests) d (g a)
+call-refused g d tests j a J e = given-first g d tests a (subst (JudgedBy tests) e J)
+
+-- a call that went
+pub call-done : {A : Type 0} (g : Answer → A) (d o : A) (tests : List (Row Answer)) → None tests → o ≡ d → First (giving g tests) d o
+call-done g d o tests n e = subst (λ z. First (giving g tests) d z) (sym e) (none-first g d tests n)
+
+pub deleted-file : (dh d h f d′ h′ f1 f2 opens opens′ : List ℕ) (x i : ℕ) → i ≡ x → d′ ≡ unlinkedFile (tables [] d h f) x .dirTable → h′ ≡ unlinkedFile (tables [] d h f) x .fileHash
+    → f1 ≡ unlinkedFile (tables [] d h f) x .fileTable → f2 ≡ wrote 48 f1 (giveWrites 48 (field 48 f1) x) → opens′ ≡ set opens i 0
+    → changeGives Done (tables dh d′ h′ f2) opens′ ≡ deleteFileDone (tables dh d h f) opens x
+deleted-file dh d h f d′ h′ f1 f2 opens opens′ x i ei ed eh e1 e2 eo =
+    ap (λ z. changeGives Done (tables dh d′ h′ f2) z) (eo ∙ ap (λ z. set opens z 0) ei)
+    ∙ ap (λ z. changeGives Done (tables dh z h′ f2) (set opens x 0)) ed
+    ∙ ap₂ (λ y z. changeGives Done (tables dh (unlinkedFile (tables [] d h f) x .dirTable) y z) (set opens x 0)) eh
+    (e2 ∙ ap (λ z. wrote 48 z (giveWrites 48 (field 48 z) x)) e1)
+
+pub deleted-dir : (h d fh f h′ d1 d2 opens opens′ : List ℕ) (x i : ℕ) → i ≡ x → h′ ≡ unlinkedDir (tables h d [] []) x .dirHash → d1 ≡ unlinkedDir (tables h d [] []) x .dirTable
+    → d2 ≡ wrote 40 d1 (giveWrites 40 (field 40 d1) x) → opens′ ≡ set opens i 0
+    → changeGives Done (tables h′ d2 fh f) opens′ ≡ deleteDirDone (tables h d fh f) opens x
+deleted-dir h d fh f h′ d1 d2 opens opens′ x i ei eh e1 e2 eo =
+    ap (λ z. changeGives Done (tables h′ d2 fh f) z) (eo ∙ ap (λ z. set opens z 0) ei)
+    ∙ ap₂ (λ y z. changeGives Done (tables y z fh f) (set opens x 0)) eh (e2 ∙ ap (λ z. wrote 40 z (giveWrites 40 (field 40 z) x)) e1)
+
+pub renamed-file : (dh d h f d1 h1 f1 d2 h2 f2 opens : List ℕ) (x p : ℕ) (name : List ℕ)
+    → d1 ≡ unlinkedFile (tables [] d h f) x .dirTable → h1 ≡ unlinkedFile (tables [] d h f) x .fileHash → f1 ≡ unlinkedFile (tables [] d h f) x .fileTable
+    → d2 ≡ linkedFile (tables [] d1 h1 f1) x p name .dirTable → h2 ≡ linkedFile (tables [] d1 h1 f1) x p name .fileHash → f2 ≡ linkedFile (tables [] d1 h1 f1) x p name .fileTable
+    → changeGives Done (tables dh d2 h2 f2) opens ≡ renameFileDone (tables dh d h f) opens x p name
+renamed-file dh d h f d1 h1 f1 d2 h2 f2 opens x p name ed eh ef ed2 eh2 ef2 =
+    ap (λ z. changeGives Done (tables dh z h2 f2) opens) ed2
+    ∙ ap₂ (λ y z. changeGives Done (tables dh (linkedFile (tables [] d1 h1 f1) x p name .dirTable) y z) opens) eh2 ef2
+    ∙ ap (λ z. changeGives Done (linkedFile (tables dh z h1 f1) x p name) opens) ed
+    ∙ ap₂ (λ y z. changeGives Done (linkedFile (tables dh (unlinkedFile (tables [] d h f) x .dirTable) y z) x p name) opens) eh ef
+
+pub renamed-dir : (h d fh f h1 d1 h2 d2 opens : List ℕ) (x p : ℕ) (name : List ℕ) → h1 ≡ unlinkedDir (tables h d [] []) x .dirHash → d1 ≡ unlinkedDir (tables h d [] []) x .dirTable
+    → h2 ≡ linkedDir (tables h1 d1 [] []) x p name .dirHash → d2 ≡ linkedDir (tables h1 d1 [] []) x p name .dirTable
+    → changeGives Done (tables h2 d2 fh f) opens ≡ renameDirDone (tables h d fh f) opens x p name
+renamed-dir h d fh f h1 d1 h2 d2 opens x p name eh ed eh2 ed2 =
+    ap₂ (λ y z. changeGives Done (tables y z fh f) opens) eh2 ed2
+    ∙ ap₂ (λ y z. changeGives Done (linkedDir (tables y z fh f) x p name) opens) eh ed
+
+-- the steps keep every length
+pub same-dirs : (h d : List ℕ) (x : ℕ) (d1 : List ℕ) → d1 ≡ unlinkedDir (tables h d [] []) x .dirTable → length d1 ≡ length d
+same-dirs h d x d1 e = ap length e ∙ simp length-wrote
+
+pub same-dir-hash : (h d : List ℕ) (x : ℕ) (h1 : List ℕ) → h1 ≡ unlinkedDir (tables h d [] []) x .dirHash → length h1 ≡ length h
+same-dir-hash h d x h1 e = ap length e ∙ simp length-wrote
+
+pub same-files : (d h f : List ℕ) (x : ℕ) (f1 : List ℕ) → f1 ≡ unlinkedFile (tables [] d h f) x .fileTable → length f1 ≡ length f
+same-files d h f x f1 e = ap length e ∙ simp length-wrote
+
+pub same-file-hash : (d h f : List ℕ) (x : ℕ) (h1 : List ℕ) → h1 ≡ unlinkedFile (tables [] d h f) x .fileHash → length h1 ≡ length h
+same-file-hash d h f x h1 e = ap length e ∙ simp length-wrote
+
+pub same-file-dirs : (d h f : List ℕ) (x : ℕ) (d1 : List ℕ) → d1 ≡ unlinkedFile (tables [] d h f) x .dirTable → length d1 ≡ length d
+same-file-dirs d h f x d1 e = ap length e ∙ simp length-wrote
+
+pub other-key : (v : View) (x : ℕ) {k k′ : List ℕ} {r : Bool} → k ≡ k′ → Tells (HasOther v x k) r → Tells (HasOther v x k′) r
+other-key v x {k} {k′} {r} e T = subst (λ z. Tells (HasOther v x z) r) e T
+
+-- what the tests that passed say
+module _ (s : Tables) (R : Ready s) (opens : List ℕ) (x : ℕ) where
+  module _ (n : None (deleteTests (files s) opens x)) where
+    gone-file : LiveIn (files s) x
+    gone-file = live-sure 48 (s .fileTable) x (n .0)
+
+    pub delete-file-asks : Single (s .fileHash) (s .fileTable) 48 × LiveAt 48 (s .fileTable) x × Listed (s .dirTable) 28 (s .fileTable) 48 x
+    delete-file-asks = (file-single s R, gone-file, file-listed s R x gone-file)
+
+    pub give-file-asks : {f1 : List ℕ} → f1 ≡ unlinkedFile (tables [] (s .dirTable) (s .fileHash) (s .fileTable)) x .fileTable → (x * 48 + 48 ≤ length f1) × (4 ≤ 48) × (0 < x)
+    give-file-asks {f1} e =
+        (omega (arith, file-listed s R x gone-file .inside, same-files (s .dirTable) (s .fileHash) (s .fileTable) x f1 e), omega arith, gone-file .0)
+
+    pub file-opens : length (s .fileTable) / 48 ≤ length opens → (i : ℕ) → i ≡ x → i < length opens
+    file-opens room i q = let l : x < field 48 (s .fileTable) 0 1 = gone-file .1 in omega (arith, R .sound .files .count-max, R .sound .files .max-room)
+
+  module _ (n : None (deleteDirTests s opens x)) where
+    gone-dir : LiveIn (dirs s) x
+    gone-dir = live-sure 40 (s .dirTable) x (n .0)
+
+    not-root : x ≢ 1
+    not-root = n .1 .1 .1 .0
+
+    pub delete-dir-asks : Single (s .dirHash) (s .dirTable) 40 × LiveAt 40 (s .dirTable) x × Listed (s .dirTable) 24 (s .dirTable) 40 x
+    delete-dir-asks = (dir-single s R, gone-dir, dir-listed s R x gone-dir not-root)
+
+    pub give-dir-asks : {d1 : List ℕ} → d1 ≡ unlinkedDir (tables (s .dirHash) (s .dirTable) [] []) x .dirTable → (x * 40 + 40 ≤ length d1) × (4 ≤ 40) × (0 < x)
+    give-dir-asks {d1} e =
+        (omega (arith, dir-listed s R x gone-dir not-root .inside, same-dirs (s .dirHash) (s .dirTable) x d1 e), omega arith, gone-dir .0)
+
+    pub dir-opens : length (s .dirTable) / 40 ≤ length opens → (i : ℕ) → i ≡ x → i < length opens
+    dir-opens room i q = let l : x < field 40 (s .dirTable) 0 1 = gone-dir .1 in omega (arith, R .sound .dirs .count-max, R .sound .dirs .max-room)
+
+  module _ (p : ℕ) (name : List ℕ) where
+    module _ (n : None (renameFileTests s opens x p name)) where
+      moved-file : LiveIn (files s) x
+      moved-file = live-sure 48 (s .fileTable) x (n .0)
+
+      file-goal : LiveIn (dirs s) p
+      file-goal = live-sure 40 (s .dirTable) p (n .1 .1 .0)
+
+      pub rename-file-asks : Single (s .fileHash) (s .fileTable) 48 × LiveAt 48 (s .fileTable) x × Listed (s .dirTable) 28 (s .fileTable) 48 x
+      rename-file-asks = (file-single s R, moved-file, file-listed s R x moved-file)
+
+      abbrev before-file : Tables
+      before-file = tables [] (s .dirTable) (s .fileHash) (s .fileTable)
+
+      pub link-file-asks : {d1 h1 f1 : List ℕ} → d1 ≡ unlinkedFile before-file x .dirTable → h1 ≡ unlinkedFile before-file x .fileHash → f1 ≡ unlinkedFile before-file x .fileTable
+          → (x * 48 + 48 ≤ length f1) × (p * 40 + 40 ≤ length d1) × (0 < length h1 / 4)
+      link-file-asks {d1} {h1} {f1} qd qh qf =
+          let ed = same-file-dirs (s .dirTable) (s .fileHash) (s .fileTable) x d1 qd in
+          let eh = same-file-hash (s .dirTable) (s .fileHash) (s .fileTable) x h1 qh in
+          let ef = same-files (s .dirTable) (s .fileHash) (s .fileTable) x f1 qf in (
+            omega (arith, file-listed s R x moved-file .inside),
+            omega (arith, inside (s .dirTable) 40 p (field 40 (s .dirTable) 0 1) (file-goal .1) (all-fit (s .dirHash) (s .dirTable) 40 (dir-single s R))),
+            subst (λ z. 0 < z / 4) (sym eh) (R .file-buckets),
+          )
+
+    module _ (n : None (renameDirTests s opens x p name)) where
+      moved-dir : LiveIn (dirs s) x
+      moved-dir = live-sure 40 (s .dirTable) x (n .0)
+
+      dir-goal : LiveIn (dirs s) p
+      dir-goal = live-sure 40 (s .dirTable) p (n .1 .1 .1 .0)
+
+      pub rename-dir-asks : Single (s .dirHash) (s .dirTable) 40 × LiveAt 40 (s .dirTable) x × Listed (s .dirTable) 24 (s .dirTable) 40 x
+      rename-dir-asks = (dir-single s R, moved-dir, dir-listed s R x moved-dir (n .1 .1 .0))
+
+      abbrev before-dir : Tables
+      before-dir = tables (s .dirHash) (s .dirTable) [] []
+
+      pub link-dir-asks : {h1 d1 : List ℕ} → h1 ≡ unlinkedDir before-dir x .dirHash → d1 ≡ unlinkedDir before-dir x .dirTable
+          → (x * 40 + 40 ≤ length d1) × (p * 40 + 40 ≤ length d1) × (0 < length h1 / 4)
+      link-dir-asks {h1} {d1} qh qd =
+          let eh = same-dir-hash (s .dirHash) (s .dirTable) x h1 qh in
+          let ed = same-dirs (s .dirHash) (s .dirTable) x d1 qd in (
+            omega (arith, dir-listed s R x moved-dir (n .1 .1 .0) .inside),
+            omega (arith, inside (s .dirTable) 40 p (field 40 (s .dirTable) 0 1) (dir-goal .1) (all-fit (s .dirHash) (s .dirTable) 40 (dir-single s R))),
+            subst (λ z. 0 < z / 4) (sym eh) (R .dir-buckets),
+          )

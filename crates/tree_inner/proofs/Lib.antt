@@ -1,0 +1,10 @@
+pub mod Lists
+pub mod Live
+pub mod Opens
+pub mod Lookups
+pub mod Listings
+pub mod Seats
+pub mod Links
+pub mod Judges
+pub mod Changes
+pub mod Makes

@@ -1,0 +1,142 @@
+-- The rows of the listings and of stat, by the places of their code. Assumes nothing.
+use mathlib.Core.Path.{_≡_, refl, sym, ap, _∙_, subst}
+use mathlib.Core.Bool.{Bool, true, false}
+use mathlib.Core.List.{List, [], _∷_, _++_}
+use mathlib.Core.Logic.{_⊎_, inl, inr}
+use Prim.Native.Nat.{ℕ, suc, _+_, _-_, _*_, _/_, _≤_, _<_}
+use native.Mathlib.Numerals.{add-one}
+use native.Mathlib.Omega.{arith}
+use lib.ListN.{length, getD, set, take, drop, length-drop}
+use lib.Seq.{drop-cons, take-all, take-suc, take-suc-set, getD-drop}
+use Rattle.order.specs.First.{First}
+use Rattle.order.specs.declared.Answer.{Answer}
+use Rattle.order.specs.declared.Answer.the-variants.{Done, NotFound, ListTooShort}
+use Rattle.words.specs.Word.{word}
+use Rattle.links.specs.Links.{_∈_, Holds}
+use Rattle.tree_table.specs.Field.{field}
+use Rattle.tree_table.specs.View.{View, childrenOf, removedOf, LiveIn}
+use Rattle.tree_table.specs.Steps.{freeOf}
+use Rattle.tree_table.specs.Chain.{listAt, Ends}
+use Rattle.tree_marks.specs.Marks.{Tells}
+use Rattle.tree_promises.specs.Tables.{Tables, dirs, files}
+use Rattle.tree_promises.specs.Ready.{Ready, LiveAt, Single, alone}
+use Rattle.tree_promises.specs.Calls.{Listing, listGives, shortRows, listedDone, ListDirs, ListFiles, part}
+use Rattle.tree_inner.proofs.Lists.{inside, all-fit, removed-ends, removed-list, child-ends, child-list, dir-single, file-single}
+use Rattle.tree_inner.proofs.Live.{count-word, first-fits}
+use Rattle.tree_test.proofs.Cases.{tells-not}
+
+pub short-done : (xs list l : List ℕ) (n : ℕ) → n ≡ length xs → n ≤ length list → l ≡ xs ++ drop (length xs) list
+    → First (shortRows xs list) (listedDone xs list) (listGives Done n l)
+short-done xs list l n e h q = inr (λ k. omega arith, (ap (λ z. listGives Done z l) e ∙ ap (listGives Done (length xs)) q))
+
+-- four bytes, one by one
+pub four-bytes : (t : List ℕ) (at : ℕ) → at + 4 ≤ length t
+    → getD t at 0 ∷ getD t (at + 1) 0 ∷ getD t (at + 2) 0 ∷ getD t (at + 3) 0 ∷ [] ≡ take 4 (drop at t)
+four-bytes t at h =
+    let a = drop-cons t at 0 (omega arith) in
+    let b = drop-cons t (suc at) 0 (omega arith) in
+    let c = drop-cons t (suc (suc at)) 0 (omega arith) in
+    let d = drop-cons t (suc (suc (suc at))) 0 (omega arith) in
+    let e1 : at + 1 ≡ suc at = omega arith in
+    let e2 : at + 2 ≡ suc (suc at) = omega arith in
+    let e3 : at + 3 ≡ suc (suc (suc at)) = omega arith in
+    rw (e1, e2, e3, a, b, c, d)
+
+-- one byte more of a part
+pub part-more : (t out : List ℕ) (at i n : ℕ) → length out ≡ n → i < n → at + n ≤ length t → take i out ≡ take i (drop at t)
+    → take (i + 1) (set out i (getD t (at + i) 0)) ≡ take (i + 1) (drop at t)
+part-more t out at i n e h k p =
+    let a = take-suc-set out i (getD t (at + i) 0) (omega arith) in
+    let b = take-suc (drop at t) i 0 (omega (arith, length-drop at t)) in
+    let d = getD-drop at t i 0 in
+    rw (add-one, a, b, d, p)
+
+-- the listing of a live directory's children
+module _ (s : Tables) (R : Ready s) (x i : ℕ) {r : Bool} (T : Tells (LiveAt 40 (s .dirTable) x) r) (yes : r ≡ true) (e : i ≡ x) where
+  live-x : LiveIn (dirs s) x
+  live-x = T .yes yes
+
+  -- its entry lies in the table
+  pub dir-fits : i * 40 + 40 ≤ length (s .dirTable)
+  dir-fits =
+      inside (s .dirTable) 40 i (field 40 (s .dirTable) 0 1) (let l : x < field 40 (s .dirTable) 0 1 = live-x .1 in omega arith)
+      (all-fit (s .dirHash) (s .dirTable) 40 (dir-single s R))
+
+  sub-dir : word (s .dirTable) (i * 40 + 24) ≡ dirs s .head x
+  unfolding field
+  sub-dir = ap (λ z. word (s .dirTable) (z * 40 + 24)) e
+
+  sub-file : word (s .dirTable) (i * 40 + 28) ≡ files s .head x
+  unfolding field
+  sub-file = ap (λ z. word (s .dirTable) (z * 40 + 28)) e
+
+  module _ (first : ℕ) where
+    pub dirs-end : first ≡ word (s .dirTable) (i * 40 + 24) → Ends (s .dirTable) 40 20 first
+    dirs-end f =
+        subst (λ z. Ends (s .dirTable) 40 20 z) (sym (f ∙ sub-dir))
+        (child-ends (s .dirHash) (s .dirTable) 40 (dir-single s R) (dirs s .head x) _ (R .sound .sub-dirs x live-x))
+
+    pub files-end : first ≡ word (s .dirTable) (i * 40 + 28) → Ends (s .fileTable) 48 20 first
+    files-end f =
+        subst (λ z. Ends (s .fileTable) 48 20 z) (sym (f ∙ sub-file))
+        (child-ends (s .fileHash) (s .fileTable) 48 (file-single s R) (files s .head x) _ (R .sound .sub-files x live-x))
+
+    dir-children : first ≡ word (s .dirTable) (i * 40 + 24) → listAt (s .dirTable) 40 20 first ≡ childrenOf (dirs s) x
+    dir-children f =
+        ap (listAt (s .dirTable) 40 20) (f ∙ sub-dir)
+        ∙ child-list (s .dirHash) (s .dirTable) 40 (dir-single s R) (dirs s .head x) _ (R .sound .sub-dirs x live-x)
+
+    file-children : first ≡ word (s .dirTable) (i * 40 + 28) → listAt (s .fileTable) 48 20 first ≡ childrenOf (files s) x
+    file-children f =
+        ap (listAt (s .fileTable) 48 20) (f ∙ sub-file)
+        ∙ child-list (s .fileHash) (s .fileTable) 48 (file-single s R) (files s .head x) _ (R .sound .sub-files x live-x)
+
+    pub dirs-listed : first ≡ word (s .dirTable) (i * 40 + 24) → (list : List ℕ) (o : Listing)
+        → First (shortRows (listAt (s .dirTable) 40 20 first) list) (listedDone (listAt (s .dirTable) 40 20 first) list) o → ListDirs s x list o
+    dirs-listed f list o p = inr (λ n. n live-x, subst (λ xs. First (shortRows xs list) (listedDone xs list) o) (dir-children f) p)
+
+    pub files-listed : first ≡ word (s .dirTable) (i * 40 + 28) → (list : List ℕ) (o : Listing)
+        → First (shortRows (listAt (s .fileTable) 48 20 first) list) (listedDone (listAt (s .fileTable) 48 20 first) list) o → ListFiles s x list o
+    files-listed f list o p = inr (λ n. n live-x, subst (λ xs. First (shortRows xs list) (listedDone xs list) o) (file-children f) p)
+
+-- the free entries of a table
+module _ {h t : List ℕ} {w : ℕ} (S : Single h t w) where
+  max-word : word t 4 ≡ field w t 0 2
+  unfolding field
+  max-word = ap (word t) (omega arith)
+
+  removed-word : word t (w - 4) ≡ field w t 0 0
+  unfolding field
+  removed-word = ap (word t) (omega arith)
+
+  pub removed-there : (first : ℕ) → first ≡ word t (w - 4) → Ends t w (w - 4) first
+  removed-there first e = subst (λ z. Ends t w (w - 4) z) (sym (e ∙ removed-word)) (removed-ends h t w S)
+
+  -- count is at most maximum, as the words that the code reads
+  pub count-within : (c m : ℕ) → c ≡ word t 0 → m ≡ word t 4 → c ≤ m
+  count-within c m e f = omega (arith, S .table .count-max, count-word w t, max-word)
+
+  pub free-is : (c m k first : ℕ) → c ≡ word t 0 → m ≡ word t 4 → first ≡ word t (w - 4) → k ≡ length (listAt t w (w - 4) first) → m - c + k ≡ freeOf (alone w t)
+  free-is c m k first ec em ef ek =
+      let l : listAt t w (w - 4) first ≡ removedOf (alone w t) = ap (listAt t w (w - 4)) (ef ∙ removed-word) ∙ removed-list h t w S in
+      omega (arith, count-word w t, max-word, ap length l)
+
+-- the whole part
+pub part-whole : (t out : List ℕ) (at i n : ℕ) → length out ≡ n → i ≤ n → n ≤ i → take i out ≡ take i (drop at t) → out ≡ take n (drop at t)
+part-whole t out at i n e h k p =
+    let q : i ≡ n = omega arith in
+    sym (take-all n out (omega arith)) ∙ ap (λ z. take z out) (sym q) ∙ p ∙ ap (λ z. take z (drop at t)) q
+
+-- a table's entries in all
+pub total-is : {h t : List ℕ} {w : ℕ} → Single h t w → (m : ℕ) → m ≡ word t 4 → (1 ≤ m) × (m - 1 ≡ field w t 0 2 - 1)
+total-is {h} {t} {w} S m e = (omega (arith, S .table .count-one, S .table .count-max, max-word S), omega (arith, max-word S))
+
+-- the sixteen bytes of a name
+module _ (t : List ℕ) (w x i : ℕ) (e : i ≡ x) where
+  pub name-fits : x * w + w ≤ length t → i * w + w ≤ length t
+  name-fits h = omega (arith, ap (λ (z : ℕ). z * w) e)
+
+  pub name-is : take (i * w + 4 + 16 - (i * w + 4)) (drop (i * w + 4) t) ≡ part w t x 4 16
+  name-is =
+      let a : i * w + 4 + 16 - (i * w + 4) ≡ 16 = omega arith in
+      ap (λ z. take z (drop (i * w + 4) t)) a ∙ ap (λ z. take 16 (drop (z * w + 4) t)) e

@@ -1,0 +1,150 @@
+-- Make on sound tables, by the places of its code. Assumes nothing.
+use mathlib.Core.Path.{_≡_, refl, sym, ap, ap₂, _∙_, subst}
+use mathlib.Core.Bool.{Bool, true, false}
+use mathlib.Core.List.{List, [], _∷_, _++_}
+use mathlib.Core.Logic.{_⊎_, inl, inr, ⊎-elim, _≢_}
+use Prim.Native.Nat.{ℕ, zero, suc, _+_, _-_, _*_, _/_, _%_, _≤_, _<_}
+use native.Mathlib.Omega.{arith}
+use native.Mathlib.Nat.{mul-le-mul-right, suc-mul, div-mul-le-self}
+use lib.Dec.{eqb}
+use lib.ListN.{length, set}
+use Rattle.order.specs.Given.{None}
+use Rattle.order.specs.declared.Answer.the-variants.{Done}
+use Rattle.words.specs.Word.{putWord}
+use Rattle.links.specs.Links.{_∈_, Links}
+use Rattle.links.specs.Change.{pick, walk}
+use Rattle.links.proofs.Laws.{by-eq}
+use Rattle.tree_key.specs.Key.{nameKey}
+use Rattle.tree_table.specs.Field.{field, write, wrote}
+use Rattle.tree_table.specs.View.{removedOf, LiveIn}
+use Rattle.tree_table.specs.Steps.{taken, takeWrites, freeOf}
+use Rattle.tree_table.proofs.Field.{length-wrote}
+use Rattle.tree_promises.specs.Tables.{Tables, tables, dirs, files}
+use Rattle.tree_promises.specs.Steps.{linkedDir, linkedFile, carriedDir, carriedFile, childless, madeDir, madeFile}
+use Rattle.tree_promises.specs.Calls.{makeTests, makeGives, makeDirDone, makeFileDone}
+use Rattle.tree_promises.specs.Ready.{Ready, LiveAt, Single, alone, hashed}
+use Rattle.tree_inner.specs.Take.{Takes}
+use Rattle.tree_inner.proofs.Lists.{inside, all-fit, dir-single, file-single}
+use Rattle.tree_inner.proofs.Live.{first-fits}
+use Rattle.tree_inner.proofs.Judges.{live-sure}
+
+-- a list that does not start at 0 holds its first entry
+first-in : (next : ℕ → ℕ) (h : ℕ) (xs : List ℕ) → Links next h xs → h ≢ 0 → h ∈ xs
+first-in next h [] l n = absurd (n l)
+first-in next h (y ∷ ys) l n = inl (l .0)
+
+none-left : (next : ℕ → ℕ) (k x : ℕ) → x ≡ 0 → length (walk next k x) ≡ 0
+none-left next zero x e = refl
+none-left next (suc k) zero e = refl
+none-left next (suc k) (suc x) e = absurd (omega arith)
+
+module _ {h t : List ℕ} {w : ℕ} (S : Single h t w) (free : freeOf (alone w t) ≡ 0 → ⊥) where
+  abbrev first : ℕ
+  first = field w t 0 0
+
+  abbrev count : ℕ
+  count = field w t 0 1
+
+  -- a removed entry lies below count
+  below : first ≢ 0 → first < count
+  below n = S .table .removed-below first (first-in (λ y. field w t y 0) first (removedOf (alone w t)) (S .table .removed) n)
+
+  -- where none is removed, one was never used
+  left : first ≡ 0 → count < field w t 0 2
+  left e =
+      let z : length (removedOf (alone w t)) ≡ 0 = none-left (λ y. field w t y 0) count first e in
+      let n : (field w t 0 2 - count + length (removedOf (alone w t)) ≡ 0) → ⊥ = free in
+      let q : field w t 0 2 - count + length (removedOf (alone w t)) ≢ 0 = n in
+      omega (arith, S .table .count-max)
+
+  room-low : (x : ℕ) → x < length t / w → x * w + w ≤ length t
+  room-low x l = inside t w x (length t / w) l (div-mul-le-self (length t) w)
+
+  taken-low : taken (alone w t) < length t / w
+  taken-low =
+      by-eq first 0 (λ b. pick b count first < length t / w)
+      (λ e. omega (arith, left e, S .table .max-room))
+      (λ n. omega (arith, below n, S .table .count-max, S .table .max-room))
+
+  pub takes : Takes w t
+  takes = record {
+    first = first-fits S;
+    removed = by-eq first 0 (λ _. first * w + w ≤ length t) (λ e. subst (λ z. z * w + w ≤ length t) (sym e) (omega (arith, first-fits S))) (λ n. inside t w first count (below n) (all-fit h t w S));
+    few = λ e. omega (arith, left e, S .table .max-room, S .few);
+    inside = room-low (taken (alone w t)) taken-low;
+    low = taken-low;
+  }
+
+-- what passed tests give
+module _ (s : Tables) (R : Ready s) (p : ℕ) (k : List ℕ) where
+  goal : None (makeTests s (files s) p k) → LiveIn (dirs s) p
+  goal n = live-sure 40 (s .dirTable) p (n .0)
+
+  parent-fits : LiveIn (dirs s) p → p * 40 + 40 ≤ length (s .dirTable)
+  parent-fits l = inside (s .dirTable) 40 p (field 40 (s .dirTable) 0 1) (l .1) (all-fit (s .dirHash) (s .dirTable) 40 (dir-single s R))
+
+  pub new-file-asks : None (makeTests s (files s) p k) → Takes 48 (s .fileTable) × (p * 40 + 40 ≤ length (s .dirTable)) × (0 < length (s .fileHash) / 4)
+  new-file-asks n = (takes (file-single s R) (n .1 .1 .0), parent-fits (live-sure 40 (s .dirTable) p (n .0)), R .file-buckets)
+
+  pub new-dir-asks : None (makeTests s (dirs s) p k) → Takes 40 (s .dirTable) × (p * 40 + 40 ≤ length (s .dirTable)) × (0 < length (s .dirHash) / 4)
+  new-dir-asks n = (takes (dir-single s R) (n .1 .1 .0), parent-fits (live-sure 40 (s .dirTable) p (n .0)), R .dir-buckets)
+
+  pub new-file-opens : None (makeTests s (files s) p k) → (opens : List ℕ) → length (s .fileTable) / 48 ≤ length opens → (x i : ℕ) → x ≡ taken (files s) → i ≡ x → i < length opens
+  new-file-opens n opens room x i ex ei = omega (arith, takes (file-single s R) (n .1 .1 .0) .low)
+
+  pub new-dir-opens : None (makeTests s (dirs s) p k) → (opens : List ℕ) → length (s .dirTable) / 40 ≤ length opens → (x i : ℕ) → x ≡ taken (dirs s) → i ≡ x → i < length opens
+  new-dir-opens n opens room x i ex ei = omega (arith, takes (dir-single s R) (n .1 .1 .0) .low)
+
+-- what the code has made
+
+abbrev took : ℕ → List ℕ → List ℕ
+took w t = wrote w t (takeWrites (eqb (field w t 0 0) 0) (field w t))
+
+pub same-took : (w : ℕ) (t t1 : List ℕ) → t1 ≡ took w t → length t1 ≡ length t
+same-took w t t1 e = ap length e ∙ simp length-wrote
+
+pub taken-fits : (w : ℕ) (t t1 : List ℕ) (x : ℕ) → Takes w t → x ≡ taken (alone w t) → t1 ≡ took w t → x * w + w ≤ length t1
+taken-fits w t t1 x T ex e = omega (arith, subst (λ z. z * w + w ≤ length t) (sym ex) (T .inside), same-took w t t1 e)
+
+pub made-file : (d h f f1 d2 h2 f2 f3 : List ℕ) (x p : ℕ) (name carried : List ℕ) → x ≡ taken (alone 48 f) → f1 ≡ took 48 f
+    → d2 ≡ linkedFile (tables [] d h f1) x p name .dirTable → h2 ≡ linkedFile (tables [] d h f1) x p name .fileHash → f2 ≡ linkedFile (tables [] d h f1) x p name .fileTable
+    → f3 ≡ carriedFile (tables [] [] [] f2) x carried .fileTable
+    → (d2 ≡ madeFile (tables [] d h f) p name carried .dirTable) × (h2 ≡ madeFile (tables [] d h f) p name carried .fileHash) × (f3 ≡ madeFile (tables [] d h f) p name carried .fileTable)
+made-file d h f f1 d2 h2 f2 f3 x p name carried ex e1 ed eh ef e3 = (
+  ed ∙ ap₂ (λ y z. linkedFile (tables [] d h y) z p name .dirTable) e1 ex,
+  eh ∙ ap₂ (λ y z. linkedFile (tables [] d h y) z p name .fileHash) e1 ex,
+  e3
+      ∙ ap (λ z. carriedFile (tables [] [] [] z) x carried .fileTable) (ef ∙ ap₂ (λ y z. linkedFile (tables [] d h y) z p name .fileTable) e1 ex)
+      ∙ ap (λ z. carriedFile (tables [] [] [] (linkedFile (tables [] d h (took 48 f)) (taken (alone 48 f)) p name .fileTable)) z carried .fileTable) ex,
+)
+
+pub made-dir : (h d d1 d2 h3 d3 d4 : List ℕ) (x p : ℕ) (name padding : List ℕ) → x ≡ taken (alone 40 d) → d1 ≡ took 40 d
+    → d2 ≡ wrote 40 d1 (write x 7 0 ∷ write x 8 0 ∷ [])
+    → h3 ≡ linkedDir (tables h d2 [] []) x p name .dirHash → d3 ≡ linkedDir (tables h d2 [] []) x p name .dirTable
+    → d4 ≡ carriedDir (tables [] d3 [] []) x padding .dirTable
+    → (h3 ≡ madeDir (tables h d [] []) p name padding .dirHash) × (d4 ≡ madeDir (tables h d [] []) p name padding .dirTable)
+made-dir h d d1 d2 h3 d3 d4 x p name padding ex e1 e2 eh ed e4 =
+    let c : d2 ≡ wrote 40 (took 40 d) (write (taken (alone 40 d)) 7 0 ∷ write (taken (alone 40 d)) 8 0 ∷ []) =
+    e2 ∙ ap₂ (λ y z. wrote 40 y (write z 7 0 ∷ write z 8 0 ∷ [])) e1 ex in (
+      eh ∙ ap₂ (λ y z. linkedDir (tables h y [] []) z p name .dirHash) c ex,
+      e4
+          ∙ ap₂ (λ y z. carriedDir (tables [] y [] []) z padding .dirTable) (ed ∙ ap₂ (λ y z. linkedDir (tables h y [] []) z p name .dirTable) c ex) ex,
+    )
+
+-- and what the call gives
+pub gave-file : (dh d h f d′ h′ f′ opens : List ℕ) (x i p : ℕ) (name carried : List ℕ) → x ≡ taken (alone 48 f) → i ≡ x
+    → d′ ≡ madeFile (tables [] d h f) p name carried .dirTable → h′ ≡ madeFile (tables [] d h f) p name carried .fileHash → f′ ≡ madeFile (tables [] d h f) p name carried .fileTable
+    → makeGives Done x (tables dh d′ h′ f′) (set opens i 1) ≡ makeFileDone (tables dh d h f) opens p name carried
+gave-file dh d h f d′ h′ f′ opens x i p name carried ex ei ed eh ef =
+    ap (λ z. makeGives Done x (tables dh d′ h′ f′) (set opens z 1)) ei
+    ∙ ap (λ z. makeGives Done z (tables dh d′ h′ f′) (set opens z 1)) ex
+    ∙ ap (λ z. makeGives Done (taken (alone 48 f)) (tables dh z h′ f′) (set opens (taken (alone 48 f)) 1)) ed
+    ∙ ap₂ (λ y z. makeGives Done (taken (alone 48 f)) (tables dh (madeFile (tables [] d h f) p name carried .dirTable) y z) (set opens (taken (alone 48 f)) 1)) eh ef
+
+pub gave-dir : (h d fh f h′ d′ opens : List ℕ) (x i p : ℕ) (name padding : List ℕ) → x ≡ taken (alone 40 d) → i ≡ x
+    → h′ ≡ madeDir (tables h d [] []) p name padding .dirHash → d′ ≡ madeDir (tables h d [] []) p name padding .dirTable
+    → makeGives Done x (tables h′ d′ fh f) (set opens i 1) ≡ makeDirDone (tables h d fh f) opens p name padding
+gave-dir h d fh f h′ d′ opens x i p name padding ex ei eh ed =
+    ap (λ z. makeGives Done x (tables h′ d′ fh f) (set opens z 1)) ei
+    ∙ ap (λ z. makeGives Done z (tables h′ d′ fh f) (set opens z 1)) ex
+    ∙ ap₂ (λ y z. makeGives Done (taken (alone 40 d)) (tables y z fh f) (set opens (taken (alone 40 d)) 1)) eh ed

@@ -1,0 +1,226 @@
+// What the tests before a step decide on sound tables: that no row applies, or the answer of the first that does. Nothing is changed here.
+ghost use mathlib.Core.Path.{_≡_};
+ghost use mathlib.Core.List.{[], _∷_};
+ghost use Prim.Native.Nat.{_+_, _*_, _/_, _≤_, _<_};
+ghost use lib.ListN.{length};
+ghost use Rattle.tree_key.specs.Key.{keyWords, nameKey};
+ghost use Rattle.tree_marks.specs.Marks.{Tells};
+ghost use Rattle.tree_table.specs.Field.{field};
+ghost use Rattle.tree_table.specs.Steps.{freeOf};
+ghost use Rattle.tree_promises.specs.Tables.{tables, dirs, files, HasOther};
+ghost use Rattle.tree_promises.specs.Calls.{heldTests, deleteTests, deleteDirTests, renameFileTests, renameDirTests, makeTests};
+ghost use Rattle.tree_promises.specs.Ready.{Ready, Single, alone, hashed};
+ghost use Rattle.tree_inner.specs.Judge.{JudgedBy};
+use crate::look::live;
+use tree_key::SaveExtDirEntry;
+use tree_key::SaveExtFileEntry;
+use tree_key::SaveExtKey;
+use order::Answer;
+
+// What the tests decide: the step may go, or the answer that refuses it.
+pub enum Judged {
+    Go,
+    Refused { answer: Answer },
+}
+
+// Whether inode x is live and open: NotFound, NotOpen.
+pub fn judge_held(hash: &[u8], table: &[u8], w: usize, opens: &[u32], x: u32) -> Judged
+    requires { ⌜ Single (now hash) (now table) w × (length (now table) / w ≤ length (now opens)) ⌝ }
+    ensures { λ r. ⌜ JudgedBy (heldTests (alone w (now (table .entry))) (now (opens .entry)) x) r ⌝ }
+{
+    if !live(hash, table, w, x) {
+        return Judged::Refused {
+            answer: Answer::NotFound,
+        };
+    }
+    if opens[tree_table::index(x)] == 0 {
+        return Judged::Refused {
+            answer: Answer::NotOpen,
+        };
+    }
+    Judged::Go
+}
+
+// Whether inode x is live and opened once: NotFound, NotOpen, Busy.
+pub fn judge_delete(hash: &[u8], table: &[u8], w: usize, opens: &[u32], x: u32) -> Judged
+    requires { ⌜ Single (now hash) (now table) w × (length (now table) / w ≤ length (now opens)) ⌝ }
+    ensures { λ r. ⌜ JudgedBy (deleteTests (alone w (now (table .entry))) (now (opens .entry)) x) r ⌝ }
+{
+    let held = judge_held(hash, table, w, opens, x);
+    let Judged::Go = held else {
+        return held;
+    };
+    if opens[tree_table::index(x)] > 1 {
+        return Judged::Refused {
+            answer: Answer::Busy,
+        };
+    }
+    Judged::Go
+}
+
+// Whether directory x can be deleted: as judge_delete, then DeletingRoot, NotEmpty.
+pub fn judge_delete_dir(hash: &[u8], dirs: &[u8], opens: &[u32], x: u32) -> Judged
+    requires { ⌜ Single (now hash) (now dirs) 40 × (length (now dirs) / 40 ≤ length (now opens)) ⌝ }
+    ensures { λ r. ⌜ JudgedBy (deleteDirTests (tables (now (hash .entry)) (now (dirs .entry)) [] []) (now (opens .entry)) x) r ⌝ }
+{
+    let once = judge_delete(hash, dirs, SaveExtDirEntry::WIDTH, opens, x);
+    let Judged::Go = once else {
+        return once;
+    };
+    if x == 1 {
+        return Judged::Refused {
+            answer: Answer::DeletingRoot,
+        };
+    }
+    if tree_table::link_of(dirs, SaveExtDirEntry::WIDTH, SaveExtDirEntry::SUB_DIR, x) != 0 {
+        return Judged::Refused {
+            answer: Answer::NotEmpty,
+        };
+    }
+    if tree_table::link_of(dirs, SaveExtDirEntry::WIDTH, SaveExtDirEntry::SUB_FILE, x) != 0 {
+        return Judged::Refused {
+            answer: Answer::NotEmpty,
+        };
+    }
+    Judged::Go
+}
+
+// Whether another live entry than x has the key.
+pub fn has_other(hash: &[u8], table: &[u8], w: usize, x: u32, key: SaveExtKey) -> bool
+    requires { ⌜ Single (now hash) (now table) w ⌝ }
+    ensures { λ r. ⌜ Tells (HasOther (hashed w (now (hash .entry)) (now (table .entry))) x (keyWords key)) r ⌝ }
+{
+    let b = tree_key::hash(key, hash.len() / 4);
+    let first = tree_table::get_hash(hash, b);
+    let hit = tree_table::get(table, w, first, key);
+    if hit.inode == 0 {
+        return false;
+    }
+    hit.inode != x
+}
+
+// Whether no entry is left: none never used and none removed.
+pub fn full(table: &[u8], w: usize) -> bool
+    requires { ⌜ (28 ≤ w) × (w ≤ length (now table)) × (0 < field w (now table) 0 1) ⌝ }
+    ensures { λ r. ⌜ Tells (freeOf (alone w (now (table .entry))) ≡ 0) r ⌝ }
+{
+    if tree_table::link_of(table, w, w - 4, 0) != 0 {
+        return false;
+    }
+    tree_table::link_of(table, w, 4, 0) <= tree_table::link_of(table, w, 0, 0)
+}
+
+// Whether file x can be renamed: as judge_held, then NotFound of the new parent, AlreadyExist. There is always space, since the file's own entry is given up.
+pub fn judge_rename_file(
+    dir_hash: &[u8],
+    dirs: &[u8],
+    hash: &[u8],
+    files: &[u8],
+    opens: &[u32],
+    x: u32,
+    parent: u32,
+    name: &[u8; 16],
+) -> Judged
+    requires { ⌜ Ready (tables (now «dir_hash») (now dirs) (now hash) (now files)) × (length (now files) / 48 ≤ length (now opens)) ⌝ }
+    ensures { λ r. ⌜ JudgedBy (renameFileTests (tables (now («dir_hash» .entry)) (now (dirs .entry)) (now (hash .entry)) (now (files .entry))) (now (opens .entry)) x parent (now (name .entry))) r ⌝ }
+{
+    let held = judge_held(hash, files, SaveExtFileEntry::WIDTH, opens, x);
+    let Judged::Go = held else {
+        return held;
+    };
+    if !live(dir_hash, dirs, SaveExtDirEntry::WIDTH, parent) {
+        return Judged::Refused {
+            answer: Answer::NotFound,
+        };
+    }
+    if has_other(
+        hash,
+        files,
+        SaveExtFileEntry::WIDTH,
+        x,
+        SaveExtKey::new(parent, name),
+    ) {
+        return Judged::Refused {
+            answer: Answer::AlreadyExist,
+        };
+    }
+    Judged::Go
+}
+
+// Whether directory x can be renamed: as judge_held, then DeletingRoot, NotFound of the new parent, IntoItself, AlreadyExist.
+pub fn judge_rename_dir(
+    hash: &[u8],
+    dirs: &[u8],
+    file_hash: &[u8],
+    files: &[u8],
+    opens: &[u32],
+    x: u32,
+    parent: u32,
+    name: &[u8; 16],
+) -> Judged
+    requires { ⌜ Ready (tables (now hash) (now dirs) (now «file_hash») (now files)) × (length (now dirs) / 40 ≤ length (now opens)) ⌝ }
+    ensures { λ r. ⌜ JudgedBy (renameDirTests (tables (now (hash .entry)) (now (dirs .entry)) (now («file_hash» .entry)) (now (files .entry))) (now (opens .entry)) x parent (now (name .entry))) r ⌝ }
+{
+    let held = judge_held(hash, dirs, SaveExtDirEntry::WIDTH, opens, x);
+    let Judged::Go = held else {
+        return held;
+    };
+    if x == 1 {
+        return Judged::Refused {
+            answer: Answer::DeletingRoot,
+        };
+    }
+    if !live(hash, dirs, SaveExtDirEntry::WIDTH, parent) {
+        return Judged::Refused {
+            answer: Answer::NotFound,
+        };
+    }
+    if tree_table::in_list(dirs, SaveExtDirEntry::WIDTH, 0, parent, x) {
+        return Judged::Refused {
+            answer: Answer::IntoItself,
+        };
+    }
+    if has_other(
+        hash,
+        dirs,
+        SaveExtDirEntry::WIDTH,
+        x,
+        SaveExtKey::new(parent, name),
+    ) {
+        return Judged::Refused {
+            answer: Answer::AlreadyExist,
+        };
+    }
+    Judged::Go
+}
+
+// Whether an entry with a key can be made in a table: NotFound of the parent, AlreadyExist, NoSpace.
+pub fn judge_make(
+    dir_hash: &[u8],
+    dirs: &[u8],
+    hash: &[u8],
+    table: &[u8],
+    w: usize,
+    parent: u32,
+    name: &[u8; 16],
+) -> Judged
+    requires { ⌜ Single (now «dir_hash») (now dirs) 40 × Single (now hash) (now table) w ⌝ }
+    ensures { λ r. ⌜ JudgedBy (makeTests (tables (now («dir_hash» .entry)) (now (dirs .entry)) [] []) (hashed w (now (hash .entry)) (now (table .entry))) parent (nameKey parent (now (name .entry)))) r ⌝ }
+{
+    if !live(dir_hash, dirs, SaveExtDirEntry::WIDTH, parent) {
+        return Judged::Refused {
+            answer: Answer::NotFound,
+        };
+    }
+    if has_other(hash, table, w, 0, SaveExtKey::new(parent, name)) {
+        return Judged::Refused {
+            answer: Answer::AlreadyExist,
+        };
+    }
+    if full(table, w) {
+        return Judged::Refused {
+            answer: Answer::NoSpace,
+        };
+    }
+    Judged::Go
+}

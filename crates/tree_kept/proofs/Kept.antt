@@ -1,0 +1,114 @@
+-- Every tree call that is answered Done leaves sound tables: where document 01's rows let a step pass, the step keeps Sound. The hypotheses are the
+-- rows' own conditions, not met. Assumes nothing.
+use mathlib.Core.Path.{_≡_, refl, sym, ap, subst}
+use mathlib.Core.List.{List, [], _∷_}
+use mathlib.Core.Logic.{_⊎_, inl, inr, ⊎-elim, _≢_}
+use Prim.Native.Nat.{ℕ, zero, suc, _+_, _-_, _<_}
+use native.Mathlib.Omega.{arith}
+use lib.ListN.{length}
+use Rattle.words.proofs.Laws.{Bytes}
+use Rattle.links.specs.Links.{_∈_, Links}
+use Rattle.links.specs.Change.{walk}
+use Rattle.links.proofs.Held.{same-or}
+use Rattle.tree_key.specs.Key.{nameKey}
+use Rattle.tree_table.specs.View.{View, removedOf, LiveIn}
+use Rattle.tree_table.specs.Steps.{freeOf}
+use Rattle.tree_table.proofs.Table.{Space, rest}
+use Rattle.tree_sound.specs.Sound.{Sound, up}
+use Rattle.tree_sound.proofs.Tree.{Tree}
+use Rattle.tree_sound.proofs.Equal.{tree-of, sound-of}
+use Rattle.tree_promises.specs.Tables.{Tables, dirs, files, Has, HasOther, above}
+use Rattle.tree_promises.specs.Steps.{madeDir, madeFile, deletedDir, deletedFile, renamedDir, renamedFile, carriedDir, carriedFile}
+use Rattle.tree_kept.proofs.Above.{way-up}
+use Rattle.tree_kept.proofs.Files.{Fine, deleted-file-kept, deleted-file-removed, deleted-file-count, deleted-file-maximum, renamed-file-kept}
+use Rattle.tree_kept.proofs.MakeFile.{carried-file-kept, made-file-kept}
+use Rattle.tree_kept.proofs.Dirs.{renamed-dir-kept, carried-dir-kept}
+use Rattle.tree_kept.proofs.MakeDir.{made-dir-kept}
+use Rattle.tree_kept.proofs.DeleteDir.{deleted-dir-kept, deleted-dir-removed, deleted-dir-count, deleted-dir-maximum}
+
+pub walk-zero : (next : ℕ → ℕ) (k h : ℕ) → h ≡ 0 → walk next k h ≡ []
+walk-zero next zero h e = refl
+walk-zero next (suc k) h e = ap (walk next (suc k)) e
+
+-- an entry that make can use is a removed one or a new one
+space : (v : View) → (freeOf v ≡ 0 → ⊥) → Space v
+space v n =
+    ⊎-elim
+    (λ (e : v .coll 0 ≡ 0).
+    let l : length (removedOf v) ≡ 0 = ap length (walk-zero (v .coll) (v .count) (v .coll 0) e) in
+    inr (⊎-elim (λ (z : v .maximum - v .count ≡ 0). absurd (n (omega arith))) (λ (z : v .maximum - v .count ≢ 0). omega arith) (same-or (v .maximum - v .count) 0)))
+    (λ (e : v .coll 0 ≢ 0). inl e)
+    (same-or (v .coll 0) 0)
+
+one-more : (v v′ : View) (x : ℕ) → v′ .count ≡ v .count → v′ .maximum ≡ v .maximum → removedOf v′ ≡ x ∷ removedOf v → freeOf v′ ≡ freeOf v + 1
+one-more v v′ x c m r = let l : length (removedOf v′) ≡ suc (length (removedOf v)) = ap length r in omega arith
+
+module _ (s : Tables) (Q : Fine (s .dirHash) (s .dirTable) (s .fileHash) (s .fileTable)) (S : Sound (dirs s) (files s)) where
+  T : Tree (dirs s) (files s) (removedOf (dirs s)) (removedOf (files s))
+  T = tree-of (dirs s) (files s) refl refl S
+
+  pub kept-make-dir : (p : ℕ) (name padding : List ℕ) → Bytes name → Bytes padding → LiveIn (dirs s) p → (Has (dirs s) (nameKey p name) → ⊥) → (freeOf (dirs s) ≡ 0 → ⊥)
+      → Sound (dirs (madeDir s p name padding)) (files (madeDir s p name padding))
+  kept-make-dir p name padding bn bp lp free full =
+      sound-of (dirs (madeDir s p name padding)) (files (madeDir s p name padding)) (rest (removedOf (dirs s))) (removedOf (files s))
+      (made-dir-kept (s .dirHash) (s .dirTable) (s .fileHash) (s .fileTable) Q (removedOf (dirs s)) (removedOf (files s)) T p lp name padding bn bp (space (dirs s) full)
+      (λ y l e. free (y, l, e)))
+
+  pub kept-make-file : (p : ℕ) (name carried : List ℕ) → Bytes name → Bytes carried → LiveIn (dirs s) p → (Has (files s) (nameKey p name) → ⊥) → (freeOf (files s) ≡ 0 → ⊥)
+      → Sound (dirs (madeFile s p name carried)) (files (madeFile s p name carried))
+  kept-make-file p name carried bn bc lp free full =
+      sound-of (dirs (madeFile s p name carried)) (files (madeFile s p name carried)) (removedOf (dirs s)) (rest (removedOf (files s)))
+      (made-file-kept (s .dirHash) (s .dirTable) (s .fileHash) (s .fileTable) Q (removedOf (dirs s)) (removedOf (files s)) T p lp name carried bn bc (space (files s) full)
+      (λ y l e. free (y, l, e)))
+
+  pub kept-delete-dir : (x : ℕ) → LiveIn (dirs s) x → (x ≡ 1 → ⊥) → ((0 < dirs s .head x) ⊎ (0 < files s .head x) → ⊥) → Sound (dirs (deletedDir s x)) (files (deletedDir s x))
+  kept-delete-dir x lx n1 none =
+      let a : dirs s .head x ≡ 0 = ⊎-elim (λ (z : dirs s .head x ≡ 0). z) (λ (z : dirs s .head x ≢ 0). absurd (none (inl (omega arith)))) (same-or (dirs s .head x) 0) in
+      let b : files s .head x ≡ 0 = ⊎-elim (λ (z : files s .head x ≡ 0). z) (λ (z : files s .head x ≢ 0). absurd (none (inr (omega arith)))) (same-or (files s .head x) 0) in
+      sound-of (dirs (deletedDir s x)) (files (deletedDir s x)) (x ∷ removedOf (dirs s)) (removedOf (files s))
+      (deleted-dir-kept (s .dirHash) (s .dirTable) (s .fileHash) (s .fileTable) Q (removedOf (dirs s)) (removedOf (files s)) T x lx n1 a b)
+
+  pub kept-delete-file : (x : ℕ) → LiveIn (files s) x → Sound (dirs (deletedFile s x)) (files (deletedFile s x))
+  kept-delete-file x lx =
+      sound-of (dirs (deletedFile s x)) (files (deletedFile s x)) (removedOf (dirs s)) (x ∷ removedOf (files s))
+      (deleted-file-kept (s .dirHash) (s .dirTable) (s .fileHash) (s .fileTable) Q (removedOf (dirs s)) (removedOf (files s)) T x lx)
+
+  -- the way up from p is the list that `above` walks: so what is not in it is not above p
+  not-above : (x p : ℕ) → LiveIn (dirs s) p → (x ∈ above (dirs s) p → ⊥) → (qs : List ℕ) → Links (up (dirs s)) p qs → x ∈ qs → ⊥
+  not-above x p lp free qs l m = free (subst (λ zs. x ∈ zs) (sym (way-up (dirs s) (files s) S p lp qs l)) m)
+
+  pub kept-rename-dir : (x p : ℕ) (name : List ℕ) → Bytes name → LiveIn (dirs s) x → (x ≡ 1 → ⊥) → LiveIn (dirs s) p → (x ∈ above (dirs s) p → ⊥)
+      → (HasOther (dirs s) x (nameKey p name) → ⊥) → Sound (dirs (renamedDir s x p name)) (files (renamedDir s x p name))
+  kept-rename-dir x p name bn lx n1 lp out free =
+      sound-of (dirs (renamedDir s x p name)) (files (renamedDir s x p name)) (removedOf (dirs s)) (removedOf (files s))
+      (renamed-dir-kept (s .dirHash) (s .dirTable) (s .fileHash) (s .fileTable) Q (removedOf (dirs s)) (removedOf (files s)) T x lx n1 p lp name bn
+      (λ y l n e. free (y, l, n, e)) (not-above x p lp out))
+
+  pub kept-rename-file : (x p : ℕ) (name : List ℕ) → Bytes name → LiveIn (files s) x → LiveIn (dirs s) p → (HasOther (files s) x (nameKey p name) → ⊥)
+      → Sound (dirs (renamedFile s x p name)) (files (renamedFile s x p name))
+  kept-rename-file x p name bn lx lp free =
+      sound-of (dirs (renamedFile s x p name)) (files (renamedFile s x p name)) (removedOf (dirs s)) (removedOf (files s))
+      (renamed-file-kept (s .dirHash) (s .dirTable) (s .fileHash) (s .fileTable) Q (removedOf (dirs s)) (removedOf (files s)) T x lx p lp name bn (λ y l n e. free (y, l, n, e)))
+
+  pub kept-carry-dir : (x : ℕ) (bytes : List ℕ) → Bytes bytes → LiveIn (dirs s) x → Sound (dirs (carriedDir s x bytes)) (files (carriedDir s x bytes))
+  kept-carry-dir x bytes bb lx =
+      sound-of (dirs (carriedDir s x bytes)) (files (carriedDir s x bytes)) (removedOf (dirs s)) (removedOf (files s))
+      (carried-dir-kept (s .dirHash) (s .dirTable) (s .fileHash) (s .fileTable) Q (removedOf (dirs s)) (removedOf (files s)) T x lx bytes bb)
+
+  pub kept-carry-file : (x : ℕ) (bytes : List ℕ) → Bytes bytes → LiveIn (files s) x → Sound (dirs (carriedFile s x bytes)) (files (carriedFile s x bytes))
+  kept-carry-file x bytes bb lx =
+      sound-of (dirs (carriedFile s x bytes)) (files (carriedFile s x bytes)) (removedOf (dirs s)) (removedOf (files s))
+      (carried-file-kept (s .dirHash) (s .dirTable) (s .fileHash) (s .fileTable) Q (removedOf (dirs s)) (removedOf (files s)) T x lx bytes bb)
+
+  -- an entry that is given up is one more that make can use; of a directory whether or not it has children
+  pub given-dir-free : (x : ℕ) → LiveIn (dirs s) x → (x ≡ 1 → ⊥) → freeOf (dirs (deletedDir s x)) ≡ freeOf (dirs s) + 1
+  given-dir-free x lx n1 =
+      one-more (dirs s) (dirs (deletedDir s x)) x (deleted-dir-count (s .dirHash) (s .dirTable) (s .fileHash) (s .fileTable) Q (removedOf (dirs s)) (removedOf (files s)) T x lx n1)
+      (deleted-dir-maximum (s .dirHash) (s .dirTable) (s .fileHash) (s .fileTable) Q (removedOf (dirs s)) (removedOf (files s)) T x lx n1)
+      (deleted-dir-removed (s .dirHash) (s .dirTable) (s .fileHash) (s .fileTable) Q (removedOf (dirs s)) (removedOf (files s)) T x lx n1)
+
+  pub given-file-free : (x : ℕ) → LiveIn (files s) x → freeOf (files (deletedFile s x)) ≡ freeOf (files s) + 1
+  given-file-free x lx =
+      one-more (files s) (files (deletedFile s x)) x (deleted-file-count (s .dirHash) (s .dirTable) (s .fileHash) (s .fileTable) Q (removedOf (dirs s)) (removedOf (files s)) T x lx)
+      (deleted-file-maximum (s .dirHash) (s .dirTable) (s .fileHash) (s .fileTable) Q (removedOf (dirs s)) (removedOf (files s)) T x lx)
+      (deleted-file-removed (s .dirHash) (s .dirTable) (s .fileHash) (s .fileTable) Q (removedOf (dirs s)) (removedOf (files s)) T x lx)

@@ -1,0 +1,49 @@
+-- Soundness of the two entry tables together, sentence by sentence as document 01 has it. D are the directories and F the files, as their views. The
+-- inodes from 1 below count that are not removed are live: LiveIn is that sentence. Assumes nothing.
+use mathlib.Core.Path.{_≡_}
+use mathlib.Core.List.{List, [], _∷_}
+use Prim.Native.Nat.{ℕ, _≤_, _<_}
+use Rattle.links.specs.Links.{_∈_, Distinct, Links, Holds}
+use Rattle.tree_table.specs.View.{View, parent, place, removedOf, LiveIn}
+
+-- what is said of each table by itself
+pub record Table (v : View) : Type 0 where
+  -- maximum at most the table's room, 1 <= count <= maximum
+  pub max-room : v .maximum ≤ v .room
+  pub count-one : 1 ≤ v .count
+  pub count-max : v .count ≤ v .maximum
+  -- the removed entries are a list that ends
+  pub removed : Links (v .coll) (v .coll 0) (removedOf v)
+  -- removed inodes distinct and below count
+  pub removed-once : Distinct (removedOf v)
+  pub removed-below : (y : ℕ) → y ∈ removedOf v → y < v .count
+  -- each bucket holds exactly the live entries with that hash, once
+  pub bucket : (b : ℕ) → b < v .buckets → Holds (v .coll) (v .hash b) (λ y. LiveIn v y × (place v (v .key y) ≡ b))
+  -- live keys distinct
+  pub keys : (y z : ℕ) → LiveIn v y → LiveIn v z → v .key y ≡ v .key z → y ≡ z
+
+-- the directory whose inode an entry names
+abbrev pub up : View → ℕ → ℕ
+up v y = parent (v .key y)
+
+-- directory y reaches inode 1 by parents
+abbrev pub Reaches : View → ℕ → Type 0
+Reaches D y = (xs : List ℕ) × Links (up D) y xs × (1 ∈ xs)
+
+pub record Sound (D F : View) : Type 0 where
+  pub dirs : Table D
+  pub files : Table F
+  -- directories: count at least 2
+  pub count-two : 2 ≤ D .count
+  -- root is live with a zero key and next 0
+  pub root-live : LiveIn D 1
+  pub root-key : D .key 1 ≡ 0 ∷ 0 ∷ 0 ∷ 0 ∷ 0 ∷ []
+  pub root-next : D .next 1 ≡ 0
+  -- every other live entry has a live parent directory
+  pub dir-parents : (y : ℕ) → LiveIn D y → (y ≡ 1 → ⊥) → LiveIn D (up D y)
+  pub file-parents : (y : ℕ) → LiveIn F y → LiveIn D (up F y)
+  -- each directory's two lists end and hold exactly the live directories and files that name it as parent, once each
+  pub sub-dirs : (p : ℕ) → LiveIn D p → Holds (D .next) (D .head p) (λ y. LiveIn D y × (up D y ≡ p))
+  pub sub-files : (p : ℕ) → LiveIn D p → Holds (F .next) (F .head p) (λ y. LiveIn F y × (up F y ≡ p))
+  -- every directory reaches inode 1 by parents
+  pub reach : (y : ℕ) → LiveIn D y → Reaches D y
