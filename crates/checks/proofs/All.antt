@@ -1,4 +1,4 @@
--- Every check of the list. Assumes nothing.
+-- Every check of the list.
 use Rattle.checks.specs.Check.{AllShow}
 use Rattle.checks.specs.Checks.{checks}
 use Rattle.checks.proofs.Formats.{shows4, shows1}

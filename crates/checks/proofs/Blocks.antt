@@ -1,4 +1,4 @@
--- The checks of the block table's history. Assumes nothing.
+-- The checks of the block table's history.
 use mathlib.Core.Path.{_≡_, refl, ap}
 use mathlib.Core.List.{List, [], _∷_}
 use mathlib.Core.Logic.{inl, inr}

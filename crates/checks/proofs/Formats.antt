@@ -1,4 +1,4 @@
--- The checks of format. Assumes nothing.
+-- The checks of format.
 use mathlib.Core.Path.{_≡_, refl, ap}
 use mathlib.Core.Logic.{inl, inr, ⊎-elim}
 use Prim.Native.Nat.{ℕ, _+_, _*_, _≤_, _<_}

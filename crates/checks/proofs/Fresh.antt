@@ -1,4 +1,4 @@
--- Entry tables that hold the root alone are sound. Assumes nothing.
+-- Entry tables that hold the root alone are sound.
 use mathlib.Core.Path.{_≡_, refl, sym, ap, subst, _∙_}
 use mathlib.Core.List.{List, [], _∷_}
 use mathlib.Core.Logic.{_⊎_, inl, inr, ⊎-elim}

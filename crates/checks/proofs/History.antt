@@ -1,4 +1,4 @@
--- The tables of the history are whole, and which of their blocks are files' first ones. Assumes nothing.
+-- The tables of the history are whole, and which of their blocks are files' first ones.
 use mathlib.Core.Path.{_≡_, refl, sym, _∙_}
 use Prim.Native.Nat.{ℕ, zero, suc, _+_, _<_, _≤_}
 use native.Mathlib.Omega.{arith}

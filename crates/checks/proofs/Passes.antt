@@ -1,4 +1,4 @@
--- A call on a table that is whole passes the rows of sizes, work list and soundness, and its own rows decide. Assumes nothing.
+-- A call on a table that is whole passes the rows of sizes, work list and soundness, and its own rows decide.
 use mathlib.Core.Path.{_≡_, refl, sym, ap, subst, _∙_}
 use mathlib.Core.List.{List, [], _∷_, _++_}
 use mathlib.Core.Logic.{inl, inr, ⊎-elim}

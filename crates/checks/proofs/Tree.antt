@@ -1,4 +1,4 @@
--- The checks of the entry tables. Assumes nothing.
+-- The checks of the entry tables.
 use mathlib.Core.Path.{_≡_, refl, sym, ap, _∙_}
 use mathlib.Core.List.{List, [], _∷_, _++_}
 use mathlib.Core.Logic.{inl, inr, ⊎-elim}

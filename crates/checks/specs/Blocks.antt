@@ -1,4 +1,4 @@
--- The checks of the block table, in document 01's order: each call goes on from the table of the one before. Assumes nothing.
+-- The checks of the block table, in document 01's order: each call goes on from the table of the one before.
 use mathlib.Core.List.{List, [], _∷_}
 use Prim.Native.Nat.{ℕ, _+_, _*_}
 use lib.ListN.{replicate}

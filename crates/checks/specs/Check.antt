@@ -1,4 +1,4 @@
--- What a check says: on its input the promise of a call leaves one thing to be seen. Assumes nothing.
+-- What a check says: on its input the promise of a call leaves one thing to be seen.
 use mathlib.Core.Path.{_≡_}
 use mathlib.Core.List.{List, [], _∷_}
 use Prim.Native.Nat.{ℕ, zero, suc}

@@ -1,4 +1,4 @@
--- The list of document 01's checks that are marked P; that all of them hold is `all` in proofs/All.antt. Assumes nothing.
+-- The list of document 01's checks that are marked P; that all of them hold is `all` in proofs/All.antt.
 use mathlib.Core.List.{List, [], _∷_}
 use Rattle.checks.specs.Check.{Check}
 use Rattle.checks.specs.Blocks.{

@@ -1,4 +1,4 @@
--- The checks of the entry tables, in document 01's order: each call goes on from the tables of the one before. Assumes nothing.
+-- The checks of the entry tables, in document 01's order: each call goes on from the tables of the one before.
 use mathlib.Core.Path.{_≡_}
 use mathlib.Core.List.{List, [], _∷_, _++_}
 use Prim.Native.Nat.{ℕ, zero, suc, _+_, _%_}

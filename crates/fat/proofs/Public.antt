@@ -1,4 +1,4 @@
--- A public call is the gate, then the call that requires soundness. Assumes nothing.
+-- A public call is the gate, then the call that requires soundness.
 use mathlib.Core.Path.{_≡_, subst, subst⁻¹}
 use mathlib.Core.List.{List}
 use mathlib.Core.Logic.{_⊎_, inl, inr, ⊎-elim}
@@ -9,7 +9,6 @@ use Rattle.order.specs.First.{Row, First}
 use Rattle.order.specs.Gate.{cleared, refusal}
 use Rattle.order.specs.Given.{Given}
 use Rattle.order.specs.declared.Answer.{Answer}
-use Rattle.order.specs.declared.Answer.the-variants.{BrokenFat}
 use Rattle.order.proofs.Beside as rows
 use Rattle.order.proofs.Gate.{gate-given}
 use Rattle.fat_node.specs.Entry.{Bytes}
@@ -17,8 +16,7 @@ use Rattle.fat_node.specs.Sizes.{blocks, Misfit, Outside}
 use Rattle.fat_node.proofs.Sizes.{fit, inside}
 use Rattle.fat_node.proofs.Nodes.{le-or-lt}
 use Rattle.links.proofs.Held.{same-or}
-use Rattle.fat_table.specs.Sound.{Sound}
-use Rattle.fat_test.specs.Gate.{blockGate}
+use Rattle.fat_test.specs.Gate.{blockGate, unsound}
 use Rattle.fat_test.specs.Promise.{Opened, GateOf}
 use Rattle.fat_test.specs.declared.Gated.{Gated}
 use Rattle.fat_test.specs.declared.Gated.the-variants.{Open, Refused}
@@ -31,8 +29,7 @@ module _ {A : Type 0} (refuse : Answer → A) (t : Bytes) (d l : ℕ) (work : Li
   pub shut : (a : Answer) (work′ : List ℕ) → Given (blockGate refusal t d l work) (refusal a work′) → Promise refuse t d l work own done (beside (refuse a) work′)
   shut a work′ g =
       rows.refused (blockGate (λ a w. beside (refuse a) w) t d l work) (cleared (blocks t) work) own done (beside (refuse a) work′)
-      (gate-given (λ a w. beside (refuse a) w) (Misfit t ⊎ (d ≡ blocks t * l → ⊥)) (Outside t ⊎ (l < 1) ⊎ (65536 < l)) (length work < blocks t) (Sound t (blocks t) → ⊥) BrokenFat (blocks t)
-      work a work′ g)
+      (gate-given (λ a w. beside (refuse a) w) (blocks t) work (Misfit t ⊎ (d ≡ blocks t * l → ⊥)) (Outside t ⊎ (l < 1) ⊎ (65536 < l)) (length work < blocks t) (unsound t) a work′ g)
 
   -- the gate is open, and the call that requires soundness gives o
   pub passed : (work′ : List ℕ) (free files : ℕ) (o : A) → Opened t d l work work′ free files → First own done o → Promise refuse t d l work own done (beside o work′)

@@ -1,5 +1,4 @@
 -- The counts that the passes find are those that the table's rule defines: the sizes along the free chain, summed, and the number of other chains.
--- Assumes nothing.
 use mathlib.Core.Path.{_≡_, refl, sym, subst}
 use mathlib.Core.Bool.{Bool, true, false, cond}
 use mathlib.Core.Logic.{_⊎_, inl, inr, ⊎-elim}

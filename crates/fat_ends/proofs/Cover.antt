@@ -1,5 +1,4 @@
 -- Two ways to say that the nodes cover the blocks end to end are one: wherever a node is due one stands; and from block 0, node after node, one comes to n.
--- Assumes nothing.
 use mathlib.Core.Path.{_≡_, refl, subst}
 use mathlib.Core.List.{List}
 use mathlib.Core.Logic.{⊎-elim}

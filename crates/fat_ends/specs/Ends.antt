@@ -1,7 +1,6 @@
 -- What the join of fragments says of the work list. A fragment is a stretch of a chain whose inner links have been joined. The place of its first node
 -- names its last node, and that of the last the first, in the low 20 bits; the 12 bits above hold the sum of its sizes: at both ends, if it is below
 -- 2,048; else, but for a single node, whose size the table has, the high part at the first node and the low part at the last.
--- Assumes nothing.
 use mathlib.Core.Path.{_≡_}
 use mathlib.Core.List.{List}
 use mathlib.Core.Logic.{_⊎_}

@@ -1,5 +1,4 @@
 -- What the tiling says of the sizes of the nodes, by where they start.
--- Assumes nothing.
 use mathlib.Core.Path.{_≡_}
 use mathlib.Core.List.{List, [], _∷_}
 use Prim.Native.Nat.{ℕ, _+_, _<_}

@@ -1,4 +1,4 @@
--- What the two passes tell of a table of n blocks. Assumes nothing.
+-- What the two passes tell of a table of n blocks.
 use mathlib.Core.Path.{_≡_}
 use Prim.Native.Nat.{ℕ}
 use Rattle.fat_node.specs.Entry.{Bytes}

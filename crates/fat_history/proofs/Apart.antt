@@ -1,4 +1,4 @@
--- A file that no call names stays: its chain, and its bytes in the data. Assumes nothing.
+-- A file that no call names stays: its chain, and its bytes in the data.
 use mathlib.Core.Path.{_≡_, refl, sym, ap, subst, subst⁻¹, _∙_}
 use mathlib.Core.List.{List, _∷_, _++_, List·Permᴰ·swap}
 use mathlib.Core.Logic.{_≢_, ⊎-elim}

@@ -1,4 +1,4 @@
--- Demand 3 over the calls' promises: what a run ends in is sound, and every sound table is what a run ends in, where the rules read. Assumes nothing.
+-- Demand 3 over the calls' promises: what a run ends in is sound, and every sound table is what a run ends in, where the rules read.
 use mathlib.Core.Path.{_≡_, refl, sym, ap, subst, subst⁻¹, _∙_}
 use mathlib.Core.List.{List, [], _∷_, _++_}
 use Prim.Native.Nat.{ℕ, suc, _+_, _-_, _*_, _/_, _≤_}

@@ -1,4 +1,4 @@
--- Two files of a sound table lie apart, and each block lies in one chain. Assumes nothing.
+-- Two files of a sound table lie apart, and each block lies in one chain.
 use mathlib.Core.Path.{_≡_, refl, ap, subst⁻¹, _∙_}
 use mathlib.Core.List.{List, [], _∷_, _++_, List·Permᴰ, List·Permᴰ·cons, List·Permᴰ·swap, List·Permᴰ·trans, Permᴰ·refl}
 use mathlib.Core.Logic.{_≢_, _⊎_, inl, inr, ⊎-elim}

@@ -1,4 +1,4 @@
--- What an outcome of each call says, and that a call which may be done is. Assumes nothing.
+-- What an outcome of each call says, and that a call which may be done is.
 use mathlib.Core.Path.{_≡_, refl, ap}
 use mathlib.Core.List.{List, _++_}
 use mathlib.Core.Logic.{_⊎_, inl, inr, ⊎-elim}

@@ -1,4 +1,4 @@
--- The places of a file's bytes in the data: those of one file differ from each other and from those of another file; what a write changes. Assumes nothing.
+-- The places of a file's bytes in the data: those of one file differ from each other and from those of another file; what a write changes.
 use mathlib.Core.Path.{_≡_, refl, sym, ap, subst⁻¹, _∙_}
 use mathlib.Core.List.{List, [], _∷_, _++_, List·Memᴰ, List·Memᴰ·head, List·Memᴰ·tail}
 use mathlib.Core.Bool.{cond}

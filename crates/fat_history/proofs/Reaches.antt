@@ -1,4 +1,4 @@
--- Every tiled layout is reached from a formatted one by creates and deletes, at most three for each of its runs. No table here. Assumes nothing.
+-- Every tiled layout is reached from a formatted one by creates and deletes, at most three for each of its runs. No table here.
 use mathlib.Core.Path.{_≡_, refl, sym, ap, _∙_}
 use mathlib.Core.List.{List, [], _∷_, _++_, append-assoc, append-nil, Permᴰ·append-nil, List·Permᴰ, List·Permᴰ·nil, List·Permᴰ·cons, List·Permᴰ·swap, List·Permᴰ·trans, Permᴰ·symm, Permᴰ·middle, List·Permᴰ·append-comm}
 use Prim.Native.Nat.{ℕ, zero, suc, _+_, _-_, _*_, _≤_, _<_}

@@ -1,4 +1,4 @@
--- What the rows of a promise say of an outcome. Assumes nothing.
+-- What the rows of a promise say of an outcome.
 use mathlib.Core.Path.{_≡_, refl, sym, ap, _∙_}
 use mathlib.Core.List.{List, [], _∷_}
 use mathlib.Core.Logic.{_⊎_, inl, inr, ⊎-elim}

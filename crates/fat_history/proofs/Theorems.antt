@@ -1,4 +1,4 @@
--- The theorems of the block layer over whole histories. Their statements name definitions of specs/ alone. Assumes nothing.
+-- The theorems of the block layer over whole histories. Their statements name definitions of specs/ alone.
 use mathlib.Core.Path.{_≡_, sym, ap, subst⁻¹, _∙_}
 use mathlib.Core.List.{List, List·Memᴰ}
 use mathlib.Core.Logic.{_≢_, _⊎_, inl, inr, ⊎-elim}

@@ -1,4 +1,4 @@
--- Calls on a table and its data that do not name one file. Assumes nothing.
+-- Calls on a table and its data that do not name one file.
 use mathlib.Core.List.{List}
 use mathlib.Core.Logic.{_≢_}
 use Prim.Native.Nat.{ℕ}

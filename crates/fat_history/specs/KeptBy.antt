@@ -1,4 +1,4 @@
--- What a call leaves of the table. Assumes nothing.
+-- What a call leaves of the table.
 use mathlib.Core.Path.{_≡_}
 use lib.ListN.{length}
 use Rattle.order.specs.declared.Answer.{Answer}

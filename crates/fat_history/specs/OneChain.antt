@@ -1,4 +1,4 @@
--- Where a block lies: in the free chain, or in the chain of one file. Assumes nothing.
+-- Where a block lies: in the free chain, or in the chain of one file.
 use mathlib.Core.Path.{_≡_}
 use mathlib.Core.Logic.{_≢_, _⊎_}
 use Prim.Native.Nat.{ℕ}

@@ -1,6 +1,5 @@
 -- A run of the block layer: format, and then create, resize and delete, each answered Done. A step of a run is the call's own promise, with its inputs and
 -- what it gave. The inputs are numbers with no bound; those of a call that is answered Done are small by its rows, but for the length of its work list.
--- Assumes nothing.
 use mathlib.Core.Path.{_≡_}
 use mathlib.Core.List.{List}
 use Prim.Native.Nat.{ℕ, suc}

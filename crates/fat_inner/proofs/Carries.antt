@@ -1,4 +1,4 @@
--- Read and write: along a chain, a node's share at a time. Assumes nothing.
+-- Read and write: along a chain, a node's share at a time.
 use mathlib.Core.Path.{_≡_, refl, sym, ap, subst, subst⁻¹, _∙_}
 use mathlib.Core.List.{List, [], _∷_, _++_, append-assoc}
 use mathlib.Core.Logic.{inl, inr, ⊎-elim}

@@ -1,4 +1,4 @@
--- What the writers of links return, from what they call. Assumes nothing.
+-- What the writers of links return, from what they call.
 use mathlib.Core.Path.{_≡_, refl, sym, ap, _∙_}
 use Prim.Native.Nat.{ℕ, zero, suc, _+_, _-_, _*_, _≤_}
 use native.Mathlib.Omega.{arith}

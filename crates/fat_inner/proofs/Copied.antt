@@ -1,4 +1,4 @@
--- A part copied over another, byte by byte. Assumes nothing.
+-- A part copied over another, byte by byte.
 use mathlib.Core.Path.{_≡_, sym, ap, _∙_}
 use mathlib.Core.List.{List, _++_, append-nil}
 use Prim.Native.Nat.{ℕ, suc, _+_, _<_, _≤_}

@@ -1,4 +1,4 @@
--- What the inner calls return, from what they call. Assumes nothing.
+-- What the inner calls return, from what they call.
 use mathlib.Core.Path.{_≡_, refl, sym, ap, subst, subst⁻¹, _∙_}
 use mathlib.Core.List.{List, [], _∷_, _++_, append-assoc}
 use mathlib.Core.Logic.{inl, inr}

@@ -1,4 +1,4 @@
--- A walk over the nodes in the order of their blocks: whether one starts at a block. Assumes nothing.
+-- A walk over the nodes in the order of their blocks: whether one starts at a block.
 use mathlib.Core.Path.{_≡_, refl, sym, ap, subst, subst⁻¹, _∙_}
 use mathlib.Core.List.{List·Memᴰ·cases-cons}
 use mathlib.Core.Logic.{⊎-elim}

@@ -1,4 +1,4 @@
--- The bytes of a file in a row, within one node of its chain: they lie in a row in the data. Assumes nothing.
+-- The bytes of a file in a row, within one node of its chain: they lie in a row in the data.
 use mathlib.Core.Path.{_≡_, refl, sym, ap, _∙_}
 use mathlib.Core.List.{List, [], _∷_, _++_, append-assoc}
 use Prim.Native.Nat.{ℕ, zero, suc, _+_, _*_, _/_, _%_, _≤_, _<_}

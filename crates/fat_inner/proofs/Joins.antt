@@ -1,4 +1,4 @@
--- Chains joined and cut by a few writes. Assumes nothing.
+-- Chains joined and cut by a few writes.
 use mathlib.Core.Path.{_≡_, refl, sym, ap, _∙_}
 use mathlib.Core.List.{List, [], _∷_, _++_}
 use mathlib.Core.Logic.{_⊎_}

@@ -1,4 +1,4 @@
--- The blocks of a chain written into a list. Assumes nothing.
+-- The blocks of a chain written into a list.
 use mathlib.Core.Path.{_≡_, refl, sym, ap, subst, _∙_}
 use mathlib.Core.List.{List, [], _∷_, _++_, append-assoc}
 use mathlib.Core.Logic.{inl, inr, ⊎-elim}

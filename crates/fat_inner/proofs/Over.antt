@@ -1,4 +1,4 @@
--- Writes of start entries, and what writes them again. Assumes nothing.
+-- Writes of start entries, and what writes them again.
 use mathlib.Core.Path.{_≡_, refl, sym, ap, _∙_}
 use mathlib.Core.List.{List, [], _∷_, _++_}
 use mathlib.Core.Logic.{_≢_, _⊎_, inl, inr, ⊎-elim}

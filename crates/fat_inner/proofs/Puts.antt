@@ -1,4 +1,4 @@
--- Numbers put into a list one after the other, from a place on: what parts lent to a call leave. Assumes nothing.
+-- Numbers put into a list one after the other, from a place on: what parts lent to a call leave.
 use mathlib.Core.Path.{_≡_, refl, sym, ap, _∙_}
 use mathlib.Core.List.{List, _++_, append-nil, append-assoc}
 use mathlib.Core.Logic.{⊎-elim}

@@ -1,4 +1,4 @@
--- What a resize plans and does. Assumes nothing.
+-- What a resize plans and does.
 use mathlib.Core.Path.{_≡_, refl, sym, ap, subst, subst⁻¹, _∙_}
 use mathlib.Core.List.{List, [], _∷_, _++_, append-assoc}
 use mathlib.Core.Logic.{inl, inr}

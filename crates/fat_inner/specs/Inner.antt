@@ -1,5 +1,4 @@
 -- What the functions inside the calls ask for and say: chains that stand, and a step as the few writes that the code makes. No promise needs it.
--- Assumes nothing.
 use mathlib.Core.Path.{_≡_}
 use mathlib.Core.List.{List, [], _∷_, _++_}
 use mathlib.Core.Bool.{cond}

@@ -1,4 +1,4 @@
--- What the functions inside read and write ask for and say. No promise needs it. Assumes nothing.
+-- What the functions inside read and write ask for and say. No promise needs it.
 use mathlib.Core.Path.{_≡_}
 use mathlib.Core.List.{List, _∷_, _++_}
 use Prim.Native.Nat.{ℕ, suc, _+_, _*_, _≤_, _<_}

@@ -1,4 +1,4 @@
--- What the tests of the code tell of nodes and of the head, one lemma for each way out. Assumes nothing.
+-- What the tests of the code tell of nodes and of the head, one lemma for each way out.
 use Prim.Native.Nat.{ℕ, _+_, _-_, _*_, _%_, _≤_, _<_}
 use mathlib.Core.Path.{_≡_, refl, sym, ap, subst, _∙_}
 use mathlib.Core.Bool.{Bool, true, false, not}

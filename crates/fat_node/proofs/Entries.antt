@@ -1,4 +1,4 @@
--- The laws of entries: what is read of a written entry, that other entries stay, and how two writes meet. Assumes nothing.
+-- The laws of entries: what is read of a written entry, that other entries stay, and how two writes meet.
 use Prim.Native.Nat.{ℕ, _+_, _*_, _^_, _≤_, _<_}
 use mathlib.Core.Path.{_≡_, refl, sym, ap, _∙_}
 use mathlib.Core.Logic.{_⊎_, inl, inr, _≢_}

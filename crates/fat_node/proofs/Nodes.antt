@@ -1,4 +1,4 @@
--- The laws of a written node: what is read back, which entries stay, and the head. Assumes nothing.
+-- The laws of a written node: what is read back, which entries stay, and the head.
 use Prim.Native.Nat.{ℕ, _+_, _*_, _%_, _≤_, _<_}
 use mathlib.Core.Path.{_≡_, refl, sym, ap, subst, _∙_}
 use mathlib.Core.Bool.{Bool, true, false, cond}

@@ -1,4 +1,4 @@
--- What the tests of the sizes tell, and what format answers by them. Assumes nothing.
+-- What the tests of the sizes tell, and what format answers by them.
 use Prim.Native.Nat.{ℕ, _+_, _-_, _*_, _/_, _%_, _≤_, _<_}
 use mathlib.Core.Path.{_≡_, refl, sym, ap, _∙_}
 use mathlib.Core.Bool.{Bool, true, false, not}

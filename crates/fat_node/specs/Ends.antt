@@ -1,4 +1,4 @@
--- What the reader of a long node's end answers; a contract inside the crate. Assumes nothing.
+-- What the reader of a long node's end answers; a contract inside the crate.
 use Prim.Native.Nat.{ℕ, _+_, _-_, _<_, _≤_}
 use mathlib.Core.Path.{_≡_}
 use Rattle.fat_node.specs.Entry.{Bytes}

@@ -1,5 +1,5 @@
 -- An entry of the block table: two little-endian u32, u and v. Entry 0 is the head, entry b + 1 belongs to block b. The low 31 bits of a word are an
--- index (a block number plus 1, or 0 for none), its top bit a flag. Assumes nothing.
+-- index (a block number plus 1, or 0 for none), its top bit a flag.
 use Prim.Native.Nat.{ℕ, _+_, _*_, _%_}
 use mathlib.Core.List.{List}
 use Rattle.words.specs.Word.{word, putWord}

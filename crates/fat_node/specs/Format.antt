@@ -1,4 +1,4 @@
--- What format promises. Assumes nothing.
+-- What format promises.
 use Prim.Native.Nat.{ℕ}
 use mathlib.Core.List.{List, [], _∷_}
 use mathlib.Core.Path.{_≡_}

@@ -1,4 +1,4 @@
--- A node of the block table, a run of blocks with its links, and the head. Assumes nothing.
+-- A node of the block table, a run of blocks with its links, and the head.
 use Prim.Native.Nat.{ℕ, _+_, _%_, _<_, _≤_}
 use mathlib.Core.Path.{_≡_}
 use mathlib.Core.Bool.{cond}

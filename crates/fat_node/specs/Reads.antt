@@ -1,4 +1,4 @@
--- What the readers of a node and of the head answer. Assumes nothing.
+-- What the readers of a node and of the head answer.
 use Prim.Native.Nat.{ℕ}
 use mathlib.Core.Path.{_≡_}
 use Rattle.fat_node.specs.Entry.{Bytes, vAt}

@@ -1,4 +1,4 @@
--- The sizes of a block table. Assumes nothing.
+-- The sizes of a block table.
 use mathlib.Core.Path.{_≡_}
 use mathlib.Core.Logic.{_⊎_}
 use Prim.Native.Nat.{ℕ, _-_, _/_, _%_, _<_}

@@ -1,4 +1,4 @@
--- Each call's promise and its input leave one answer. Assumes nothing.
+-- Each call's promise and its input leave one answer.
 use mathlib.Core.Path.{_≡_}
 use mathlib.Core.List.{List, _++_}
 use Prim.Native.Nat.{ℕ}

@@ -1,4 +1,4 @@
--- The blocks of a chain, and where the bytes of its file lie in the data. Assumes nothing.
+-- The blocks of a chain, and where the bytes of its file lie in the data.
 use mathlib.Core.List.{List, [], _∷_, _++_}
 use Prim.Native.Nat.{ℕ, zero, suc, _+_, _*_, _/_, _%_}
 use lib.ListN.{getD, set}

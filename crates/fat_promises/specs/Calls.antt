@@ -1,5 +1,5 @@
 -- What each call on files promises: its own rows, in document 01's order, and what Done gives. n is the number of blocks, t the table, b the given first
--- block. These rows are decided where sizes, work list and soundness have passed. Assumes nothing.
+-- block. These rows are decided where sizes, work list and soundness have passed.
 use mathlib.Core.Path.{_≡_}
 use mathlib.Core.List.{List, [], _∷_, _++_}
 use Prim.Native.Nat.{ℕ, _+_, _*_, _<_}

@@ -1,4 +1,4 @@
--- Two tables that hold one layout agree; a table that agrees with one that holds a layout holds it. Assumes nothing.
+-- Two tables that hold one layout agree; a table that agrees with one that holds a layout holds it.
 use mathlib.Core.Path.{refl, sym, subst, _∙_}
 use mathlib.Core.List.{List, [], _∷_, List·Memᴰ·head, List·Memᴰ·tail, List·Memᴰ·cases-cons, List·Memᴰ·not-nil}
 use mathlib.Core.Logic.{_≢_, ⊎-elim}

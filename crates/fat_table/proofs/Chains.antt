@@ -1,4 +1,4 @@
--- Chains from mutual links: nodes whose links name each other, each reached from one with no previous, fall into chains. No table here. Assumes nothing.
+-- Chains from mutual links: nodes whose links name each other, each reached from one with no previous, fall into chains. No table here.
 use mathlib.Core.Path.{_≡_, refl, sym, ap, _∙_}
 use mathlib.Core.List.{List, [], _∷_, _++_, List·Permᴰ, List·Permᴰ·nil, List·Permᴰ·cons, List·Permᴰ·swap, List·Permᴰ·trans, Permᴰ·refl, Permᴰ·symm, Permᴰ·append-left, List·Memᴰ, List·Memᴰ·head, List·Memᴰ·tail, List·Memᴰ·cases-cons, List·Memᴰ·not-nil}
 use mathlib.Core.Bool.{Bool, true, false}

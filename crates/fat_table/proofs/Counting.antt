@@ -1,4 +1,4 @@
--- What the test answers: the free blocks are the sum along the free chain, and the other chains are as many as the files. Assumes nothing.
+-- What the test answers: the free blocks are the sum along the free chain, and the other chains are as many as the files.
 use mathlib.Core.Path.{_≡_, refl, sym, ap, subst, subst⁻¹, _∙_}
 use mathlib.Core.List.{List, [], _∷_, List·Memᴰ·head, List·Memᴰ·tail, List·Memᴰ·cases-cons}
 use mathlib.Core.Bool.{Bool, true, false, cond}

@@ -1,4 +1,4 @@
--- Whether a table is sound is decided, by a test over the list of its nodes; and so is whether a block is a file's first. Assumes nothing.
+-- Whether a table is sound is decided, by a test over the list of its nodes; and so is whether a block is a file's first.
 use mathlib.Core.Path.{_≡_, refl, sym, ap, subst, subst⁻¹, _∙_}
 use mathlib.Core.List.{List, [], _∷_, List·Permᴰ, List·Memᴰ·head, List·Memᴰ·tail, List·Memᴰ·cases-cons, List·Memᴰ·not-nil}
 use mathlib.Core.Bool.{Bool, true, false, _&&_, _||_, false≢true}

@@ -1,4 +1,4 @@
--- The files of a sound table are the chains of its layout; every step keeps soundness. Assumes nothing.
+-- The files of a sound table are the chains of its layout; every step keeps soundness.
 use mathlib.Core.Path.{_≡_, refl, sym, ap, subst, subst⁻¹, _∙_}
 use mathlib.Core.List.{List, [], _∷_, _++_, List·Permᴰ, List·Memᴰ·head}
 use mathlib.Core.Logic.{⊎-elim}

@@ -1,4 +1,4 @@
--- What stands in a table after a chain is laid in it: the chain, and all that shares no block with it. Assumes nothing.
+-- What stands in a table after a chain is laid in it: the chain, and all that shares no block with it.
 use mathlib.Core.Path.{_≡_, refl, _∙_}
 use mathlib.Core.List.{List, [], _∷_, _++_}
 use mathlib.Core.Logic.{_⊎_, inl, inr, ⊎-elim}

@@ -1,4 +1,4 @@
--- Layouts: what a cut and a step keep, runs in the order of their places, and what goes end to end. No table here. Assumes nothing.
+-- Layouts: what a cut and a step keep, runs in the order of their places, and what goes end to end. No table here.
 use mathlib.Core.Path.{_≡_, refl, sym, ap, _∙_}
 use mathlib.Core.List.{List, [], _∷_, _++_, List·Permᴰ, List·Permᴰ·nil, List·Permᴰ·cons, List·Permᴰ·swap, List·Permᴰ·trans, Permᴰ·refl}
 use mathlib.Core.Bool.{Bool, true, false, cond, _&&_}

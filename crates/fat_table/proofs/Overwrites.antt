@@ -1,4 +1,4 @@
--- Writes of nodes that share no block commute, and of two writes of one node the second stays; so it is with chains. Assumes nothing.
+-- Writes of nodes that share no block commute, and of two writes of one node the second stays; so it is with chains.
 use mathlib.Core.Path.{_≡_, refl, sym, ap, subst⁻¹, _∙_}
 use mathlib.Core.List.{List, [], _∷_, _++_}
 use mathlib.Core.Logic.{⊎-elim}

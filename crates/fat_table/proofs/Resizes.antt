@@ -1,4 +1,4 @@
--- Grow as create and two links; shrink as a cut in two files and delete of the second; a resize to the same count changes nothing. Assumes nothing.
+-- Grow as create and two links; shrink as a cut in two files and delete of the second; a resize to the same count changes nothing.
 use mathlib.Core.Path.{_≡_, refl, sym, ap, subst, _∙_}
 use mathlib.Core.List.{List, [], _∷_, _++_, append-nil, append-assoc}
 use Prim.Native.Nat.{ℕ, suc, _+_, _-_, _*_, _≤_, _<_}

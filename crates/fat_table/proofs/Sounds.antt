@@ -1,4 +1,4 @@
--- A table is sound exactly when it holds a layout. Assumes nothing.
+-- A table is sound exactly when it holds a layout.
 use mathlib.Core.Path.{_≡_, refl, sym, ap, subst, _∙_}
 use mathlib.Core.List.{List, [], _∷_, _++_, List·Permᴰ, List·Permᴰ·nil, List·Permᴰ·cons, List·Permᴰ·swap, List·Permᴰ·trans, append-assoc, Permᴰ·symm, Permᴰ·append-left, Permᴰ·append-right, List·Permᴰ·append-comm, List·Memᴰ·head, List·Memᴰ·tail, List·Memᴰ·cases-cons, List·Memᴰ·not-nil}
 use mathlib.Core.Logic.{_≢_, _⊎_, inl, inr, ⊎-elim}

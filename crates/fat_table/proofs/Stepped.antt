@@ -1,4 +1,4 @@
--- A chain that is laid is read back; each step, on a table that holds a layout, gives a table that holds the stepped layout. Assumes nothing.
+-- A chain that is laid is read back; each step, on a table that holds a layout, gives a table that holds the stepped layout.
 use mathlib.Core.Path.{_≡_, refl, sym, ap, subst, _∙_}
 use mathlib.Core.List.{List, [], _∷_, _++_, List·Permᴰ, List·Permᴰ·nil, List·Permᴰ·cons, List·Permᴰ·swap, List·Permᴰ·trans}
 use mathlib.Core.Logic.{⊎-elim}

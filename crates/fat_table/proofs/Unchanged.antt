@@ -1,4 +1,4 @@
--- Each step keeps every byte outside the head and the entries of the few nodes that it changes. Assumes nothing.
+-- Each step keeps every byte outside the head and the entries of the few nodes that it changes.
 use mathlib.Core.Path.{_≡_, refl, sym, ap, subst, subst⁻¹, _∙_}
 use mathlib.Core.List.{List, [], _∷_, _++_, List·Memᴰ·head, List·Memᴰ·tail, List·Memᴰ·cases-cons, List·Memᴰ·not-nil}
 use mathlib.Core.Bool.{Bool, true, false, cond}

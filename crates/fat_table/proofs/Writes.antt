@@ -1,4 +1,4 @@
--- A step writes few nodes: what it is to lay chains anew, as the few writes of nodes and of the head that change a byte. Assumes nothing.
+-- A step writes few nodes: what it is to lay chains anew, as the few writes of nodes and of the head that change a byte.
 use mathlib.Core.Path.{_≡_, refl, sym, ap, subst, _∙_}
 use mathlib.Core.List.{List, [], _∷_, _++_, append-assoc}
 use Prim.Native.Nat.{ℕ, zero, suc, _+_, _-_, _≤_, _<_}

@@ -1,4 +1,4 @@
--- Two tables that are the same in every entry that the rules read. Assumes nothing.
+-- Two tables that are the same in every entry that the rules read.
 use mathlib.Core.Path.{_≡_}
 use Prim.Native.Nat.{ℕ, _+_, _<_}
 use lib.ListN.{length}

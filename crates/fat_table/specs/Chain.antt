@@ -1,4 +1,4 @@
--- The chain that an index starts, read from the table node by node. Assumes nothing.
+-- The chain that an index starts, read from the table node by node.
 use mathlib.Core.List.{List, [], _∷_}
 use mathlib.Core.Bool.{cond}
 use Prim.Native.Nat.{ℕ, zero, suc, _+_, _-_}

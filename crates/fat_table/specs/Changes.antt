@@ -1,4 +1,4 @@
--- The nodes that a step changes, beside the head. Every byte outside their entries keeps its value. Assumes nothing.
+-- The nodes that a step changes, beside the head. Every byte outside their entries keeps its value.
 use mathlib.Core.Path.{_≡_}
 use mathlib.Core.List.{List, [], _∷_, _++_, List·Memᴰ}
 use mathlib.Core.Bool.{cond}

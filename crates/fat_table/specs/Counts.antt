@@ -1,4 +1,4 @@
--- What the test answers of a table of n blocks: its free blocks, and the number of its other chains. Assumes nothing.
+-- What the test answers of a table of n blocks: its free blocks, and the number of its other chains.
 use mathlib.Core.List.{List, [], _∷_}
 use mathlib.Core.Bool.{cond}
 use Prim.Native.Nat.{ℕ, zero, suc, _+_}

@@ -1,4 +1,4 @@
--- What it is that a table holds a layout. Assumes nothing.
+-- What it is that a table holds a layout.
 use mathlib.Core.Path.{_≡_}
 use mathlib.Core.List.{List, [], _∷_}
 use mathlib.Core.Logic.{_≢_}

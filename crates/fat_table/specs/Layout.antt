@@ -1,4 +1,4 @@
--- Layouts: how the blocks lie in chains of runs, and how a chain is cut. No table here. Assumes nothing.
+-- Layouts: how the blocks lie in chains of runs, and how a chain is cut. No table here.
 use mathlib.Core.Path.{_≡_}
 use mathlib.Core.List.{List, [], _∷_, _++_}
 use mathlib.Core.Bool.{cond, _&&_}

@@ -1,5 +1,5 @@
 -- The steps of document 01 as functions on the table's bytes; n is the number of blocks. A chain that a step changes is laid whole, so a node that does
--- not change is given the bytes that it has: that no other entry changes is a theorem about these definitions. Assumes nothing.
+-- not change is given the bytes that it has: that no other entry changes is a theorem about these definitions.
 use mathlib.Core.List.{List, [], _∷_, _++_}
 use mathlib.Core.Bool.{cond}
 use Prim.Native.Nat.{ℕ, suc, _-_}

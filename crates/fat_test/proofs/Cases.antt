@@ -1,4 +1,4 @@
--- Each way out of the test and of the gate, as a fact about the rows. Assumes nothing.
+-- Each way out of the test and of the gate, as a fact about the rows.
 use mathlib.Core.Path.{_≡_, refl, sym, ap, _∙_}
 use mathlib.Core.List.{List}
 use mathlib.Core.Bool.{true, false}

@@ -1,4 +1,4 @@
--- The test's promise and its input leave one answer. Assumes nothing.
+-- The test's promise and its input leave one answer.
 use mathlib.Core.Path.{_≡_}
 use mathlib.Core.List.{List}
 use Prim.Native.Nat.{ℕ}

@@ -1,10 +1,10 @@
--- The rows that the calls on a block table begin with: sizes, work list, soundness, in document 01's order. Assumes nothing.
+-- The rows that the calls on a block table begin with: sizes, work list, soundness, in document 01's order.
 use mathlib.Core.Path.{_≡_}
-use mathlib.Core.List.{List}
+use mathlib.Core.List.{List, [], _∷_}
 use mathlib.Core.Logic.{_⊎_}
 use Prim.Native.Nat.{ℕ, _*_, _<_}
 use lib.ListN.{length}
-use Rattle.order.specs.First.{Row}
+use Rattle.order.specs.First.{Row, row}
 use Rattle.order.specs.Gate.{gate}
 use Rattle.order.specs.declared.Answer.{Answer}
 use Rattle.order.specs.declared.Answer.the-variants.{BrokenFat}
@@ -12,10 +12,14 @@ use Rattle.fat_node.specs.Entry.{Bytes}
 use Rattle.fat_table.specs.Sound.{Sound}
 use Rattle.fat_node.specs.Sizes.{blocks, Misfit, Outside}
 
+-- the row of soundness
+abbrev pub unsound : Bytes → List (Row Answer)
+unsound t = row (Sound t (blocks t) → ⊥) BrokenFat ∷ []
+
 -- of the test, which takes the table alone; refuse a w is what the call gives with the answer a and the work list w
 abbrev pub testGate : {A : Type 0} → (Answer → List ℕ → A) → Bytes → List ℕ → List (Row A)
 testGate refuse t work =
-    gate refuse (Misfit t) (Outside t) (length work < blocks t) (Sound t (blocks t) → ⊥) BrokenFat (blocks t) work
+    gate refuse (Misfit t) (Outside t) (length work < blocks t) (unsound t) (blocks t) work
 
 -- of every call that takes data also: d is the length of the data, l the block length. All of row 1 comes before any of row 2, and n x l is a number
 -- with no bound.
@@ -25,7 +29,6 @@ blockGate refuse t d l work =
     (Misfit t ⊎ (d ≡ blocks t * l → ⊥))
     (Outside t ⊎ (l < 1) ⊎ (65536 < l))
     (length work < blocks t)
-    (Sound t (blocks t) → ⊥)
-    BrokenFat
+    (unsound t)
     (blocks t)
     work

@@ -1,4 +1,4 @@
--- What the test of the block table promises, and what its gate does. Assumes nothing.
+-- What the test of the block table promises, and what its gate does.
 use mathlib.Core.Path.{_≡_}
 use mathlib.Core.List.{List}
 use Prim.Native.Nat.{ℕ}

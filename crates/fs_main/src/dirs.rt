@@ -45,7 +45,17 @@ pub fn rename(what: &[u8], t: Tree, x: u32, parent: u32, letter: u8) -> Tree {
     let opens = t.dir_opens;
     let mut work = [0u32; 7];
     let n = name(letter);
-    let answer = tree::change::rename_dir(&mut dh, &mut d, &fh, &f, &mut work, &opens, x, parent, &n);
+    let answer = tree::change::rename_dir(
+        &mut dh,
+        &mut d,
+        &fh,
+        &f,
+        &mut work,
+        &opens,
+        x,
+        parent,
+        &n,
+    );
     line(what, answer);
     with(t, dh, d, opens)
 }

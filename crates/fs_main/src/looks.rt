@@ -1,11 +1,11 @@
 // The calls that look at directories, names and counts, each with what it writes.
-use tree_promises::Kind;
 use fs_tell::tell::line;
 use fs_tell::tell::line_with;
 use fs_tell::tell::name;
 use fs_tell::tell::tell_listed;
 use fs_tell::tell::tell_looked;
 use fs_tell::tree::Tree;
+use tree_promises::Kind;
 
 fn lookup_dir(what: &[u8], t: Tree, parent: u32, letter: u8) {
     let dh = t.dir_hash;

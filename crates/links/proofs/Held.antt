@@ -1,5 +1,4 @@
 -- The laws of a list that ends and holds exactly the entries that a rule names: nothing of it changed, an entry put in front, an entry taken out.
--- Assumes nothing.
 use mathlib.Core.Path.{_≡_, refl, sym, ap, _∙_, subst}
 use mathlib.Core.List.{List, [], _∷_, _++_}
 use mathlib.Core.Logic.{_⊎_, inl, inr, ⊎-elim, _≢_, _↔_}

@@ -1,5 +1,4 @@
 -- The laws of threaded lists: one list for a start, no entry twice, a walk computes it, entries below k are at most k, and what writes to link words do.
--- Assumes nothing.
 use mathlib.Core.Path.{_≡_, refl, sym, ap, _∙_, subst}
 use mathlib.Core.List.{List, [], _∷_, _++_}
 use mathlib.Core.Logic.{_⊎_, inl, inr, ⊎-elim, _≢_, _↔_}

@@ -1,4 +1,4 @@
--- Part of the way along a threaded list. Assumes nothing.
+-- Part of the way along a threaded list.
 use mathlib.Core.Path.{_≡_, refl, sym, ap, ap₂, _∙_, subst}
 use mathlib.Core.List.{List, [], _∷_, _++_}
 use mathlib.Core.Logic.{_⊎_, inl, inr}

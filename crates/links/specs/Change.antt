@@ -1,5 +1,4 @@
 -- What a change of a threaded list is said with: a function with another value at one place, the list as a walk finds it, and the entry before another.
--- Assumes nothing.
 use mathlib.Core.List.{List, [], _∷_}
 use mathlib.Core.Bool.{Bool, true, false}
 use Prim.Native.Nat.{ℕ, zero, suc}

@@ -1,4 +1,4 @@
--- Lists threaded through link words: an entry's link is the next entry's number, and 0 ends the list. Assumes nothing.
+-- Lists threaded through link words: an entry's link is the next entry's number, and 0 ends the list.
 use mathlib.Core.Path.{_≡_}
 use mathlib.Core.List.{List, [], _∷_}
 use mathlib.Core.Logic.{_⊎_, _↔_}

@@ -1,4 +1,4 @@
--- The promise of the name's export, from that of the call and by the kind. Assumes nothing.
+-- The promise of the name's export, from that of the call and by the kind.
 use mathlib.Core.Path.{_≡_, refl, ap, _∙_, subst⁻¹}
 use mathlib.Core.Bool.{Bool, true, false, not}
 use mathlib.Core.List.{List, [], _∷_}

@@ -1,4 +1,4 @@
--- What an export says of the number that it gives. Assumes nothing.
+-- What an export says of the number that it gives.
 use mathlib.Core.Path.{_≡_}
 use Prim.Native.Nat.{ℕ}
 use Rattle.order.specs.Answer.{numberOf}

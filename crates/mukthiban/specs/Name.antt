@@ -1,17 +1,16 @@
 -- What the export of the name promises: its answer is the place of the name in the table that the kind selects, 0 for the directories and 1 for the
--- files. Assumes nothing.
+-- files.
 use mathlib.Core.List.{List, [], _∷_}
 use mathlib.Core.Logic.{_⊎_}
 use Prim.Native.Nat.{ℕ, zero, suc, _+_, _*_, _<_}
 use lib.ListN.{length}
 use Rattle.order.specs.First.{Row, row}
-use Rattle.order.specs.Gate.{gate}
 use Rattle.order.specs.Beside.{Beside, beside, Promised}
 use Rattle.order.specs.declared.Answer.{Answer}
-use Rattle.order.specs.declared.Answer.the-variants.{Done, NotFound, BrokenTree}
+use Rattle.order.specs.declared.Answer.the-variants.{Done, NotFound}
 use Rattle.tree_table.specs.View.{View, LiveIn}
-use Rattle.tree_sound.specs.Sizes.{Misfit, Outside, rooms}
-use Rattle.tree_sound.specs.Sound.{Sound}
+use Rattle.tree_sound.specs.Sizes.{Outside, rooms}
+use Rattle.tree_test.specs.Gate.{entryGate}
 use Rattle.tree_promises.specs.Tables.{Tables, dirs, files}
 use Rattle.tree_promises.specs.Promise.{worked}
 
@@ -48,14 +47,11 @@ nameDone kind x = namedGives Done (x * kindWidth kind + 4)
 abbrev pub NamePromise : Tables → List ℕ → ℕ → ℕ → Beside Naming → Type 0
 NamePromise s work kind x o =
     Promised
-    (gate
+    (entryGate
     (λ a w. beside (namedGives a 0) w)
-    (Misfit (s .dirHash) (s .dirTable) (s .fileHash) (s .fileTable))
+    (s .dirHash) (s .dirTable) (s .fileHash) (s .fileTable)
     (Outside (s .dirHash) (s .dirTable) (s .fileHash) (s .fileTable) ⊎ (1 < kind))
     (length work < rooms (s .dirTable) (s .fileTable))
-    (Sound (dirs s) (files s) → ⊥)
-    BrokenTree
-    (rooms (s .dirTable) (s .fileTable))
     work)
     (worked s work)
     (nameRows s kind x)

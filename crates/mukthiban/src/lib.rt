@@ -9,7 +9,7 @@ mod tested_carried;
 mod tested_change;
 mod tested_look;
 mod tested_opens;
-mod tree;
+mod trees;
 
 // The answer of a call that gives nothing else.
 #[repr(C)]

@@ -12,10 +12,10 @@ ghost use Rattle.tree_promises.specs.Ready.{Ready, Single, LiveAt};
 ghost use Rattle.mukthiban.specs.Name.{namedGives, placed, nameRows, nameDone, NamePromise};
 ghost use Rattle.mukthiban.specs.Export.{Exported};
 use crate::Named;
-use tree_promises::Kind;
+use order::Answer;
 use tree_key::SaveExtDirEntry;
 use tree_key::SaveExtFileEntry;
-use order::Answer;
+use tree_promises::Kind;
 
 // Where the name stands in an entry: behind the parent's four bytes.
 const NAME: usize = 4;

@@ -43,7 +43,13 @@ pub extern "C" fn mukthiban_tested_tree_open_file(
     requires { ⌜ fileRoom (now «file_table») ≤ length (now opens) ⌝ }
     ensures { λ p. ⌜ Exported (p .answer) (λ a. First (openRows (files (tables (now («dir_hash» .entry)) (now («dir_table» .entry)) (now («file_hash» .entry)) (now («file_table» .entry)))) (now (opens .entry)) inode) (openDone (now (opens .entry)) inode) (openingGives a (now (opens .exit)))) ⌝ }
 {
-    let answer = tree_inner::look::open(file_hash, file_table, SaveExtFileEntry::WIDTH, opens, inode);
+    let answer = tree_inner::look::open(
+        file_hash,
+        file_table,
+        SaveExtFileEntry::WIDTH,
+        opens,
+        inode,
+    );
     Plain {
         answer: order::number(answer),
     }
@@ -81,7 +87,13 @@ pub extern "C" fn mukthiban_tested_tree_close_file(
     requires { ⌜ fileRoom (now «file_table») ≤ length (now opens) ⌝ }
     ensures { λ p. ⌜ Exported (p .answer) (λ a. First (closeRows (files (tables (now («dir_hash» .entry)) (now («dir_table» .entry)) (now («file_hash» .entry)) (now («file_table» .entry)))) (now (opens .entry)) inode) (closeDone (now (opens .entry)) inode) (openingGives a (now (opens .exit)))) ⌝ }
 {
-    let answer = tree_inner::look::close(file_hash, file_table, SaveExtFileEntry::WIDTH, opens, inode);
+    let answer = tree_inner::look::close(
+        file_hash,
+        file_table,
+        SaveExtFileEntry::WIDTH,
+        opens,
+        inode,
+    );
     Plain {
         answer: order::number(answer),
     }

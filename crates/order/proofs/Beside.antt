@@ -1,4 +1,4 @@
--- A whole promise from its parts: the front rows refuse, or they pass and the call's own rows decide. Assumes nothing.
+-- A whole promise from its parts: the front rows refuse, or they pass and the call's own rows decide.
 use mathlib.Core.Path.{_≡_, ap}
 use mathlib.Core.List.{List, [], _∷_, _++_}
 use mathlib.Core.Logic.{_⊎_, inl, inr}

@@ -1,4 +1,4 @@
--- One answer; and what appended rows need. Assumes nothing.
+-- One answer; and what appended rows need.
 use mathlib.Core.Path.{_≡_, sym, _∙_}
 use mathlib.Core.List.{List, [], _∷_, _++_}
 use mathlib.Core.Logic.{_⊎_, inl, inr}

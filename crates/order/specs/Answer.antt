@@ -1,4 +1,4 @@
--- The numbers of document 01's table, for the answers by name. Assumes nothing.
+-- The numbers of document 01's table, for the answers by name.
 use Prim.Native.Nat.{ℕ}
 use Rattle.order.specs.declared.Answer.{Answer}
 use Rattle.order.specs.declared.Answer.the-variants.{

@@ -1,4 +1,4 @@
--- The shape that the promises of all calls have: the rows that all begin with, then the call's own. Assumes nothing.
+-- The shape that the promises of all calls have: the rows that all begin with, then the call's own.
 use mathlib.Core.List.{List, [], _∷_, _++_}
 use Prim.Native.Nat.{ℕ}
 use Rattle.order.specs.First.{Row, row, First}

@@ -1,5 +1,4 @@
 -- Of rows in order: that one of them gives an outcome, and that none of them applies. For functions that decide the rows a call begins with.
--- Assumes nothing.
 use mathlib.Core.Path.{_≡_}
 use mathlib.Core.List.{List, [], _∷_}
 use mathlib.Core.Logic.{_⊎_}

@@ -3,3 +3,4 @@ pub mod First
 pub mod Gate
 pub mod Given
 pub mod Beside
+pub mod Giving

@@ -1,4 +1,4 @@
--- What is left to know of sizes and maxima where neither row of format applies, and lists that are all zero. Assumes nothing.
+-- What is left to know of sizes and maxima where neither row of format applies, and lists that are all zero.
 use mathlib.Core.Path.{_≡_, refl, sym, ap, _∙_, subst⁻¹}
 use mathlib.Core.List.{List, [], _∷_, _++_, append-nil}
 use mathlib.Core.Bool.{Bool, false}

@@ -1,5 +1,5 @@
 -- The promises of the two calls on a name leave one outcome: the number, and the bytes of the part that is shown. Where in the table an empty part stands is
--- left open. Assumes nothing.
+-- left open.
 use mathlib.Core.List.{List, [], _∷_}
 use Prim.Native.Nat.{ℕ}
 use Rattle.order.specs.First.{row}

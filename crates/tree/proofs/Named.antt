@@ -1,4 +1,4 @@
--- The ways out of the calls on a name. Assumes nothing.
+-- The ways out of the calls on a name.
 use mathlib.Core.Path.{_≡_, refl, sym, ap, subst, subst⁻¹, _∙_}
 use mathlib.Core.List.{List, [], _∷_}
 use Prim.Native.Nat.{ℕ, _<_}

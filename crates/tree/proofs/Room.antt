@@ -1,4 +1,4 @@
--- A list that is not too short is long enough. Assumes nothing.
+-- A list that is not too short is long enough.
 use mathlib.Core.Logic.{_⊎_, inr}
 use Prim.Native.Nat.{ℕ, _≤_, _<_}
 use native.Mathlib.Nat.{lt-of-not-le}

@@ -1,4 +1,4 @@
--- What the calls on a name promise. A kind selects the table. Assumes nothing.
+-- What the calls on a name promise. A kind selects the table.
 use mathlib.Core.List.{List, [], _∷_}
 use Prim.Native.Nat.{ℕ}
 use Rattle.order.specs.First.{row}

@@ -3,9 +3,9 @@ ghost use Rattle.order.specs.Beside.{beside};
 ghost use Rattle.tree_promises.specs.Tables.{tables};
 ghost use Rattle.tree_promises.specs.Calls.{shownGives, carryGives};
 ghost use Rattle.tree_promises.specs.Public.{CarriedDirPromise, CarriedFilePromise, SetCarriedDirPromise, SetCarriedFilePromise};
+use order::Answer;
 use tree_inner::carry::CarriedDir;
 use tree_inner::carry::CarriedFile;
-use order::Answer;
 use tree_test::Gated;
 
 // Reads the 4 bytes that directory `inode` carries for the caller. Done: the bytes; refused: zeros.

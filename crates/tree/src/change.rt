@@ -5,11 +5,11 @@ ghost use Rattle.order.specs.Beside.{beside};
 ghost use Rattle.tree_promises.specs.Tables.{tables};
 ghost use Rattle.tree_promises.specs.Calls.{makeGives, changeGives};
 ghost use Rattle.tree_promises.specs.Public.{MakeDirPromise, MakeFilePromise, RenameDirPromise, RenameFilePromise, DeleteDirPromise, DeleteFilePromise};
+use order::Answer;
 use tree_inner::make::Made;
 use tree_key::SaveExtDirEntry;
 use tree_key::SaveExtFileEntry;
 use tree_test::Gated;
-use order::Answer;
 
 // Makes a directory in a parent. Done: its inode; it is the first of its parent and of its bucket, has no children, carries the padding, and is open once.
 pub fn make_dir(

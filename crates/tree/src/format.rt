@@ -11,10 +11,10 @@ ghost use Rattle.tree_table.specs.Field.{write, wrote};
 ghost use Rattle.tree_promises.specs.Tables.{tables};
 ghost use Rattle.tree_promises.specs.Calls.{carryGives};
 ghost use Rattle.tree_promises.specs.Format.{FormatMisfit, FormatOutside, FormatPromise, formatted};
+use order::Answer;
 use tree_key::SaveExtDirEntry;
 use tree_key::SaveExtFileEntry;
 use tree_key::SaveExtKey;
-use order::Answer;
 
 // Whether a table does not fit, or is shorter than its maximum of entries.
 fn misfit(

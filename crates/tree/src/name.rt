@@ -1,9 +1,9 @@
 // The name of an entry, shown as a part of the directory table or of the file table.
-use tree_promises::Kind;
+use order::Answer;
 use tree_key::SaveExtDirEntry;
 use tree_key::SaveExtFileEntry;
+use tree_promises::Kind;
 use tree_test::Gated;
-use order::Answer;
 ghost use mathlib.Core.Path.{_≡_};
 ghost use mathlib.Core.List.{[], _∷_};
 ghost use Prim.Native.Nat.{_≤_};

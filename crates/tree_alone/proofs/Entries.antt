@@ -1,4 +1,4 @@
--- One entry by itself: its hash and the keys behind it. Assumes nothing.
+-- One entry by itself: its hash and the keys behind it.
 use mathlib.Core.Path.{_≡_, refl, sym, ap, _∙_, subst}
 use mathlib.Core.List.{List, [], _∷_}
 use mathlib.Core.Logic.{_⊎_, inl, inr, ⊎-elim, _≢_}

@@ -1,4 +1,4 @@
--- What the walks over one table find out makes it sound by itself, and the reverse. Assumes nothing.
+-- What the walks over one table find out makes it sound by itself, and the reverse.
 use mathlib.Core.Path.{_≡_, refl, sym, ap, _∙_, subst}
 use mathlib.Core.List.{List, [], _∷_}
 use mathlib.Core.Logic.{_⊎_, inl, inr, ⊎-elim, _≢_, _↔_}

@@ -1,4 +1,4 @@
--- One table's test as a whole: its front, its lists, and the marks that are left. Assumes nothing.
+-- One table's test as a whole: its front, its lists, and the marks that are left.
 use mathlib.Core.Path.{_≡_, refl, sym, ap, _∙_, subst}
 use mathlib.Core.List.{List, [], _∷_}
 use mathlib.Core.Logic.{_⊎_, inl, inr, ⊎-elim, _≢_, _↔_}

@@ -1,4 +1,4 @@
--- The parts of one table's test together: each outcome, and what it says. Assumes nothing.
+-- The parts of one table's test together: each outcome, and what it says.
 use mathlib.Core.Path.{_≡_, refl, sym, ap, _∙_, subst}
 use mathlib.Core.List.{List, [], _∷_}
 use mathlib.Core.Logic.{_⊎_, inl, inr, ⊎-elim, _≢_, _↔_}

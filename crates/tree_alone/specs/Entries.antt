@@ -1,4 +1,4 @@
--- What the test asks of one entry by itself, once its table's buckets were gone along. Assumes nothing.
+-- What the test asks of one entry by itself, once its table's buckets were gone along.
 use mathlib.Core.Path.{_≡_}
 use mathlib.Core.List.{List}
 use mathlib.Core.Logic.{_⊎_}

@@ -1,4 +1,4 @@
--- What the parts of the test promise, table by table. Assumes nothing.
+-- What the parts of the test promise, table by table.
 use mathlib.Core.Path.{_≡_}
 use mathlib.Core.List.{List}
 use mathlib.Core.Logic.{_⊎_, _≢_, _↔_}

@@ -1,4 +1,4 @@
--- Every call that changes tables or open counts, from its promise. Assumes nothing.
+-- Every call that changes tables or open counts, from its promise.
 use mathlib.Core.Path.{_≡_}
 use mathlib.Core.List.{List, [], _∷_}
 use mathlib.Core.Logic.{_⊎_}

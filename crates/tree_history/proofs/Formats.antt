@@ -1,4 +1,4 @@
--- Format makes sound tables. Assumes nothing.
+-- Format makes sound tables.
 use mathlib.Core.Path.{_≡_, refl, sym, ap, _∙_, subst, subst⁻¹}
 use mathlib.Core.List.{List, [], _∷_, _++_}
 use mathlib.Core.Logic.{inl, inr, ⊎-elim, _≢_}

@@ -1,4 +1,4 @@
--- What every call leaves, from its promise. Assumes nothing.
+-- What every call leaves, from its promise.
 use mathlib.Core.Path.{_≡_, refl, ap}
 use mathlib.Core.List.{List, [], _∷_}
 use Prim.Native.Nat.{ℕ, _<_}
@@ -11,7 +11,7 @@ use Rattle.order.specs.declared.Answer.{Answer}
 use Rattle.order.specs.declared.Answer.the-variants.{Done, SizeMismatch, InvalidValue, WorkTooShort, BrokenTree}
 use Rattle.tree_sound.specs.Sound.{Sound}
 use Rattle.tree_promises.specs.Tables.{dirs, files}
-use Rattle.tree_promises.specs.Calls.{giving}
+use Rattle.order.specs.Giving.{giving}
 use Rattle.tree_promises.specs.Promise.{worked}
 use Rattle.tree_history.specs.Whole.{Lent, Whole, SameSizes}
 use Rattle.tree_history.specs.Call.{State}

@@ -1,4 +1,4 @@
--- The calls that change neither tables nor open counts, from their promises. Assumes nothing.
+-- The calls that change neither tables nor open counts, from their promises.
 use mathlib.Core.List.{List, [], _∷_}
 use Prim.Native.Nat.{ℕ, _<_}
 use native.Mathlib.Omega.{arith}

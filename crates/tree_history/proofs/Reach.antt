@@ -1,4 +1,4 @@
--- Why directories stay reachable: a rename keeps every way up to the root where it does not go below itself, and else makes a ring. Assumes nothing.
+-- Why directories stay reachable: a rename keeps every way up to the root where it does not go below itself, and else makes a ring.
 use mathlib.Core.Path.{_≡_, refl, sym, ap, _∙_, subst}
 use mathlib.Core.List.{List, [], _∷_}
 use mathlib.Core.Logic.{inl, inr, ⊎-elim, _≢_}

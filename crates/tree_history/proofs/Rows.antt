@@ -1,18 +1,18 @@
--- What holds of every row that applies, and of the last, holds of the outcome. Assumes nothing.
+-- What holds of every row that applies, and of the last, holds of the outcome.
 use mathlib.Core.Path.{subst⁻¹}
 use mathlib.Core.List.{List, [], _∷_}
 use mathlib.Core.Logic.{inl, inr}
 use Prim.Native.Nat.{ℕ}
 use Rattle.order.specs.First.{Row, First}
-use Rattle.order.specs.Gate.{gate}
 use Rattle.order.specs.Given.{None}
 use Rattle.order.specs.Beside.{Beside, beside, within, Promised}
 use Rattle.order.specs.declared.Answer.{Answer}
 use Rattle.order.specs.declared.Answer.the-variants.{SizeMismatch, InvalidValue, WorkTooShort, BrokenTree}
-use Rattle.tree_sound.specs.Sizes.{Misfit, Outside, rooms}
+use Rattle.tree_sound.specs.Sizes.{Outside}
+use Rattle.tree_test.specs.Gate.{entryGate}
 use Rattle.tree_sound.specs.Sound.{Sound}
 use Rattle.tree_promises.specs.Tables.{Tables, dirs, files}
-use Rattle.tree_promises.specs.Calls.{giving}
+use Rattle.order.specs.Giving.{giving}
 use Rattle.tree_promises.specs.Promise.{worked}
 use Rattle.tree_history.specs.Whole.{Lent, Whole}
 use Rattle.tree_history.proofs.Stable.{sound-stable}
@@ -48,9 +48,8 @@ none-giving refuse (r ∷ rs) n = (n .0, none-giving refuse rs (n .1))
 -- the rows of sizes, work list and soundness; short is when the work list or the open counts are too short
 abbrev pub front : {A : Type 0} → (Answer → A) → Tables → Type 0 → List ℕ → List (Row (Beside A))
 front refuse s short work =
-    gate (λ a w. beside (refuse a) w) (Misfit (s .dirHash) (s .dirTable) (s .fileHash) (s .fileTable))
-    (Outside (s .dirHash) (s .dirTable) (s .fileHash) (s .fileTable)) short (Sound (dirs s) (files s) → ⊥) BrokenTree
-    (rooms (s .dirTable) (s .fileTable)) work
+    entryGate (λ a w. beside (refuse a) w) (s .dirHash) (s .dirTable) (s .fileHash) (s .fileTable)
+    (Outside (s .dirHash) (s .dirTable) (s .fileHash) (s .fileTable)) short work
 
 -- P holds of what those rows give
 pub record Gate {A : Type 0} (P : A → Type 0) (refuse : Answer → A) (s : Tables) : Type 0 where

@@ -1,4 +1,4 @@
--- Writes keep bytes and sizes; and what sizes that fit say. Assumes nothing.
+-- Writes keep bytes and sizes; and what sizes that fit say.
 use mathlib.Core.Path.{_≡_, _∙_, subst}
 use mathlib.Core.List.{List}
 use mathlib.Core.Logic.{_⊎_, inl, inr}

@@ -1,4 +1,4 @@
--- NoSpace in rename never comes. Assumes nothing.
+-- NoSpace in rename never comes.
 use mathlib.Core.Path.{_≡_, ap}
 use mathlib.Core.List.{List}
 use Prim.Native.Nat.{ℕ, _+_, _<_}

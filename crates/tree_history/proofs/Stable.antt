@@ -1,4 +1,4 @@
--- What the rows ask of the tables holds where it is not denied: a row that does not apply says the rest. Assumes nothing.
+-- What the rows ask of the tables holds where it is not denied: a row that does not apply says the rest.
 use mathlib.Core.Path.{_≡_, refl, sym, ap₂, subst}
 use mathlib.Core.List.{List, [], _∷_}
 use mathlib.Core.Logic.{_⊎_, inl, inr, ⊎-elim, _≢_}

@@ -1,4 +1,4 @@
--- The steps are writes. Assumes nothing.
+-- The steps are writes.
 use mathlib.Core.List.{List, [], _∷_, _++_}
 use Prim.Native.Nat.{ℕ}
 use lib.Dec.{eqb}

@@ -1,4 +1,4 @@
--- The theorems of the entry tables over whole histories. Their statements name definitions of specs/ alone. Assumes nothing.
+-- The theorems of the entry tables over whole histories. Their statements name definitions of specs/ alone.
 use mathlib.Core.Path.{_≡_, refl}
 use mathlib.Core.List.{List}
 use Prim.Native.Nat.{ℕ, _≤_, _<_}

@@ -1,4 +1,4 @@
--- The public calls on the entry tables, as steps of a history. Assumes nothing.
+-- The public calls on the entry tables, as steps of a history.
 use mathlib.Core.Path.{_≡_}
 use mathlib.Core.List.{List}
 use Prim.Native.Nat.{ℕ}

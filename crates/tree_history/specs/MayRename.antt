@@ -1,4 +1,4 @@
--- What lets a directory go to another parent. Assumes nothing.
+-- What lets a directory go to another parent.
 use mathlib.Core.Path.{_≡_}
 use mathlib.Core.List.{List}
 use Prim.Native.Nat.{ℕ}

@@ -1,4 +1,4 @@
--- A history of the entry tables: public calls one after the other, whatever each answers. Assumes nothing.
+-- A history of the entry tables: public calls one after the other, whatever each answers.
 use Rattle.order.specs.declared.Answer.{Answer}
 use Rattle.tree_history.specs.Call.{State, Call}
 

@@ -1,4 +1,4 @@
--- What a call leaves of the entry tables. Assumes nothing.
+-- What a call leaves of the entry tables.
 use mathlib.Core.Path.{_≡_}
 use mathlib.Core.List.{List}
 use lib.ListN.{length}

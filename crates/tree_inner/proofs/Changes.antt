@@ -1,4 +1,4 @@
--- The calls that change sound tables, by the places of their code. Assumes nothing.
+-- The calls that change sound tables, by the places of their code.
 use mathlib.Core.Path.{_≡_, refl, sym, ap, ap₂, _∙_, subst}
 use mathlib.Core.Bool.{Bool, true, false}
 use mathlib.Core.List.{List, [], _∷_, _++_}
@@ -26,7 +26,8 @@ use Rattle.tree_table.proofs.Field.{length-wrote}
 use Rattle.tree_sound.specs.Sound.{Table, Sound, up}
 use Rattle.tree_promises.specs.Tables.{Tables, tables, dirs, files, above, Has, HasOther}
 use Rattle.tree_promises.specs.Steps.{unlinkedDir, unlinkedFile, linkedDir, linkedFile}
-use Rattle.tree_promises.specs.Calls.{giving, heldTests, deleteTests, deleteDirTests, renameDirTests, renameFileTests, makeTests, changeGives, deleteFileRows, deleteFileDone, deleteDirRows, deleteDirDone, renameFileRows, renameFileDone, renameDirRows, renameDirDone, opened}
+use Rattle.order.specs.Giving.{giving}
+use Rattle.tree_promises.specs.Calls.{heldTests, deleteTests, deleteDirTests, renameDirTests, renameFileTests, makeTests, changeGives, deleteFileRows, deleteFileDone, deleteDirRows, deleteDirDone, renameFileRows, renameFileDone, renameDirRows, renameDirDone, opened}
 use Rattle.tree_promises.specs.Ready.{Ready, LiveAt, Single, alone, hashed}
 use Rattle.tree_inner.specs.Seat.{headOf, Listed}
 use Rattle.tree_inner.specs.Judge.{JudgedBy}

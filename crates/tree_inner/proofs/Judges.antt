@@ -1,4 +1,4 @@
--- The tests before a step, by the places of their code. Assumes nothing.
+-- The tests before a step, by the places of their code.
 use mathlib.Core.Path.{_≡_, refl, sym, ap, _∙_, subst}
 use mathlib.Core.Bool.{Bool, true, false, not}
 use mathlib.Core.List.{List, [], _∷_, _++_}
@@ -24,7 +24,8 @@ use Rattle.tree_table.specs.Chain.{linkAt, listAt, Ends, seekIn}
 use Rattle.tree_table.specs.declared.Hit.{Hit}
 use Rattle.tree_sound.specs.Sizes.{buckets}
 use Rattle.tree_promises.specs.Tables.{Tables, tables, dirs, files, HasOther, Has}
-use Rattle.tree_promises.specs.Calls.{giving, heldTests, deleteTests, deleteDirTests, opened}
+use Rattle.order.specs.Giving.{giving}
+use Rattle.tree_promises.specs.Calls.{heldTests, deleteTests, deleteDirTests, opened}
 use Rattle.tree_promises.specs.Ready.{LiveAt, Single, alone, hashed}
 use Rattle.tree_inner.specs.Judge.{JudgedBy}
 use Rattle.tree_inner.specs.declared.judge.Judged.{Judged}

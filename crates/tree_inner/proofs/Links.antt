@@ -1,4 +1,4 @@
--- What the code that links and unlinks an entry has written: the steps of the specification. Assumes nothing.
+-- What the code that links and unlinks an entry has written: the steps of the specification.
 use mathlib.Core.Path.{_≡_, refl, sym, ap, ap₂, _∙_, subst}
 use mathlib.Core.List.{List, [], _∷_, _++_}
 use Prim.Native.Nat.{ℕ, _+_, _-_, _*_, _/_, _%_, _≤_, _<_}

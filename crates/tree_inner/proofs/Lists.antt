@@ -1,4 +1,4 @@
--- The lists of sound tables are those that the code walks: each ends, lies in its table, and is what its definition says. Assumes nothing.
+-- The lists of sound tables are those that the code walks: each ends, lies in its table, and is what its definition says.
 use mathlib.Core.Path.{_≡_, refl, sym, ap, _∙_, subst}
 use mathlib.Core.List.{List, [], _∷_}
 use Prim.Native.Nat.{ℕ, suc, _+_, _-_, _*_, _/_, _≤_, _<_}

@@ -1,4 +1,4 @@
--- Whether an inode is live, by the bucket of its own key. Assumes nothing.
+-- Whether an inode is live, by the bucket of its own key.
 use mathlib.Core.Path.{_≡_, refl, sym, ap, _∙_, subst}
 use mathlib.Core.Bool.{Bool, true, false}
 use mathlib.Core.List.{List, [], _∷_}

@@ -1,4 +1,4 @@
--- Lookup's rows, from what the walk along a bucket finds. Assumes nothing.
+-- Lookup's rows, from what the walk along a bucket finds.
 use mathlib.Core.Path.{_≡_, refl, sym, ap, _∙_, subst}
 use mathlib.Core.Bool.{Bool, true, false}
 use mathlib.Core.List.{List, [], _∷_}

@@ -1,4 +1,4 @@
--- Make on sound tables, by the places of its code. Assumes nothing.
+-- Make on sound tables, by the places of its code.
 use mathlib.Core.Path.{_≡_, refl, sym, ap, ap₂, _∙_, subst}
 use mathlib.Core.Bool.{Bool, true, false}
 use mathlib.Core.List.{List, [], _∷_, _++_}

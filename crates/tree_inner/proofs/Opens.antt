@@ -1,4 +1,4 @@
--- The rows of open and close, by the places of their code. Assumes nothing.
+-- The rows of open and close, by the places of their code.
 use mathlib.Core.Path.{_≡_, refl, sym, ap, _∙_, subst}
 use mathlib.Core.Bool.{Bool, true, false}
 use mathlib.Core.List.{List, [], _∷_}

@@ -1,4 +1,4 @@
--- Where an entry of a sound table stands in its lists. Assumes nothing.
+-- Where an entry of a sound table stands in its lists.
 use mathlib.Core.Path.{_≡_, refl, sym, ap, _∙_, subst}
 use mathlib.Core.List.{List, [], _∷_}
 use mathlib.Core.Logic.{_⊎_, ⊎-elim}

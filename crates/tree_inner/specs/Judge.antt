@@ -1,4 +1,4 @@
--- What the tests before a step decide. Assumes nothing.
+-- What the tests before a step decide.
 use mathlib.Core.List.{List}
 use Rattle.order.specs.First.{Row}
 use Rattle.order.specs.Given.{Given, None}

@@ -1,4 +1,4 @@
--- Where an entry stands in its two lists, as the code that takes it out finds it. Assumes nothing.
+-- Where an entry stands in its two lists, as the code that takes it out finds it.
 use mathlib.Core.Path.{_≡_}
 use mathlib.Core.List.{List}
 use Prim.Native.Nat.{ℕ, _+_, _*_, _<_, _≤_}

@@ -1,4 +1,4 @@
--- What taking an entry of a table asks for: entry 0, and the entry to take, lie in the table. Assumes nothing.
+-- What taking an entry of a table asks for: entry 0, and the entry to take, lie in the table.
 use mathlib.Core.Path.{_≡_}
 use mathlib.Core.List.{List}
 use Prim.Native.Nat.{ℕ, _+_, _*_, _/_, _≤_, _<_}

@@ -11,9 +11,9 @@ ghost use Rattle.tree_promises.specs.Steps.{carriedDir, carriedFile};
 ghost use Rattle.tree_promises.specs.Ready.{LiveAt, Single, alone, setGives};
 ghost use Rattle.tree_promises.specs.Calls.{part, shownRows, shownGives};
 use crate::look::live;
+use order::Answer;
 use tree_key::SaveExtDirEntry;
 use tree_key::SaveExtFileEntry;
-use order::Answer;
 
 // Twenty bytes of a table, from a place on.
 fn bytes20(table: &[u8], at: usize) -> [u8; 20]

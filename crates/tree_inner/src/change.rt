@@ -16,9 +16,9 @@ use crate::step::link_dir;
 use crate::step::link_file;
 use crate::step::unlink_dir;
 use crate::step::unlink_file;
+use order::Answer;
 use tree_key::SaveExtDirEntry;
 use tree_key::SaveExtFileEntry;
-use order::Answer;
 
 // Deletes file x.
 pub fn delete_file(

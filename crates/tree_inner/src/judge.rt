@@ -12,10 +12,10 @@ ghost use Rattle.tree_promises.specs.Calls.{heldTests, deleteTests, deleteDirTe
 ghost use Rattle.tree_promises.specs.Ready.{Ready, Single, alone, hashed};
 ghost use Rattle.tree_inner.specs.Judge.{JudgedBy};
 use crate::look::live;
+use order::Answer;
 use tree_key::SaveExtDirEntry;
 use tree_key::SaveExtFileEntry;
 use tree_key::SaveExtKey;
-use order::Answer;
 
 // What the tests decide: the step may go, or the answer that refuses it.
 pub enum Judged {

@@ -10,10 +10,10 @@ ghost use Rattle.tree_table.specs.Steps.{freeOf};
 ghost use Rattle.tree_promises.specs.Tables.{tables};
 ghost use Rattle.tree_key.specs.Key.{keyWords};
 ghost use Rattle.tree_promises.specs.Ready.{Ready, LiveAt, Single, alone, hashed};
+use order::Answer;
 use tree_key::SaveExtDirEntry;
 use tree_key::SaveExtFileEntry;
 use tree_key::SaveExtKey;
-use order::Answer;
 
 // Whether inode x of a table is live: it stands in the bucket of its own key.
 pub fn live(hash: &[u8], table: &[u8], w: usize, x: u32) -> bool

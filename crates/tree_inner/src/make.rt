@@ -13,15 +13,15 @@ ghost use Rattle.tree_promises.specs.Steps.{madeDir, madeFile};
 ghost use Rattle.tree_promises.specs.Calls.{makeGives, makeRows, makeDirDone, makeFileDone};
 ghost use Rattle.tree_promises.specs.Ready.{Ready, alone};
 ghost use Rattle.tree_inner.specs.Take.{Takes};
+use crate::carry::put_carried_dir;
+use crate::carry::put_carried_file;
 use crate::judge::Judged;
 use crate::judge::judge_make;
 use crate::step::link_dir;
 use crate::step::link_file;
-use crate::carry::put_carried_dir;
-use crate::carry::put_carried_file;
+use order::Answer;
 use tree_key::SaveExtDirEntry;
 use tree_key::SaveExtFileEntry;
-use order::Answer;
 
 // A make's answer: the new entry's inode.
 pub struct Made {

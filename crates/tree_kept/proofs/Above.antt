@@ -1,4 +1,4 @@
--- The way up from a live directory in sound tables. Assumes nothing.
+-- The way up from a live directory in sound tables.
 use mathlib.Core.Path.{_≡_, refl, sym, ap, _∙_, subst}
 use mathlib.Core.List.{List, [], _∷_}
 use mathlib.Core.Logic.{inl, inr, ⊎-elim, _≢_}

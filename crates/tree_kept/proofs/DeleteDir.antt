@@ -1,4 +1,4 @@
--- Deleting a directory that has no children keeps the tree. Assumes nothing.
+-- Deleting a directory that has no children keeps the tree.
 use mathlib.Core.Path.{_≡_, refl, sym, ap, _∙_, subst}
 use mathlib.Core.List.{List, [], _∷_}
 use mathlib.Core.Logic.{_≢_}

@@ -1,4 +1,4 @@
--- The steps on directories keep the tree: rename, make and carried bytes. Assumes nothing.
+-- The steps on directories keep the tree: rename, make and carried bytes.
 use mathlib.Core.Path.{_≡_, refl, sym, ap, _∙_, subst}
 use mathlib.Core.List.{List, [], _∷_, _++_}
 use mathlib.Core.Logic.{_≢_}

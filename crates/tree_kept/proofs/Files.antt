@@ -1,4 +1,4 @@
--- The steps on files keep the tree. Assumes nothing.
+-- The steps on files keep the tree.
 use mathlib.Core.Path.{_≡_, refl, sym, ap, _∙_, subst}
 use mathlib.Core.List.{List, [], _∷_}
 use mathlib.Core.Logic.{_≢_}

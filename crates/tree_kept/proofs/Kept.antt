@@ -1,5 +1,5 @@
 -- Every tree call that is answered Done leaves sound tables: where document 01's rows let a step pass, the step keeps Sound. The hypotheses are the
--- rows' own conditions, not met. Assumes nothing.
+-- rows' own conditions, not met.
 use mathlib.Core.Path.{_≡_, refl, sym, ap, subst}
 use mathlib.Core.List.{List, [], _∷_}
 use mathlib.Core.Logic.{_⊎_, inl, inr, ⊎-elim, _≢_}

@@ -1,4 +1,4 @@
--- Which entries the steps touch, that their writes fit, and what a change of the files leaves of the tree. Assumes nothing.
+-- Which entries the steps touch, that their writes fit, and what a change of the files leaves of the tree.
 use mathlib.Core.Path.{_≡_, sym, ap, _∙_, subst}
 use mathlib.Core.List.{List, [], _∷_, _++_}
 use mathlib.Core.Logic.{⊎-elim}

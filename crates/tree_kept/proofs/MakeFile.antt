@@ -1,4 +1,4 @@
--- Making a file and setting carried bytes keep the tree. Assumes nothing.
+-- Making a file and setting carried bytes keep the tree.
 use mathlib.Core.Path.{_≡_, refl, sym, ap, _∙_, subst}
 use mathlib.Core.List.{List, [], _∷_}
 use mathlib.Core.Logic.{⊎-elim, _≢_}

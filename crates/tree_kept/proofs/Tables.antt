@@ -1,4 +1,4 @@
--- Writes to the tables' bytes, as their views see them. Assumes nothing.
+-- Writes to the tables' bytes, as their views see them.
 use mathlib.Core.Path.{_≡_, refl, ap, _∙_}
 use mathlib.Core.List.{List, [], _∷_}
 use mathlib.Core.Logic.{_≢_}

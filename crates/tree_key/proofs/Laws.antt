@@ -1,4 +1,4 @@
--- What the hash's code computes, and that `sameKey` decides equality. Assumes nothing.
+-- What the hash's code computes, and that `sameKey` decides equality.
 use mathlib.Core.Path.{_≡_, refl, ap, ap₂, _∙_}
 use mathlib.Core.List.{List, [], _∷_}
 use mathlib.Core.Bool.{Bool, true, false, _&&_}

@@ -1,4 +1,4 @@
--- The hash of a key, by its words. Assumes nothing.
+-- The hash of a key, by its words.
 use mathlib.Core.List.{List, [], _∷_}
 use Prim.Native.Nat.{ℕ, _+_, _*_, _/_, _%_, _^_}
 use lib.Bits.{bitXor}

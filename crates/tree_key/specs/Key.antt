@@ -1,4 +1,4 @@
--- A key as five words: the parent inode and the sixteen name bytes, four to a word. Assumes nothing.
+-- A key as five words: the parent inode and the sixteen name bytes, four to a word.
 use mathlib.Core.List.{List, [], _∷_}
 use mathlib.Core.Bool.{Bool, true, false, _&&_}
 use Prim.Native.Nat.{ℕ}

@@ -1,4 +1,4 @@
--- Going up by the marks: laws. Assumes nothing.
+-- Going up by the marks: laws.
 use mathlib.Core.Path.{_≡_, refl, sym, ap, _∙_, subst}
 use mathlib.Core.List.{List, [], _∷_, _++_}
 use mathlib.Core.Logic.{_⊎_, inl, inr, ⊎-elim, _≢_, _↔_}

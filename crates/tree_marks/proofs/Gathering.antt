@@ -1,4 +1,4 @@
--- Many lists gone along one after the other: laws. Assumes nothing.
+-- Many lists gone along one after the other: laws.
 use mathlib.Core.Path.{_≡_, refl, sym, ap, _∙_, subst}
 use mathlib.Core.List.{List, [], _∷_}
 use mathlib.Core.Logic.{_⊎_, inl, inr, ⊎-elim, _≢_, _↔_}

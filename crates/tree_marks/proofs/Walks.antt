@@ -1,4 +1,4 @@
--- Going along a list and marking its entries. Assumes nothing.
+-- Going along a list and marking its entries.
 use mathlib.Core.Path.{_≡_, refl, sym, ap, _∙_, subst}
 use mathlib.Core.List.{List, [], _∷_, _++_}
 use mathlib.Core.Logic.{_⊎_, inl, inr, ⊎-elim, _≢_, _↔_}

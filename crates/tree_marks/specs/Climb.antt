@@ -1,4 +1,4 @@
--- Going up from a directory by its parents, as the marks name them; a mark 0 is where it is known that one comes to the root. Assumes nothing.
+-- Going up from a directory by its parents, as the marks name them; a mark 0 is where it is known that one comes to the root.
 use mathlib.Core.Path.{_≡_}
 use mathlib.Core.List.{List}
 use mathlib.Core.Logic.{_⊎_}

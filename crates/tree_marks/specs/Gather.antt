@@ -1,4 +1,4 @@
--- Many lists, numbered from 1, gone along one after the other with their numbers as marks. Assumes nothing.
+-- Many lists, numbered from 1, gone along one after the other with their numbers as marks.
 use mathlib.Core.Path.{_≡_}
 use mathlib.Core.List.{List}
 use mathlib.Core.Logic.{_⊎_, _≢_, _↔_}

@@ -1,4 +1,4 @@
--- What the walks of the tree's test promise: lists gone along, with marks left in the work list. Assumes nothing.
+-- What the walks of the tree's test promise: lists gone along, with marks left in the work list.
 use mathlib.Core.Path.{_≡_}
 use mathlib.Core.List.{List}
 use mathlib.Core.Bool.{Bool, true, false}

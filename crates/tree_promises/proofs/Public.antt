@@ -1,4 +1,4 @@
--- A public call is its gate, then the call inside that requires soundness. Assumes nothing.
+-- A public call is its gate, then the call inside that requires soundness.
 use mathlib.Core.Path.{_≡_, refl, sym, ap, subst, subst⁻¹, _∙_}
 use mathlib.Core.List.{List, [], _∷_, _++_}
 use mathlib.Core.Logic.{_⊎_, inl, inr}
@@ -6,8 +6,8 @@ use Prim.Native.Nat.{ℕ, zero, suc, _+_, _/_, _≤_, _<_}
 use native.Mathlib.Nat.{lt-of-not-le}
 use native.Mathlib.Omega.{arith}
 use lib.ListN.{length}
-use Rattle.order.specs.First.{Row, First}
-use Rattle.order.specs.Gate.{gate, cleared, Refusal, refusal}
+use Rattle.order.specs.First.{Row, row, First}
+use Rattle.order.specs.Gate.{cleared, Refusal, refusal}
 use Rattle.order.specs.Given.{Given, None}
 use Rattle.order.specs.Beside.{Beside, beside, Promised}
 use Rattle.order.specs.declared.Answer.{Answer}
@@ -16,6 +16,7 @@ use Rattle.order.proofs.Gate.{gate-given, gate-none}
 use Rattle.order.proofs.Beside.{refused, passed}
 use Rattle.tree_sound.specs.Sizes.{Misfit, Outside, rooms, buckets, dirRoom, fileRoom}
 use Rattle.tree_sound.specs.Sound.{Sound}
+use Rattle.tree_test.specs.Gate.{entryGate}
 use Rattle.tree_test.specs.Promise.{GateOf}
 use Rattle.tree_test.specs.declared.Gated.{Gated}
 use Rattle.tree_test.specs.declared.Gated.the-variants.{Open, Refused}
@@ -26,8 +27,7 @@ use Rattle.tree_promises.specs.Ready.{Ready}
 -- the rows of sizes, work list and soundness; short is when the work list or the open counts are too short
 abbrev rowsOf : {A : Type 0} → (Answer → List ℕ → A) → Tables → Type 0 → List ℕ → List (Row A)
 rowsOf refuse s short work =
-    gate refuse (Misfit (s .dirHash) (s .dirTable) (s .fileHash) (s .fileTable)) (Outside (s .dirHash) (s .dirTable) (s .fileHash) (s .fileTable)) short
-    (Sound (dirs s) (files s) → ⊥) BrokenTree (rooms (s .dirTable) (s .fileTable)) work
+    entryGate refuse (s .dirHash) (s .dirTable) (s .fileHash) (s .fileTable) (Outside (s .dirHash) (s .dirTable) (s .fileHash) (s .fileTable)) short work
 
 abbrev Says : Tables → Type 0 → List ℕ → List ℕ → Gated → Type 0
 Says s short work work′ g = GateOf (rowsOf refusal s short work) (Sound (dirs s) (files s)) (rooms (s .dirTable) (s .fileTable)) work work′ g
@@ -38,8 +38,8 @@ module _ {A : Type 0} (refuse : Answer → A) (s : Tables) (short : Type 0) (wor
   pub shut : (a : Answer) → g ≡ Refused a → Promised (rowsOf (λ a w. beside (refuse a) w) s short work) (worked s work) own done (beside (refuse a) work′)
   shut a e =
       refused (rowsOf (λ a w. beside (refuse a) w) s short work) (worked s work) own done (beside (refuse a) work′)
-      (gate-given (λ a w. beside (refuse a) w) (Misfit (s .dirHash) (s .dirTable) (s .fileHash) (s .fileTable))
-      (Outside (s .dirHash) (s .dirTable) (s .fileHash) (s .fileTable)) short (Sound (dirs s) (files s) → ⊥) BrokenTree (rooms (s .dirTable) (s .fileTable)) work a work′
+      (gate-given (λ a w. beside (refuse a) w) (rooms (s .dirTable) (s .fileTable)) work (Misfit (s .dirHash) (s .dirTable) (s .fileHash) (s .fileTable))
+      (Outside (s .dirHash) (s .dirTable) (s .fileHash) (s .fileTable)) short (row (Sound (dirs s) (files s) → ⊥) BrokenTree ∷ []) a work′
       (subst (Says s short work work′) e says))
 
   -- it is open, and the call inside gives o
@@ -48,8 +48,8 @@ module _ {A : Type 0} (refuse : Answer → A) (s : Tables) (short : Type 0) (wor
       let w : None (rowsOf refusal s short work) × Sound (dirs s) (files s) × (work′ ≡ worked s work) = subst (Says s short work work′) e says in
       subst⁻¹ (λ (l : List ℕ). Promised (rowsOf (λ a w. beside (refuse a) w) s short work) (worked s work) own done (beside o l)) (w .2)
       (passed (rowsOf (λ a w. beside (refuse a) w) s short work) (worked s work) own done o
-      (gate-none (λ a w. beside (refuse a) w) (Misfit (s .dirHash) (s .dirTable) (s .fileHash) (s .fileTable))
-      (Outside (s .dirHash) (s .dirTable) (s .fileHash) (s .fileTable)) short (Sound (dirs s) (files s) → ⊥) BrokenTree (rooms (s .dirTable) (s .fileTable)) work (w .0))
+      (gate-none (λ a w. beside (refuse a) w) (rooms (s .dirTable) (s .fileTable)) work (Misfit (s .dirHash) (s .dirTable) (s .fileHash) (s .fileTable))
+      (Outside (s .dirHash) (s .dirTable) (s .fileHash) (s .fileTable)) short (row (Sound (dirs s) (files s) → ⊥) BrokenTree ∷ []) (w .0))
       p)
 
 some : (n : ℕ) → (n < 1 → ⊥) → 0 < n

@@ -1,5 +1,5 @@
 -- Each tree call's promise and its input leave one answer, with one of every lent buffer. Lookup and listing are said of a view: the directories or the
--- files. Assumes nothing.
+-- files.
 use mathlib.Core.Path.{_≡_}
 use mathlib.Core.List.{List, [], _++_}
 use Prim.Native.Nat.{ℕ}

@@ -1,12 +1,12 @@
 -- What each call on the entry tables promises: its own rows, in document 01's order, and what Done gives. s are the four tables, v the view of the table
 -- that the call is about, x an inode, p a parent's inode, k a key. These rows are decided where sizes, work list and soundness have passed.
--- Assumes nothing.
 use mathlib.Core.Path.{_≡_}
 use mathlib.Core.List.{List, [], _∷_, _++_}
 use mathlib.Core.Logic.{_⊎_}
 use Prim.Native.Nat.{ℕ, _+_, _-_, _*_, _<_, _≤_}
 use lib.ListN.{length, getD, set, take, drop}
 use Rattle.order.specs.First.{Row, row, First}
+use Rattle.order.specs.Giving.{giving}
 use Rattle.order.specs.declared.Answer.{Answer}
 use Rattle.order.specs.declared.Answer.the-variants.{
   Done,
@@ -28,11 +28,6 @@ use Rattle.tree_table.specs.Steps.{taken, freeOf}
 use Rattle.tree_table.specs.Chain.{seekIn}
 use Rattle.tree_promises.specs.Tables.{Tables, dirs, files, Has, HasOther, above}
 use Rattle.tree_promises.specs.Steps.{carriedDir, carriedFile, madeDir, madeFile, deletedDir, deletedFile, renamedDir, renamedFile}
-
--- rows that say the answer alone, as rows that say what the call gives with it: for a refusal changes nothing
-abbrev pub giving : {A : Type 0} → (Answer → A) → List (Row Answer) → List (Row A)
-giving g [] = []
-giving g (r ∷ rs) = row (r .when) (g (r .gives)) ∷ giving g rs
 
 -- the open count of inode x
 abbrev pub opened : List ℕ → ℕ → ℕ

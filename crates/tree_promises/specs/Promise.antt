@@ -1,4 +1,4 @@
--- The whole promises of the calls on the entry tables: the rows of sizes, work list and soundness, then the call's own. Assumes nothing.
+-- The whole promises of the calls on the entry tables: the rows of sizes, work list and soundness, then the call's own.
 use mathlib.Core.List.{List}
 use Prim.Native.Nat.{ℕ}
 use lib.ListN.{length}

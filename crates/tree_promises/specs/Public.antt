@@ -1,6 +1,6 @@
 -- The promise of each call on the entry tables, whole: sizes, work list and soundness, then the call's own rows, on all inputs. s are the four tables as
 -- they are lent, work the work list, opens the open counts of the call's own table. The last argument is what is given: the answer with its fields and
--- what stands in every lent buffer afterwards, beside the work list. The two calls on a name are in crate tree. Assumes nothing.
+-- what stands in every lent buffer afterwards, beside the work list. The two calls on a name are in crate tree.
 use mathlib.Core.List.{List, []}
 use Prim.Native.Nat.{ℕ}
 use lib.ListN.{replicate}

@@ -1,4 +1,4 @@
--- What the calls inside ask for, which test nothing themselves: four tables of fitting sizes that are sound. Assumes nothing.
+-- What the calls inside ask for, which test nothing themselves: four tables of fitting sizes that are sound.
 use mathlib.Core.List.{List}
 use Prim.Native.Nat.{ℕ, _/_, _≤_, _<_}
 use lib.ListN.{length}

@@ -1,5 +1,5 @@
 -- Document 01's steps on the four tables, as writes to their fields. Make is take, link and carry; delete is unlink and give; rename is unlink and
--- link. Assumes nothing.
+-- link.
 use mathlib.Core.List.{List, [], _∷_, _++_}
 use mathlib.Core.Bool.{Bool, true, false}
 use Prim.Native.Nat.{ℕ, _*_, _+_}

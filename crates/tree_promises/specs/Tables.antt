@@ -1,4 +1,4 @@
--- The four tables that every tree call is lent, and what their rules speak of. Assumes nothing.
+-- The four tables that every tree call is lent, and what their rules speak of.
 use mathlib.Core.Path.{_≡_}
 use mathlib.Core.List.{List}
 use Prim.Native.Nat.{ℕ}

@@ -1,4 +1,4 @@
--- Document 01's Sound and the form that the steps are proved with say the same. Assumes nothing.
+-- Document 01's Sound and the form that the steps are proved with say the same.
 use mathlib.Core.Path.{_≡_, refl, sym, ap, _∙_, subst}
 use mathlib.Core.List.{List, [], _∷_}
 use mathlib.Core.Logic.{_⊎_, inl, inr, ⊎-elim, _≢_, _↔_}

@@ -1,4 +1,4 @@
--- The sizes of the four tables that every tree call is lent. Assumes nothing.
+-- The sizes of the four tables that every tree call is lent.
 use mathlib.Core.Path.{_≡_}
 use mathlib.Core.List.{List}
 use mathlib.Core.Logic.{_⊎_}

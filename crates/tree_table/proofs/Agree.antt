@@ -1,4 +1,4 @@
--- Two views that the rule can't tell apart: they may differ in the key and the lists of entry 0. Assumes nothing.
+-- Two views that the rule can't tell apart: they may differ in the key and the lists of entry 0.
 use mathlib.Core.Path.{_≡_, refl, sym, ap, ap₂, _∙_, subst}
 use mathlib.Core.List.{List, [], _∷_, _++_}
 use mathlib.Core.Logic.{_⊎_, inl, inr, ⊎-elim, _≢_, _↔_}

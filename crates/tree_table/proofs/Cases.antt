@@ -1,4 +1,4 @@
--- What the code of the steps has done, place by place. Assumes nothing.
+-- What the code of the steps has done, place by place.
 use mathlib.Core.Path.{_≡_, refl, sym, ap, ap₂, _∙_, subst}
 use mathlib.Core.List.{List, [], _∷_, _++_}
 use mathlib.Core.Logic.{_≢_}

@@ -1,4 +1,4 @@
--- The walks along a list: where it goes on, and where it has ended. Assumes nothing.
+-- The walks along a list: where it goes on, and where it has ended.
 use mathlib.Core.Path.{_≡_, refl, sym, ap, ap₂, _∙_, subst}
 use mathlib.Core.List.{List, [], _∷_, _++_, append-assoc, append-nil}
 use mathlib.Core.Logic.{_⊎_, inl, inr, ⊎-elim, _≢_}

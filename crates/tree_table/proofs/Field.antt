@@ -1,4 +1,4 @@
--- What stands in the fields after writes to them. Assumes nothing.
+-- What stands in the fields after writes to them.
 use mathlib.Core.Path.{_≡_, refl, sym, ap, ap₂, _∙_, subst}
 use mathlib.Core.List.{List, [], _∷_}
 use mathlib.Core.Logic.{_⊎_, inl, inr, ⊎-elim, _≢_}

@@ -1,4 +1,4 @@
--- The steps as writes are the steps on views, whatever the width. Assumes nothing.
+-- The steps as writes are the steps on views, whatever the width.
 use mathlib.Core.Path.{_≡_, refl, sym, ap, ap₂, _∙_, subst}
 use mathlib.Core.List.{List, [], _∷_, _++_}
 use mathlib.Core.Logic.{_⊎_, inl, inr, ⊎-elim, _≢_, _↔_}

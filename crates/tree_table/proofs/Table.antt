@@ -1,4 +1,4 @@
--- One table's rule with one loose entry, and the steps on views that keep it: link, unlink, take, give. Assumes nothing.
+-- One table's rule with one loose entry, and the steps on views that keep it: link, unlink, take, give.
 use mathlib.Core.Path.{_≡_, refl, sym, ap, _∙_, subst}
 use mathlib.Core.List.{List, [], _∷_, _++_}
 use mathlib.Core.Logic.{_⊎_, inl, inr, ⊎-elim, _≢_, _↔_}

@@ -1,4 +1,4 @@
--- A list through the words at one place of the entries, as the walks of the code meet it. Assumes nothing.
+-- A list through the words at one place of the entries, as the walks of the code meet it.
 use mathlib.Core.Path.{_≡_}
 use mathlib.Core.List.{List, [], _∷_}
 use mathlib.Core.Bool.{Bool, true, false}

@@ -1,4 +1,4 @@
--- A table of entries of any width, as words: what stands in a field of an entry, and the bytes after some writes. Assumes nothing.
+-- A table of entries of any width, as words: what stands in a field of an entry, and the bytes after some writes.
 use mathlib.Core.List.{List, [], _∷_}
 use Prim.Native.Nat.{ℕ, zero, suc, _+_, _-_, _*_}
 use Rattle.words.specs.Word.{word, putWord}

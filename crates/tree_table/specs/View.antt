@@ -1,4 +1,4 @@
--- One entry table with its hash and its child lists, as the words that its rules read. Assumes nothing.
+-- One entry table with its hash and its child lists, as the words that its rules read.
 use mathlib.Core.List.{List, [], _∷_}
 use Prim.Native.Nat.{ℕ, _/_, _%_, _<_}
 use lib.ListN.{length, getD}

@@ -1,4 +1,4 @@
--- Each way out of the test and of the gate, as a fact about sizes and rows. Assumes nothing.
+-- Each way out of the test and of the gate, as a fact about sizes and rows.
 use mathlib.Core.Path.{_≡_, refl, sym, ap, _∙_, subst}
 use mathlib.Core.List.{List, [], _∷_, _++_}
 use mathlib.Core.Logic.{_⊎_, inl, inr, ⊎-elim, _≢_}

@@ -1,4 +1,4 @@
--- The parts of the directories' test together. Assumes nothing.
+-- The parts of the directories' test together.
 use mathlib.Core.Path.{_≡_, refl, sym, ap, _∙_, subst}
 use mathlib.Core.List.{List, [], _∷_}
 use mathlib.Core.Logic.{_⊎_, inl, inr, ⊎-elim, _≢_, _↔_}

@@ -1,4 +1,4 @@
--- The child lists of all directories in one table: what the marks say once they were gone along, and each entry looked at. Assumes nothing.
+-- The child lists of all directories in one table: what the marks say once they were gone along, and each entry looked at.
 use mathlib.Core.Path.{_≡_, refl, sym, ap, _∙_, subst}
 use mathlib.Core.List.{List, [], _∷_}
 use mathlib.Core.Logic.{_⊎_, inl, inr, ⊎-elim, _≢_, _↔_}

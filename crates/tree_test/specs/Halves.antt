@@ -1,4 +1,4 @@
--- What the two halves of the test promise: the directories by themselves, and the files below them. Assumes nothing.
+-- What the two halves of the test promise: the directories by themselves, and the files below them.
 use mathlib.Core.Path.{_≡_}
 use mathlib.Core.List.{List, [], _∷_}
 use mathlib.Core.Bool.{Bool, true, false}

@@ -1,4 +1,4 @@
--- What the test of the entry tables promises, and what the gate of a tree call tells. Assumes nothing.
+-- What the test of the entry tables promises, and what the gate of a tree call tells.
 use mathlib.Core.Path.{_≡_}
 use mathlib.Core.List.{List}
 use Prim.Native.Nat.{ℕ}

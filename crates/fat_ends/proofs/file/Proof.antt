@@ -1,4 +1,4 @@
--- `fat_ends::file` meets its contract. Assumes nothing.
+-- `fat_ends::file` meets its contract.
 use native.Mathlib.Omega.{arith}
 use mathlib.Core.Logic.{inl, inr}
 use mathlib.Core.Path.{refl}

@@ -1,4 +1,4 @@
--- `fat_ends::free_of` meets its contract. Assumes nothing.
+-- `fat_ends::free_of` meets its contract.
 use Rattle.fat_ends.proofs.Ends.{free-frag, free-in, free-sum, free-done}
 use Rattle.fat_ends.specs.Ends.{span}
 use Rattle.fat_table.specs.Sound.{Along}

@@ -1,4 +1,4 @@
--- `fat_ends::grows` meets its contract. Assumes nothing.
+-- `fat_ends::grows` meets its contract.
 use native.Mathlib.Omega.{arith}
 use borrow.Author.Needs.{needs}
 use Rattle.fat_node.proofs.Cases.{untrue}

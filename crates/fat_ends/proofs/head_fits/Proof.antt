@@ -1,4 +1,4 @@
--- `fat_ends::head_fits` meets its contract. Assumes nothing.
+-- `fat_ends::head_fits` meets its contract.
 use Rattle.fat_node.proofs.Cases.{untrue}
 use Rattle.fat_ends.proofs.Laws.{inside}
 use Rattle.fat_node.specs.Node.{prevAt}

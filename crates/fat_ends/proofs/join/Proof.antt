@@ -1,4 +1,4 @@
--- `fat_ends::join` meets its contract. Assumes nothing.
+-- `fat_ends::join` meets its contract.
 use Prim.Native.Nat.{_-_}
 use native.Mathlib.Omega.{arith}
 use Rattle.fat_node.proofs.Cases.{untrue}

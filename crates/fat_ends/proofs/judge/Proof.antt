@@ -1,4 +1,4 @@
--- `fat_ends::judge` meets its contract. Assumes nothing.
+-- `fat_ends::judge` meets its contract.
 use Rattle.fat_ends.proofs.Ends.{links-ready, head-is, head-fits, tile-covered, free-ready, all-good, sound-long, backs-long}
 use Rattle.fat_node.proofs.Cases.{untrue}
 use Rattle.fat_ends.specs.Ends.{TiledAs}

@@ -1,4 +1,4 @@
--- `fat_ends::link` meets its contract. Assumes nothing.
+-- `fat_ends::link` meets its contract.
 use mathlib.Core.Path.{sym, _∙_}
 use native.Mathlib.Omega.{arith}
 use borrow.Author.Needs.{needs}

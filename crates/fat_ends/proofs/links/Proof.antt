@@ -1,4 +1,4 @@
--- `fat_ends::links` meets its contract. Assumes nothing.
+-- `fat_ends::links` meets its contract.
 use mathlib.Core.Path.{refl, subst⁻¹}
 use Prim.Native.Nat.{ℕ, _-_, _≤_}
 use native.Mathlib.Omega.{arith}

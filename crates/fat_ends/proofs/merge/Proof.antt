@@ -1,4 +1,4 @@
--- `fat_ends::merge` meets its contract. Assumes nothing.
+-- `fat_ends::merge` meets its contract.
 use mathlib.Core.Path.{refl}
 use native.Mathlib.Omega.{arith}
 use Rattle.fat_ends.proofs.Ends.{places, packed-i, packed-j, both-fit, merged-small, merged-grown, merged-large}

@@ -1,4 +1,4 @@
--- `fat_ends::run` meets its contract. Assumes nothing.
+-- `fat_ends::run` meets its contract.
 use mathlib.Core.Path.{_≡_, sym, ap, subst, _∙_}
 use Prim.Native.Nat.{ℕ}
 use native.Mathlib.Omega.{arith}

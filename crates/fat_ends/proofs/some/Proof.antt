@@ -1,4 +1,4 @@
--- `fat_ends::some` meets its contract. Assumes nothing.
+-- `fat_ends::some` meets its contract.
 use mathlib.Core.Path.{refl}
 use mathlib.Core.Logic.{inl, inr}
 use native.Mathlib.Omega.{arith}

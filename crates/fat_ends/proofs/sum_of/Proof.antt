@@ -1,4 +1,4 @@
--- `fat_ends::sum_of` meets its contract. Assumes nothing.
+-- `fat_ends::sum_of` meets its contract.
 use native.Mathlib.Omega.{arith}
 use borrow.Author.Needs.{needs}
 use Rattle.fat_ends.proofs.Ends.{sum-small, sum-one, sum-more, is-one}

@@ -1,4 +1,4 @@
--- `fat_ends::tile` meets its contract. Assumes nothing.
+-- `fat_ends::tile` meets its contract.
 use borrow.Author.Needs.{needs}
 use Rattle.fat_ends.proofs.Ends.{Laid, laid-none, laid-more, tiled-as, no-backs, some-le, file-le, backs-on, count-on}
 use Rattle.fat_ends.specs.Ends.{Backs}

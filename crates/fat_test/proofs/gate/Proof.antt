@@ -1,4 +1,4 @@
--- `fat_test::gate` meets its contract. Assumes nothing.
+-- `fat_test::gate` meets its contract.
 use Rattle.fat_test.proofs.Cases.{gate-misfit, gate-uneven, gate-outside, gate-block, gate-short, gate-broken, gate-open}
 use Rattle.fat_node.specs.Sizes.{blocks}
 use Rattle.fat_node.proofs.Sizes.{denied, fit}

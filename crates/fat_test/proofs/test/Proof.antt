@@ -1,4 +1,4 @@
--- `fat_test::test` meets its contract. Assumes nothing.
+-- `fat_test::test` meets its contract.
 use Rattle.fat_test.proofs.Cases.{test-misfit, test-outside, test-short, test-broken, test-sound}
 use Rattle.fat_node.specs.Sizes.{blocks}
 use Rattle.fat_node.proofs.Sizes.{denied, fit}

@@ -1,4 +1,4 @@
--- `fat_test::uneven` meets its contract. Assumes nothing.
+-- `fat_test::uneven` meets its contract.
 use Rattle.fat_node.proofs.Cases.{untrue}
 use Rattle.fat_test.proofs.Cases.{unfalse, none-even, even-rem, even-div, even}
 use native.Mathlib.Omega.{arith}

@@ -1,4 +1,4 @@
--- `fat_test::unfit` meets its contract. Assumes nothing.
+-- `fat_test::unfit` meets its contract.
 use Rattle.fat_node.proofs.Cases.{untrue}
 use Rattle.fat_test.proofs.Cases.{unfalse}
 use native.Mathlib.Omega.{arith}

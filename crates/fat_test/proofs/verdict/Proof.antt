@@ -1,4 +1,4 @@
--- `fat_test::verdict` meets its contract. Assumes nothing.
+-- `fat_test::verdict` meets its contract.
 use Rattle.fat_node.proofs.Sizes.{fit, inside}
 use Rattle.fat_ends.specs.Promise.{Judged}
 use lib.Seq.{length-take-le}

@@ -1,4 +1,4 @@
--- `fat_test_main::places` is safe and ends. Assumes nothing.
+-- `fat_test_main::places` is safe and ends.
 use borrow.Author.Needs.{needs}
 use native.Mathlib.Omega.{arith}
 use Prim.Native.Nat.{_≤_, _-_}

@@ -1,4 +1,4 @@
--- `order::clear` meets its contract. Assumes nothing.
+-- `order::clear` meets its contract.
 use mathlib.Core.Path.{_≡_, ap, _∙_}
 use mathlib.Core.List.{List, _++_, append-nil}
 use Prim.Native.Nat.{ℕ, _-_, _≤_}

@@ -1,4 +1,4 @@
--- `order::number` gives document 01's numbers. Assumes nothing.
+-- `order::number` gives document 01's numbers.
 use mathlib.Core.Path.{ap, sym}
 use Rattle.order.specs.Answer.{numberOf}
 use borrow.Author.Needs.{needs}

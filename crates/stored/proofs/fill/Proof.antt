@@ -1,4 +1,4 @@
--- `fill` meets its contract. Assumes nothing.
+-- `fill` meets its contract.
 use mathlib.Core.Path.{_≡_}
 use Prim.Native.Nat.{_-_}
 use borrow.Author.Needs.{needs}

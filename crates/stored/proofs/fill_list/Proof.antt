@@ -1,4 +1,4 @@
--- `fill_list` meets its contract. Assumes nothing.
+-- `fill_list` meets its contract.
 use mathlib.Core.Path.{_≡_}
 use Prim.Native.Nat.{_-_}
 use native.Mathlib.Omega.{arith}

@@ -1,4 +1,4 @@
--- `holds` meets its contract. Assumes nothing.
+-- `holds` meets its contract.
 use Prim.Native.Nat.{_-_, _≤_}
 use borrow.Author.Needs.{needs}
 use lib.ListN.{length}

@@ -1,4 +1,4 @@
--- `holds_list` meets its contract. Assumes nothing.
+-- `holds_list` meets its contract.
 use Prim.Native.Nat.{_-_, _≤_}
 use native.Mathlib.Omega.{arith}
 use borrow.Author.Needs.{needs}

@@ -1,4 +1,4 @@
--- `count` meets its contract. Assumes nothing.
+-- `count` meets its contract.
 use borrow.Author.Needs.{needs}
 use Rattle.stored_blocks.proofs.count.Statement.{statement}
 use Rattle.stored_blocks.proofs.count.Tie as tie

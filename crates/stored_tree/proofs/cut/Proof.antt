@@ -1,4 +1,4 @@
--- `cut` meets its contract. Assumes nothing.
+-- `cut` meets its contract.
 use mathlib.Core.Path.{sym}
 use native.Mathlib.Omega.{arith}
 use lib.Seq.{length-take-le}

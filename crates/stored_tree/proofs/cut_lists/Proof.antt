@@ -1,4 +1,4 @@
--- `cut_lists` meets its contract. Assumes nothing.
+-- `cut_lists` meets its contract.
 use mathlib.Core.Path.{sym}
 use native.Mathlib.Omega.{arith}
 use lib.Seq.{length-take-le}

@@ -1,4 +1,4 @@
--- `sort_bucket` meets its contract. Assumes nothing.
+-- `sort_bucket` meets its contract.
 use native.Mathlib.Omega.{arith}
 use borrow.Author.Tests.{not-true, not-false}
 use Rattle.tree_alone.proofs.Entries.{filing-stop, filing-ends, filing-done}

@@ -1,4 +1,4 @@
--- `sort_buckets` meets its contract. Assumes nothing.
+-- `sort_buckets` meets its contract.
 use mathlib.Core.Path.{_≡_, refl}
 use Prim.Native.Nat.{ℕ, _+_, _-_, _*_, _≤_, _<_}
 use native.Mathlib.Omega.{arith}

@@ -1,4 +1,4 @@
--- `sort_table` meets its contract. Assumes nothing.
+-- `sort_table` meets its contract.
 use native.Mathlib.Omega.{arith}
 use borrow.Author.Tests.{not-true, not-false}
 use Rattle.tree_marks.proofs.Walks.{entry-in}

@@ -1,4 +1,4 @@
--- `check_parents` meets its contract. Assumes nothing.
+-- `check_parents` meets its contract.
 use mathlib.Core.Path.{_≡_, refl, sym, ap, _∙_, subst}
 use Prim.Native.Nat.{ℕ, _+_, _-_, _*_, _≤_, _<_}
 use native.Mathlib.Omega.{arith}

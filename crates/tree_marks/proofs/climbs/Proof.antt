@@ -1,4 +1,4 @@
--- `climbs` meets its contract. Assumes nothing.
+-- `climbs` meets its contract.
 use mathlib.Core.Path.{_≡_, refl, sym, ap, _∙_, subst}
 use Prim.Native.Nat.{ℕ, _+_, _-_, _*_, _≤_, _<_}
 use native.Mathlib.Omega.{arith}

@@ -1,4 +1,4 @@
--- `flatten` meets its contract. Assumes nothing.
+-- `flatten` meets its contract.
 use mathlib.Core.Path.{_≡_, refl, sym, ap, _∙_, subst}
 use Prim.Native.Nat.{ℕ, _+_, _-_, _*_, _≤_, _<_}
 use native.Mathlib.Omega.{arith}

@@ -1,4 +1,4 @@
--- `mark_list` meets its contract. Assumes nothing.
+-- `mark_list` meets its contract.
 use mathlib.Core.Path.{_≡_}
 use Prim.Native.Nat.{ℕ, _+_, _*_, _≤_}
 use native.Mathlib.Omega.{arith}

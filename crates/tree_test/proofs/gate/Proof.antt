@@ -1,4 +1,4 @@
--- `gate` meets its contract. Assumes nothing.
+-- `gate` meets its contract.
 use mathlib.Core.Path.{_≡_, refl, sym, ap, _∙_, subst}
 use mathlib.Core.List.{List, _++_, append-nil}
 use mathlib.Core.Logic.{inl, inr, ⊎-elim}

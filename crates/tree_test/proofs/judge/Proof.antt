@@ -1,4 +1,4 @@
--- `judge` meets its contract. Assumes nothing.
+-- `judge` meets its contract.
 use mathlib.Core.Path.{_≡_, ap, _∙_}
 use mathlib.Core.List.{List}
 use Prim.Native.Nat.{ℕ}

@@ -1,4 +1,4 @@
--- `test` meets its contract. Assumes nothing.
+-- `test` meets its contract.
 use Rattle.tree_test.proofs.Cases.{test-shut, test-opened}
 use mathlib.Core.Path.{_≡_, refl, sym, ap, _∙_, subst}
 use mathlib.Core.List.{List, _++_, append-nil}

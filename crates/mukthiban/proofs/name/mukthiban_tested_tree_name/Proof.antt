@@ -1,4 +1,4 @@
--- `mukthiban_tested_tree_name` meets its contract. Assumes nothing.
+-- `mukthiban_tested_tree_name` meets its contract.
 use Rattle.tree_promises.specs.Tables.{tables}
 use Rattle.mukthiban.proofs.Names.{inner-dir, inner-file}
 use borrow.Author.Needs.{needs}

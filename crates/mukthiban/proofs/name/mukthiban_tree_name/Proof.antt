@@ -1,4 +1,4 @@
--- `mukthiban_tree_name` meets its contract. Assumes nothing.
+-- `mukthiban_tree_name` meets its contract.
 use Rattle.tree_promises.specs.Tables.{tables}
 use Rattle.mukthiban.proofs.Names.{dir-named, file-named, other-named}
 use borrow.Author.Needs.{needs}

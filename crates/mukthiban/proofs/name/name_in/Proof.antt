@@ -1,4 +1,4 @@
--- `name_in` meets its contract. Assumes nothing.
+-- `name_in` meets its contract.
 use Rattle.mukthiban.proofs.Names.{inner-none, inner-done}
 use borrow.Author.Needs.{needs}
 use Rattle.mukthiban.proofs.name.name_in.Statement.{statement}

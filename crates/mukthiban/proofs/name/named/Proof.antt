@@ -1,4 +1,4 @@
--- `named` meets its contract. Assumes nothing.
+-- `named` meets its contract.
 use Rattle.order.specs.Answer.{numberOf}
 use Rattle.mukthiban.proofs.Names.{place-none}
 use borrow.Author.Needs.{needs}

@@ -1,4 +1,4 @@
--- `other_kind` meets its contract. Assumes nothing.
+-- `other_kind` meets its contract.
 use Rattle.tree_promises.specs.Tables.{tables}
 use mathlib.Core.Path.{refl}
 use mathlib.Core.Logic.{inl, inr}

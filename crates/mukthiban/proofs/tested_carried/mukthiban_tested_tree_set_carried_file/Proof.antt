@@ -1,4 +1,4 @@
--- `mukthiban_tested_tree_set_carried_file` meets its contract. Assumes nothing.
+-- `mukthiban_tested_tree_set_carried_file` meets its contract.
 use Rattle.tree_promises.specs.Tables.{tables}
 use Rattle.tree_inner.proofs.Opens.{set-file}
 use borrow.Author.Needs.{needs}

@@ -1,4 +1,4 @@
--- `mukthiban_tested_tree_lookup_dir` meets its contract. Assumes nothing.
+-- `mukthiban_tested_tree_lookup_dir` meets its contract.
 use Rattle.tree_inner.proofs.Lookups.{with-key}
 use borrow.Author.Needs.{needs}
 use Rattle.mukthiban.proofs.tested_look.mukthiban_tested_tree_lookup_dir.Statement.{

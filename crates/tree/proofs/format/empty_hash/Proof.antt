@@ -1,4 +1,4 @@
--- `empty_hash` meets its contract. Assumes nothing.
+-- `empty_hash` meets its contract.
 use mathlib.Core.Path.{_∙_}
 use Rattle.tree.proofs.Formats.{all-zero}
 use borrow.Author.Needs.{needs}

@@ -1,4 +1,4 @@
--- `first_entry` meets its contract. Assumes nothing.
+-- `first_entry` meets its contract.
 use borrow.Author.Needs.{needs}
 use Rattle.tree.proofs.format.first_entry.Statement.{statement}
 use Rattle.tree.proofs.format.first_entry.Tie as tie

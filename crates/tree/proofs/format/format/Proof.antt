@@ -1,4 +1,4 @@
--- `format` meets its contract. Assumes nothing.
+-- `format` meets its contract.
 use mathlib.Core.Path.{refl}
 use mathlib.Core.Logic.{inl, inr}
 use Rattle.tree_test.proofs.Cases.{tells-not}

@@ -1,4 +1,4 @@
--- `lay` meets its contract. Assumes nothing.
+-- `lay` meets its contract.
 use Rattle.tree_promises.specs.Tables.{tables}
 use borrow.Author.Needs.{needs}
 use Rattle.tree.proofs.format.lay.Statement.{statement}

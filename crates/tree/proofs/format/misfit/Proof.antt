@@ -1,4 +1,4 @@
--- `misfit` meets its contract. Assumes nothing.
+-- `misfit` meets its contract.
 use mathlib.Core.Logic.{inl, inr, ⊎-elim}
 use native.Mathlib.Omega.{arith}
 use Rattle.tree_test.proofs.Cases.{told-true, told-false, tells-not}

@@ -1,4 +1,4 @@
--- `root_bucket` meets its contract. Assumes nothing.
+-- `root_bucket` meets its contract.
 use Rattle.tree.proofs.Formats.{bucket}
 use borrow.Author.Needs.{needs}
 use Rattle.tree.proofs.format.root_bucket.Statement.{statement}

@@ -1,4 +1,4 @@
--- `root_hash` meets its contract. Assumes nothing.
+-- `root_hash` meets its contract.
 use borrow.Author.Needs.{needs}
 use Rattle.tree.proofs.format.root_hash.Statement.{statement}
 use Rattle.tree.proofs.format.root_hash.Tie as tie

@@ -1,4 +1,4 @@
--- `zero` meets its contract. Assumes nothing.
+-- `zero` meets its contract.
 use mathlib.Core.Path.{_≡_, ap, _∙_}
 use mathlib.Core.List.{List, _++_}
 use Prim.Native.Nat.{ℕ, _-_, _≤_}

@@ -1,4 +1,4 @@
--- `answer_in` meets its contract. Assumes nothing.
+-- `answer_in` meets its contract.
 use mathlib.Core.Path.{refl}
 use mathlib.Core.Logic.{inl, inr}
 use borrow.Author.Tests.{not-true, not-false}

@@ -1,4 +1,4 @@
--- `name` meets its contract. Assumes nothing.
+-- `name` meets its contract.
 use Rattle.tree_inner.proofs.Lists.{dir-single, file-single}
 use Rattle.tree_promises.specs.Tables.{tables}
 use Rattle.tree.proofs.Named.{ready-of, name-shut, name-open}

@@ -1,4 +1,4 @@
--- `name_answer` meets its contract. Assumes nothing.
+-- `name_answer` meets its contract.
 use Rattle.tree_inner.proofs.Lists.{dir-single, file-single}
 use Rattle.tree_promises.specs.Tables.{tables}
 use Rattle.tree.proofs.Named.{ready-of, answer-shut, answer-open}

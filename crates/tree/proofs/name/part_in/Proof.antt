@@ -1,4 +1,4 @@
--- `part_in` meets its contract. Assumes nothing.
+-- `part_in` meets its contract.
 use mathlib.Core.Path.{refl}
 use mathlib.Core.Logic.{inl, inr}
 use native.Mathlib.Omega.{arith}
