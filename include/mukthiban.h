@@ -71,10 +71,18 @@ enum {
 /* The kinds of mukthiban_tree_name. */
 enum { MUKTHIBAN_DIRECTORY = 0, MUKTHIBAN_FILE = 1 };
 
-/* The answer of a call that gives nothing else. */
+/* Answers: the number first, then the call's own fields. Those of block calls
+ * and those of tree calls are separate types. */
+
+/* Format, and every tree call that gives nothing else. */
 typedef struct {
     uint32_t answer;
 } mukthiban_plain;
+
+/* A block call that gives nothing else. */
+typedef struct {
+    uint32_t answer;
+} mukthiban_answered;
 
 /* The test of the block table: its free blocks, and its files (chains other than the free one). */
 typedef struct {
@@ -89,7 +97,13 @@ typedef struct {
     size_t first_block;
 } mukthiban_created;
 
-/* Open list and listing: how many places of the lent list hold the answer. */
+/* Open list: how many places of the lent list hold the file's blocks. */
+typedef struct {
+    uint32_t answer;
+    size_t count;
+} mukthiban_opened;
+
+/* Listing: how many places of the lent list hold the directory's children. */
 typedef struct {
     uint32_t answer;
     size_t count;
@@ -134,7 +148,7 @@ mukthiban_tested mukthiban_fat_test(const uint8_t *table, size_t table_len,
                                     uint32_t *work, size_t work_len);
 
 /* Writes the file's blocks to list, in chain order. Places of list past them stay. Answers 1, 2, 3, 4, 5, 8. */
-mukthiban_listed mukthiban_fat_open_list(const uint8_t *table, size_t table_len,
+mukthiban_opened mukthiban_fat_open_list(const uint8_t *table, size_t table_len,
                                          const uint8_t *data, size_t data_len, size_t block_len,
                                          uint32_t *work, size_t work_len,
                                          size_t first_block,
@@ -147,30 +161,30 @@ mukthiban_created mukthiban_fat_create(uint8_t *table, size_t table_len,
                                        size_t block_count);
 
 /* Grows or shrinks a file to block_count blocks; its first block stays. Answers 1, 2, 3, 4, 5, 2 (count 0), 6. */
-mukthiban_plain mukthiban_fat_resize(uint8_t *table, size_t table_len,
-                                     const uint8_t *data, size_t data_len, size_t block_len,
-                                     uint32_t *work, size_t work_len,
-                                     size_t first_block, size_t block_count);
+mukthiban_answered mukthiban_fat_resize(uint8_t *table, size_t table_len,
+                                        const uint8_t *data, size_t data_len, size_t block_len,
+                                        uint32_t *work, size_t work_len,
+                                        size_t first_block, size_t block_count);
 
 /* Gives a whole file back to the front of the free chain. Answers 1, 2, 3, 4, 5. */
-mukthiban_plain mukthiban_fat_delete(uint8_t *table, size_t table_len,
-                                     const uint8_t *data, size_t data_len, size_t block_len,
-                                     uint32_t *work, size_t work_len,
-                                     size_t first_block);
+mukthiban_answered mukthiban_fat_delete(uint8_t *table, size_t table_len,
+                                        const uint8_t *data, size_t data_len, size_t block_len,
+                                        uint32_t *work, size_t work_len,
+                                        size_t first_block);
 
 /* Reads buf_len bytes of the file from position pos into buf. Answers 1, 2, 3, 4, 5, 7. */
-mukthiban_plain mukthiban_fat_read(const uint8_t *table, size_t table_len,
-                                   const uint8_t *data, size_t data_len, size_t block_len,
-                                   uint32_t *work, size_t work_len,
-                                   size_t first_block, size_t pos,
-                                   uint8_t *buf, size_t buf_len);
+mukthiban_answered mukthiban_fat_read(const uint8_t *table, size_t table_len,
+                                      const uint8_t *data, size_t data_len, size_t block_len,
+                                      uint32_t *work, size_t work_len,
+                                      size_t first_block, size_t pos,
+                                      uint8_t *buf, size_t buf_len);
 
 /* Writes buf's bytes to the file from position pos on. Answers 1, 2, 3, 4, 5, 7. */
-mukthiban_plain mukthiban_fat_write(const uint8_t *table, size_t table_len,
-                                    uint8_t *data, size_t data_len, size_t block_len,
-                                    uint32_t *work, size_t work_len,
-                                    size_t first_block, size_t pos,
-                                    const uint8_t *buf, size_t buf_len);
+mukthiban_answered mukthiban_fat_write(const uint8_t *table, size_t table_len,
+                                       uint8_t *data, size_t data_len, size_t block_len,
+                                       uint32_t *work, size_t work_len,
+                                       size_t first_block, size_t pos,
+                                       const uint8_t *buf, size_t buf_len);
 
 /* ---- The entry tables ---- */
 

@@ -38,7 +38,7 @@ static void blocks(void)
     uint8_t buf[4] = {9, 8, 7, 6};
     mukthiban_tested tested;
     mukthiban_created created;
-    mukthiban_listed listed;
+    mukthiban_opened opened;
 
     EXPECT(mukthiban_fat_format(table, 7).answer == MUKTHIBAN_SIZE_MISMATCH);
     EXPECT(mukthiban_fat_format(table, 8).answer == MUKTHIBAN_INVALID_VALUE);
@@ -56,8 +56,8 @@ static void blocks(void)
 
     EXPECT(mukthiban_fat_resize(FAT, DATA, WORK, 0, 3).answer == MUKTHIBAN_DONE);
     EXPECT(mukthiban_fat_resize(FAT, DATA, WORK, 1, 3).answer == MUKTHIBAN_NOT_A_FILE);
-    listed = mukthiban_fat_open_list(FAT, DATA, WORK, 0, LIST);
-    EXPECT(listed.answer == MUKTHIBAN_DONE && listed.count == 3);
+    opened = mukthiban_fat_open_list(FAT, DATA, WORK, 0, LIST);
+    EXPECT(opened.answer == MUKTHIBAN_DONE && opened.count == 3);
     EXPECT(list[0] == 0 && list[1] == 1 && list[2] == 3);
     EXPECT(mukthiban_fat_open_list(FAT, DATA, WORK, 0, list, 2).answer == MUKTHIBAN_LIST_TOO_SHORT);
 

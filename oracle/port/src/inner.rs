@@ -1,8 +1,8 @@
 //! The library's inner calls. They require that sizes fit and tables are sound, and take no work list.
 
-use crate::ffi::*;
-use crate::library::{counted, created, found, made, named, plain, stat};
+use crate::library::{answered, created, found, listed, made, named, opened, plain, stat};
 use crate::{Answered, BlockCall, Blocks, Kind, Tree, TreeCall};
+use mukthiban_ffi::tested::*;
 
 /// To be used only where the rules find the sizes right and the tables sound.
 pub struct Inner;
@@ -58,18 +58,18 @@ unsafe fn block_call(call: &BlockCall, lent: &mut Blocks) -> Option<Answered> {
     match *call {
         BlockCall::Format | BlockCall::Test => None,
         BlockCall::OpenList { first } => on_table!(
-            counted, mukthiban_tested_fat_open_list, lent, first, lent.list.as_mut_ptr(), lent.list.len()
+            opened, mukthiban_tested_fat_open_list, lent, first, lent.list.as_mut_ptr(), lent.list.len()
         ),
         BlockCall::Create { count } => on_table!(created, mukthiban_tested_fat_create, lent, count),
         BlockCall::Resize { first, count } => {
-            on_table!(plain, mukthiban_tested_fat_resize, lent, first, count)
+            on_table!(answered, mukthiban_tested_fat_resize, lent, first, count)
         }
-        BlockCall::Delete { first } => on_table!(plain, mukthiban_tested_fat_delete, lent, first),
+        BlockCall::Delete { first } => on_table!(answered, mukthiban_tested_fat_delete, lent, first),
         BlockCall::Read { first, pos } => on_data!(
-            plain, mukthiban_tested_fat_read, lent, first, pos, lent.buf.as_mut_ptr(), lent.buf.len()
+            answered, mukthiban_tested_fat_read, lent, first, pos, lent.buf.as_mut_ptr(), lent.buf.len()
         ),
         BlockCall::Write { first, pos } => on_data!(
-            plain, mukthiban_tested_fat_write, lent, first, pos, lent.buf.as_ptr(), lent.buf.len()
+            answered, mukthiban_tested_fat_write, lent, first, pos, lent.buf.as_ptr(), lent.buf.len()
         ),
     }
 }
@@ -103,10 +103,10 @@ unsafe fn tree_call(call: &TreeCall, lent: &mut Tree) -> Option<Answered> {
         ),
         TreeCall::List { kind, inode } => match kind {
             Kind::Dir => on_four!(
-                counted, mukthiban_tested_tree_list_dirs, lent, inode, lent.list.as_mut_ptr(), lent.list.len()
+                listed, mukthiban_tested_tree_list_dirs, lent, inode, lent.list.as_mut_ptr(), lent.list.len()
             ),
             Kind::File => on_four!(
-                counted, mukthiban_tested_tree_list_files, lent, inode, lent.list.as_mut_ptr(), lent.list.len()
+                listed, mukthiban_tested_tree_list_files, lent, inode, lent.list.as_mut_ptr(), lent.list.len()
             ),
         },
         TreeCall::Stat => on_four!(stat, mukthiban_tested_tree_stat, lent),

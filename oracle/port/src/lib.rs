@@ -1,7 +1,6 @@
 //! "A port": something that answers the calls of 01 over lent bytes. The statement of the rules is one, the proved library another.
 
 mod calls;
-mod ffi;
 mod inner;
 mod library;
 mod stated;

@@ -1,36 +1,42 @@
 //! The proved library as a port, through its C interface.
 
-use crate::ffi::*;
 use crate::{Answered, BlockCall, Blocks, Kind, Port, Tree, TreeCall};
-use interface::*;
+use mukthiban_ffi::*;
 
 pub struct Library;
 
 pub(crate) fn plain(p: Plain) -> Answered {
-    Answered::number(p.number)
+    Answered::number(p.answer)
+}
+pub(crate) fn answered(a: mukthiban_ffi::Answered) -> Answered {
+    Answered::number(a.answer)
 }
 pub(crate) fn tested(t: Tested) -> Answered {
-    Answered::with(t.number, &[t.free as u64, t.files as u64])
+    Answered::with(t.answer, &[t.free as u64, t.files as u64])
 }
-pub(crate) fn counted(c: Counted) -> Answered {
-    Answered::with(c.number, &[c.count as u64])
+pub(crate) fn opened(o: Opened) -> Answered {
+    Answered::with(o.answer, &[o.count as u64])
+}
+pub(crate) fn listed(l: Listed) -> Answered {
+    Answered::with(l.answer, &[l.count as u64])
 }
 pub(crate) fn created(c: Created) -> Answered {
-    Answered::with(c.number, &[c.first_block as u64])
+    Answered::with(c.answer, &[c.first_block as u64])
 }
 pub(crate) fn made(m: Made) -> Answered {
-    Answered::with(m.number, &[m.inode.into()])
+    Answered::with(m.answer, &[m.inode.into()])
 }
 pub(crate) fn found(f: Found) -> Answered {
-    Answered::with(f.number, &[f.inode.into(), f.compared.into()])
+    Answered::with(f.answer, &[f.inode.into(), f.compared.into()])
 }
 pub(crate) fn stat(s: Stat) -> Answered {
     let fields = [s.dir_total, s.dir_free, s.file_total, s.file_free];
-    Answered::with(s.number, &fields.map(|f| f as u64))
+    Answered::with(s.answer, &fields.map(|f| f as u64))
 }
 pub(crate) fn named(n: Named) -> Answered {
-    Answered::with(n.number, &[n.offset as u64])
+    Answered::with(n.answer, &[n.offset as u64])
 }
+
 /// A call over table, data, block length and work list.
 macro_rules! on_volume {
     ($to:ident, $call:ident, $lent:ident $(, $more:expr)*) => {
@@ -76,18 +82,18 @@ unsafe fn block_call(call: &BlockCall, lent: &mut Blocks) -> Answered {
             tested(mukthiban_fat_test(table.as_ptr(), table.len(), work.as_mut_ptr(), work.len()))
         }
         BlockCall::OpenList { first } => on_volume!(
-            counted, mukthiban_fat_open_list, lent, first, lent.list.as_mut_ptr(), lent.list.len()
+            opened, mukthiban_fat_open_list, lent, first, lent.list.as_mut_ptr(), lent.list.len()
         ),
         BlockCall::Create { count } => on_volume!(created, mukthiban_fat_create, lent, count),
         BlockCall::Resize { first, count } => {
-            on_volume!(plain, mukthiban_fat_resize, lent, first, count)
+            on_volume!(answered, mukthiban_fat_resize, lent, first, count)
         }
-        BlockCall::Delete { first } => on_volume!(plain, mukthiban_fat_delete, lent, first),
+        BlockCall::Delete { first } => on_volume!(answered, mukthiban_fat_delete, lent, first),
         BlockCall::Read { first, pos } => on_volume!(
-            plain, mukthiban_fat_read, lent, first, pos, lent.buf.as_mut_ptr(), lent.buf.len()
+            answered, mukthiban_fat_read, lent, first, pos, lent.buf.as_mut_ptr(), lent.buf.len()
         ),
         BlockCall::Write { first, pos } => on_volume!(
-            plain, mukthiban_fat_write, lent, first, pos, lent.buf.as_ptr(), lent.buf.len()
+            answered, mukthiban_fat_write, lent, first, pos, lent.buf.as_ptr(), lent.buf.len()
         ),
     }
 }
@@ -137,10 +143,10 @@ unsafe fn tree_call(call: &TreeCall, lent: &mut Tree) -> Answered {
         ),
         TreeCall::List { kind, inode } => match kind {
             Kind::Dir => on_four!(
-                counted, mukthiban_tree_list_dirs, lent, inode, lent.list.as_mut_ptr(), lent.list.len()
+                listed, mukthiban_tree_list_dirs, lent, inode, lent.list.as_mut_ptr(), lent.list.len()
             ),
             Kind::File => on_four!(
-                counted, mukthiban_tree_list_files, lent, inode, lent.list.as_mut_ptr(), lent.list.len()
+                listed, mukthiban_tree_list_files, lent, inode, lent.list.as_mut_ptr(), lent.list.len()
             ),
         },
         TreeCall::Stat => on_four!(stat, mukthiban_tree_stat, lent),

@@ -22,8 +22,8 @@
 //! # Ok::<(), Refusal>(())
 //! ```
 
-use crate::ffi;
 use crate::refusal::{judge, Refusal};
+use mukthiban_ffi as ffi;
 
 /// What the test counts.
 #[derive(Clone, Copy, Debug, PartialEq, Eq)]

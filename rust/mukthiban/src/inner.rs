@@ -1,29 +1,36 @@
 //! The one place that calls the inner calls, which require sound tables and test nothing.
 //!
 //! Safety, for all of this module: the tables were accepted by both tests and changed since by these calls alone, and
-//! the rest of what `ffi` lists holds. [`Volume`](crate::Volume) sees to it.
+//! the rest of what `include/mukthiban_tested.h` requires holds. [`Volume`](crate::Volume) sees to it.
 
-use crate::ffi;
 use crate::volume::Parts;
+use mukthiban_ffi::{tested, Answered, Created, Opened};
 
-pub unsafe fn create(p: &mut Parts, block_count: usize) -> ffi::Created {
-    ffi::mukthiban_tested_fat_create(p.fat.as_mut_ptr(), p.fat.len(), p.blocks(), block_count)
+pub unsafe fn create(p: &mut Parts, block_count: usize) -> Created {
+    tested::mukthiban_tested_fat_create(p.fat.as_mut_ptr(), p.fat.len(), p.blocks(), block_count)
 }
 
-pub unsafe fn resize(p: &mut Parts, first: usize, block_count: usize) -> ffi::Plain {
-    ffi::mukthiban_tested_fat_resize(p.fat.as_mut_ptr(), p.fat.len(), p.blocks(), first, block_count)
+pub unsafe fn resize(p: &mut Parts, first: usize, block_count: usize) -> Answered {
+    tested::mukthiban_tested_fat_resize(p.fat.as_mut_ptr(), p.fat.len(), p.blocks(), first, block_count)
 }
 
-pub unsafe fn delete(p: &mut Parts, first: usize) -> ffi::Plain {
-    ffi::mukthiban_tested_fat_delete(p.fat.as_mut_ptr(), p.fat.len(), p.blocks(), first)
+pub unsafe fn delete(p: &mut Parts, first: usize) -> Answered {
+    tested::mukthiban_tested_fat_delete(p.fat.as_mut_ptr(), p.fat.len(), p.blocks(), first)
 }
 
-pub unsafe fn open_list(p: &Parts, first: usize, list: &mut [u32]) -> ffi::Listed {
-    ffi::mukthiban_tested_fat_open_list(p.fat.as_ptr(), p.fat.len(), p.blocks(), first, list.as_mut_ptr(), list.len())
+pub unsafe fn open_list(p: &Parts, first: usize, list: &mut [u32]) -> Opened {
+    tested::mukthiban_tested_fat_open_list(
+        p.fat.as_ptr(),
+        p.fat.len(),
+        p.blocks(),
+        first,
+        list.as_mut_ptr(),
+        list.len(),
+    )
 }
 
-pub unsafe fn read(p: &Parts, first: usize, pos: usize, buf: &mut [u8]) -> ffi::Plain {
-    ffi::mukthiban_tested_fat_read(
+pub unsafe fn read(p: &Parts, first: usize, pos: usize, buf: &mut [u8]) -> Answered {
+    tested::mukthiban_tested_fat_read(
         p.fat.as_ptr(),
         p.fat.len(),
         p.blocks(),
@@ -37,8 +44,8 @@ pub unsafe fn read(p: &Parts, first: usize, pos: usize, buf: &mut [u8]) -> ffi::
     )
 }
 
-pub unsafe fn write(p: &mut Parts, first: usize, pos: usize, buf: &[u8]) -> ffi::Plain {
-    ffi::mukthiban_tested_fat_write(
+pub unsafe fn write(p: &mut Parts, first: usize, pos: usize, buf: &[u8]) -> Answered {
+    tested::mukthiban_tested_fat_write(
         p.fat.as_ptr(),
         p.fat.len(),
         p.blocks(),
@@ -55,7 +62,7 @@ pub unsafe fn write(p: &mut Parts, first: usize, pos: usize, buf: &[u8]) -> ffi:
 /// A call on the four tables: `on_tree!(call, read PARTS, ..)`, or `change` in the place of `read`.
 macro_rules! on_tree {
     (@ $call:ident, $p:expr, $as:ident, $($rest:expr),*) => {
-        $crate::ffi::$call(
+        mukthiban_ffi::tested::$call(
             $p.dir_hash.$as(), $p.dir_hash.len(), $p.dir_table.$as(), $p.dir_table.len(),
             $p.file_hash.$as(), $p.file_hash.len(), $p.file_table.$as(), $p.file_table.len(),
             $($rest),*

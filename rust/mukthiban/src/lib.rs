@@ -8,7 +8,6 @@
 //! - [`Refusal`] says why a call was refused.
 //! - [`Record`] reads where a file's blocks begin and how long it is.
 
-mod ffi;
 mod inner;
 mod record;
 mod refusal;

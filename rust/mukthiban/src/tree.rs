@@ -23,8 +23,8 @@
 //! # Ok::<(), Refusal>(())
 //! ```
 
-use crate::ffi;
 use crate::refusal::{judge, Refusal};
+use mukthiban_ffi as ffi;
 use std::fmt;
 
 /// The root directory's inode.

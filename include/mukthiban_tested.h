@@ -1,0 +1,238 @@
+/* The inner calls of Mukthiban: for a program that has tested its tables once
+ * and changes them by these calls alone. They test nothing, and so cost what
+ * they touch and not a test of the whole table.
+ *
+ * DANGER: unlike the calls of mukthiban.h they may NOT be handed any bytes.
+ * Each is proved for what stands under Requires and for nothing else; on other
+ * input it may read or write anywhere. Where in doubt use mukthiban.h.
+ *
+ * What "Requires" means:
+ *  - A sound table of n blocks: mukthiban_fat_test answered MUKTHIBAN_DONE on
+ *    table, and n = table_len / 8 - 1.
+ *  - Data that fit: block_len is from 1 to 65,536 and data_len = n * block_len.
+ *  - Sound tables: mukthiban_tree_test answered MUKTHIBAN_DONE on the four.
+ *  - Open counts for every directory or file: opens_len is at least the room
+ *    of that table (its length divided by 40 or 48).
+ * Whatever these calls answer, sound tables stay sound: so after one test any
+ * number of them may follow, as long as nothing else writes to the tables.
+ *
+ * Each answers what the call of the same name in mukthiban.h answers on such
+ * input, with the same bytes changed, in the order that stands at it. There is
+ * no work list.
+ */
+#ifndef MUKTHIBAN_TESTED_H
+#define MUKTHIBAN_TESTED_H
+
+#include "mukthiban.h"
+
+#ifdef __cplusplus
+extern "C" {
+#endif
+
+/* ---- The block table ---- */
+
+/* Writes the file's blocks to list, in chain order. Answers 5, 8.
+ * Requires: a sound table of n blocks. */
+mukthiban_opened mukthiban_tested_fat_open_list(const uint8_t *table, size_t table_len, size_t n,
+                                                size_t first_block,
+                                                uint32_t *list, size_t list_len);
+
+/* Makes a file of block_count blocks. Answers 2 (count 0), 6.
+ * Requires: a sound table of n blocks. */
+mukthiban_created mukthiban_tested_fat_create(uint8_t *table, size_t table_len, size_t n, size_t block_count);
+
+/* Grows or shrinks a file to block_count blocks. Answers 5, 2 (count 0), 6.
+ * Requires: a sound table of n blocks. */
+mukthiban_answered mukthiban_tested_fat_resize(uint8_t *table, size_t table_len, size_t n, size_t first_block,
+                                               size_t block_count);
+
+/* Gives a whole file back. Answers 5.
+ * Requires: a sound table of n blocks. */
+mukthiban_answered mukthiban_tested_fat_delete(uint8_t *table, size_t table_len, size_t n, size_t first_block);
+
+/* Reads buf_len bytes of the file from pos into buf. Answers 5, 7.
+ * Requires: a sound table of n blocks and data that fit. */
+mukthiban_answered mukthiban_tested_fat_read(const uint8_t *table, size_t table_len, size_t n,
+                                             const uint8_t *data, size_t data_len, size_t block_len,
+                                             size_t first_block, size_t pos,
+                                             uint8_t *buf, size_t buf_len);
+
+/* Writes buf's bytes to the file from pos on. Answers 5, 7.
+ * Requires: a sound table of n blocks and data that fit. */
+mukthiban_answered mukthiban_tested_fat_write(const uint8_t *table, size_t table_len, size_t n,
+                                              uint8_t *data, size_t data_len, size_t block_len,
+                                              size_t first_block, size_t pos,
+                                              const uint8_t *buf, size_t buf_len);
+
+/* ---- The entry tables ---- */
+
+/* Finds the directory with that parent and name. Answers 10.
+ * Requires: sound tables. */
+mukthiban_found mukthiban_tested_tree_lookup_dir(const uint8_t *dir_hash, size_t dir_hash_len,
+                                                 const uint8_t *dir_table, size_t dir_table_len,
+                                                 const uint8_t *file_hash, size_t file_hash_len,
+                                                 const uint8_t *file_table, size_t file_table_len,
+                                                 uint32_t parent, const uint8_t name[16]);
+
+/* Finds the file with that parent and name. Answers 10.
+ * Requires: sound tables. */
+mukthiban_found mukthiban_tested_tree_lookup_file(const uint8_t *dir_hash, size_t dir_hash_len,
+                                                  const uint8_t *dir_table, size_t dir_table_len,
+                                                  const uint8_t *file_hash, size_t file_hash_len,
+                                                  const uint8_t *file_table, size_t file_table_len,
+                                                  uint32_t parent, const uint8_t name[16]);
+
+/* Makes a directory, opened once. Answers 10 (parent), 11, 6.
+ * Requires: sound tables, open counts for every directory. */
+mukthiban_made mukthiban_tested_tree_make_dir(uint8_t *dir_hash, size_t dir_hash_len,
+                                              uint8_t *dir_table, size_t dir_table_len,
+                                              const uint8_t *file_hash, size_t file_hash_len,
+                                              const uint8_t *file_table, size_t file_table_len,
+                                              uint32_t *opens, size_t opens_len, uint32_t parent,
+                                              const uint8_t name[16], const uint8_t carried[4]);
+
+/* Makes a file entry, opened once. Answers 10 (parent), 11, 6.
+ * Requires: sound tables, open counts for every file. */
+mukthiban_made mukthiban_tested_tree_make_file(const uint8_t *dir_hash, size_t dir_hash_len,
+                                               uint8_t *dir_table, size_t dir_table_len,
+                                               uint8_t *file_hash, size_t file_hash_len,
+                                               uint8_t *file_table, size_t file_table_len,
+                                               uint32_t *opens, size_t opens_len, uint32_t parent,
+                                               const uint8_t name[16], const uint8_t carried[20]);
+
+/* Gives an open directory another parent and name. Answers 10 (subject), 16, 13, 10 (parent), 15, 11, 6.
+ * Requires: sound tables, open counts for every directory. */
+mukthiban_plain mukthiban_tested_tree_rename_dir(uint8_t *dir_hash, size_t dir_hash_len,
+                                                 uint8_t *dir_table, size_t dir_table_len,
+                                                 const uint8_t *file_hash, size_t file_hash_len,
+                                                 const uint8_t *file_table, size_t file_table_len,
+                                                 const uint32_t *opens, size_t opens_len, uint32_t inode,
+                                                 uint32_t parent, const uint8_t name[16]);
+
+/* Gives an open file another parent and name. Answers 10 (subject), 16, 10 (parent), 11, 6.
+ * Requires: sound tables, open counts for every file. */
+mukthiban_plain mukthiban_tested_tree_rename_file(const uint8_t *dir_hash, size_t dir_hash_len,
+                                                  uint8_t *dir_table, size_t dir_table_len,
+                                                  uint8_t *file_hash, size_t file_hash_len,
+                                                  uint8_t *file_table, size_t file_table_len,
+                                                  const uint32_t *opens, size_t opens_len, uint32_t inode,
+                                                  uint32_t parent, const uint8_t name[16]);
+
+/* Deletes a directory without children, opened exactly once. Answers 10, 16, 12, 13, 14.
+ * Requires: sound tables, open counts for every directory. */
+mukthiban_plain mukthiban_tested_tree_delete_dir(uint8_t *dir_hash, size_t dir_hash_len,
+                                                 uint8_t *dir_table, size_t dir_table_len,
+                                                 const uint8_t *file_hash, size_t file_hash_len,
+                                                 const uint8_t *file_table, size_t file_table_len,
+                                                 uint32_t *opens, size_t opens_len, uint32_t inode);
+
+/* Deletes a file entry, opened exactly once. Answers 10, 16, 12.
+ * Requires: sound tables, open counts for every file. */
+mukthiban_plain mukthiban_tested_tree_delete_file(const uint8_t *dir_hash, size_t dir_hash_len,
+                                                  uint8_t *dir_table, size_t dir_table_len,
+                                                  uint8_t *file_hash, size_t file_hash_len,
+                                                  uint8_t *file_table, size_t file_table_len,
+                                                  uint32_t *opens, size_t opens_len, uint32_t inode);
+
+/* Writes the inodes of the directories in a directory to list. Answers 10, 8.
+ * Requires: sound tables. */
+mukthiban_listed mukthiban_tested_tree_list_dirs(const uint8_t *dir_hash, size_t dir_hash_len,
+                                                 const uint8_t *dir_table, size_t dir_table_len,
+                                                 const uint8_t *file_hash, size_t file_hash_len,
+                                                 const uint8_t *file_table, size_t file_table_len,
+                                                 uint32_t inode,
+                                                 uint32_t *list, size_t list_len);
+
+/* Writes the inodes of the files in a directory to list. Answers 10, 8.
+ * Requires: sound tables. */
+mukthiban_listed mukthiban_tested_tree_list_files(const uint8_t *dir_hash, size_t dir_hash_len,
+                                                  const uint8_t *dir_table, size_t dir_table_len,
+                                                  const uint8_t *file_hash, size_t file_hash_len,
+                                                  const uint8_t *file_table, size_t file_table_len,
+                                                  uint32_t inode,
+                                                  uint32_t *list, size_t list_len);
+
+/* Counts entries in all and entries still free. Answers 0 alone.
+ * Requires: sound tables. */
+mukthiban_stat mukthiban_tested_tree_stat(const uint8_t *dir_hash, size_t dir_hash_len,
+                                          const uint8_t *dir_table, size_t dir_table_len,
+                                          const uint8_t *file_hash, size_t file_hash_len,
+                                          const uint8_t *file_table, size_t file_table_len);
+
+/* Where the 16 name bytes of a live inode begin. Answers 10.
+ * Requires: sound tables, kind 0 or 1. */
+mukthiban_named mukthiban_tested_tree_name(const uint8_t *dir_hash, size_t dir_hash_len,
+                                           const uint8_t *dir_table, size_t dir_table_len,
+                                           const uint8_t *file_hash, size_t file_hash_len,
+                                           const uint8_t *file_table, size_t file_table_len, uint32_t kind,
+                                           uint32_t inode);
+
+/* Writes a directory's 4 carried bytes to carried; zeros where refused. Answers 10.
+ * Requires: sound tables. */
+mukthiban_plain mukthiban_tested_tree_carried_dir(const uint8_t *dir_hash, size_t dir_hash_len,
+                                                  const uint8_t *dir_table, size_t dir_table_len,
+                                                  const uint8_t *file_hash, size_t file_hash_len,
+                                                  const uint8_t *file_table, size_t file_table_len,
+                                                  uint32_t inode, uint8_t carried[4]);
+
+/* Writes a file's 20 carried bytes to carried; zeros where refused. Answers 10.
+ * Requires: sound tables. */
+mukthiban_plain mukthiban_tested_tree_carried_file(const uint8_t *dir_hash, size_t dir_hash_len,
+                                                   const uint8_t *dir_table, size_t dir_table_len,
+                                                   const uint8_t *file_hash, size_t file_hash_len,
+                                                   const uint8_t *file_table, size_t file_table_len,
+                                                   uint32_t inode, uint8_t carried[20]);
+
+/* Sets a directory's 4 carried bytes. Answers 10.
+ * Requires: sound tables. */
+mukthiban_plain mukthiban_tested_tree_set_carried_dir(const uint8_t *dir_hash, size_t dir_hash_len,
+                                                      uint8_t *dir_table, size_t dir_table_len,
+                                                      const uint8_t *file_hash, size_t file_hash_len,
+                                                      const uint8_t *file_table, size_t file_table_len,
+                                                      uint32_t inode, const uint8_t carried[4]);
+
+/* Sets a file's 20 carried bytes. Answers 10.
+ * Requires: sound tables. */
+mukthiban_plain mukthiban_tested_tree_set_carried_file(const uint8_t *dir_hash, size_t dir_hash_len,
+                                                       const uint8_t *dir_table, size_t dir_table_len,
+                                                       const uint8_t *file_hash, size_t file_hash_len,
+                                                       uint8_t *file_table, size_t file_table_len,
+                                                       uint32_t inode, const uint8_t carried[20]);
+
+/* Adds 1 to a directory's open count. Answers 10, 17.
+ * Requires: sound tables, open counts for every directory. */
+mukthiban_plain mukthiban_tested_tree_open_dir(const uint8_t *dir_hash, size_t dir_hash_len,
+                                               const uint8_t *dir_table, size_t dir_table_len,
+                                               const uint8_t *file_hash, size_t file_hash_len,
+                                               const uint8_t *file_table, size_t file_table_len,
+                                               uint32_t *opens, size_t opens_len, uint32_t inode);
+
+/* Adds 1 to a file's open count. Answers 10, 17.
+ * Requires: sound tables, open counts for every file. */
+mukthiban_plain mukthiban_tested_tree_open_file(const uint8_t *dir_hash, size_t dir_hash_len,
+                                                const uint8_t *dir_table, size_t dir_table_len,
+                                                const uint8_t *file_hash, size_t file_hash_len,
+                                                const uint8_t *file_table, size_t file_table_len,
+                                                uint32_t *opens, size_t opens_len, uint32_t inode);
+
+/* Takes 1 from a directory's open count. Answers 10, 16.
+ * Requires: sound tables, open counts for every directory. */
+mukthiban_plain mukthiban_tested_tree_close_dir(const uint8_t *dir_hash, size_t dir_hash_len,
+                                                const uint8_t *dir_table, size_t dir_table_len,
+                                                const uint8_t *file_hash, size_t file_hash_len,
+                                                const uint8_t *file_table, size_t file_table_len,
+                                                uint32_t *opens, size_t opens_len, uint32_t inode);
+
+/* Takes 1 from a file's open count. Answers 10, 16.
+ * Requires: sound tables, open counts for every file. */
+mukthiban_plain mukthiban_tested_tree_close_file(const uint8_t *dir_hash, size_t dir_hash_len,
+                                                 const uint8_t *dir_table, size_t dir_table_len,
+                                                 const uint8_t *file_hash, size_t file_hash_len,
+                                                 const uint8_t *file_table, size_t file_table_len,
+                                                 uint32_t *opens, size_t opens_len, uint32_t inode);
+
+#ifdef __cplusplus
+}
+#endif
+
+#endif

@@ -1,0 +1,36 @@
+//! The answers: the number first, then the call's own fields. A refusal has every field 0. The answers of block calls
+//! and of tree calls are separate types; `Plain` is that of both formats and of the tree.
+
+macro_rules! answers {
+    ($($(#[$doc:meta])* $name:ident { $($field:ident: $type:ty),* })*) => {$(
+        $(#[$doc])*
+        #[repr(C)]
+        #[derive(Clone, Copy, Debug, Default, PartialEq, Eq)]
+        pub struct $name {
+            $(pub $field: $type,)*
+        }
+    )*};
+}
+
+answers! {
+    /// Format, and every tree call that gives nothing else.
+    Plain { answer: u32 }
+    /// A block call that gives nothing else.
+    Answered { answer: u32 }
+    /// The block table's test.
+    Tested { answer: u32, free: usize, files: usize }
+    /// Create.
+    Created { answer: u32, first_block: usize }
+    /// Open list.
+    Opened { answer: u32, count: usize }
+    /// Listing.
+    Listed { answer: u32, count: usize }
+    /// Make.
+    Made { answer: u32, inode: u32 }
+    /// Lookup.
+    Found { answer: u32, inode: u32, compared: u32 }
+    /// Stat.
+    Stat { answer: u32, dir_total: usize, dir_free: usize, file_total: usize, file_free: usize }
+    /// Where the 16 name bytes begin in the table that the kind selects.
+    Named { answer: u32, offset: usize }
+}

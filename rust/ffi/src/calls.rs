@@ -1,0 +1,114 @@
+//! The public calls, as `include/mukthiban.h` declares them: none requires anything of what it is lent.
+
+use crate::answers::*;
+
+calls! {
+    fn mukthiban_fat_format(table: &mut [u8]) -> Plain;
+    fn mukthiban_fat_test(table: &[u8], work: &mut [u32]) -> Tested;
+    fn mukthiban_fat_open_list(
+        table: &[u8], data: &[u8], block_len: usize, work: &mut [u32], first_block: usize, list: &mut [u32],
+    ) -> Opened;
+    fn mukthiban_fat_create(
+        table: &mut [u8], data: &[u8], block_len: usize, work: &mut [u32], block_count: usize,
+    ) -> Created;
+    fn mukthiban_fat_resize(
+        table: &mut [u8], data: &[u8], block_len: usize, work: &mut [u32], first_block: usize, block_count: usize,
+    ) -> Answered;
+    fn mukthiban_fat_delete(
+        table: &mut [u8], data: &[u8], block_len: usize, work: &mut [u32], first_block: usize,
+    ) -> Answered;
+    fn mukthiban_fat_read(
+        table: &[u8], data: &[u8], block_len: usize, work: &mut [u32], first_block: usize, pos: usize, buf: &mut [u8],
+    ) -> Answered;
+    fn mukthiban_fat_write(
+        table: &[u8], data: &mut [u8], block_len: usize, work: &mut [u32], first_block: usize, pos: usize, buf: &[u8],
+    ) -> Answered;
+    fn mukthiban_tree_format(
+        dir_hash: &mut [u8], dir_table: &mut [u8], dir_max: usize, file_hash: &mut [u8], file_table: &mut [u8],
+        file_max: usize,
+    ) -> Plain;
+    fn mukthiban_tree_test(
+        dir_hash: &[u8], dir_table: &[u8], file_hash: &[u8], file_table: &[u8],
+        work: &mut [u32],
+    ) -> Plain;
+    fn mukthiban_tree_lookup_dir(
+        dir_hash: &[u8], dir_table: &[u8], file_hash: &[u8], file_table: &[u8],
+        work: &mut [u32], parent: u32, name: &[u8; 16],
+    ) -> Found;
+    fn mukthiban_tree_lookup_file(
+        dir_hash: &[u8], dir_table: &[u8], file_hash: &[u8], file_table: &[u8],
+        work: &mut [u32], parent: u32, name: &[u8; 16],
+    ) -> Found;
+    fn mukthiban_tree_make_dir(
+        dir_hash: &mut [u8], dir_table: &mut [u8], file_hash: &[u8], file_table: &[u8],
+        work: &mut [u32], opens: &mut [u32], parent: u32, name: &[u8; 16], carried: &[u8; 4],
+    ) -> Made;
+    fn mukthiban_tree_make_file(
+        dir_hash: &[u8], dir_table: &mut [u8], file_hash: &mut [u8], file_table: &mut [u8],
+        work: &mut [u32], opens: &mut [u32], parent: u32, name: &[u8; 16], carried: &[u8; 20],
+    ) -> Made;
+    fn mukthiban_tree_rename_dir(
+        dir_hash: &mut [u8], dir_table: &mut [u8], file_hash: &[u8], file_table: &[u8],
+        work: &mut [u32], opens: &[u32], inode: u32, parent: u32, name: &[u8; 16],
+    ) -> Plain;
+    fn mukthiban_tree_rename_file(
+        dir_hash: &[u8], dir_table: &mut [u8], file_hash: &mut [u8], file_table: &mut [u8],
+        work: &mut [u32], opens: &[u32], inode: u32, parent: u32, name: &[u8; 16],
+    ) -> Plain;
+    fn mukthiban_tree_delete_dir(
+        dir_hash: &mut [u8], dir_table: &mut [u8], file_hash: &[u8], file_table: &[u8],
+        work: &mut [u32], opens: &mut [u32], inode: u32,
+    ) -> Plain;
+    fn mukthiban_tree_delete_file(
+        dir_hash: &[u8], dir_table: &mut [u8], file_hash: &mut [u8], file_table: &mut [u8],
+        work: &mut [u32], opens: &mut [u32], inode: u32,
+    ) -> Plain;
+    fn mukthiban_tree_list_dirs(
+        dir_hash: &[u8], dir_table: &[u8], file_hash: &[u8], file_table: &[u8],
+        work: &mut [u32], inode: u32, list: &mut [u32],
+    ) -> Listed;
+    fn mukthiban_tree_list_files(
+        dir_hash: &[u8], dir_table: &[u8], file_hash: &[u8], file_table: &[u8],
+        work: &mut [u32], inode: u32, list: &mut [u32],
+    ) -> Listed;
+    fn mukthiban_tree_stat(
+        dir_hash: &[u8], dir_table: &[u8], file_hash: &[u8], file_table: &[u8],
+        work: &mut [u32],
+    ) -> Stat;
+    fn mukthiban_tree_name(
+        dir_hash: &[u8], dir_table: &[u8], file_hash: &[u8], file_table: &[u8],
+        work: &mut [u32], kind: u32, inode: u32,
+    ) -> Named;
+    fn mukthiban_tree_carried_dir(
+        dir_hash: &[u8], dir_table: &[u8], file_hash: &[u8], file_table: &[u8],
+        work: &mut [u32], inode: u32, carried: &mut [u8; 4],
+    ) -> Plain;
+    fn mukthiban_tree_carried_file(
+        dir_hash: &[u8], dir_table: &[u8], file_hash: &[u8], file_table: &[u8],
+        work: &mut [u32], inode: u32, carried: &mut [u8; 20],
+    ) -> Plain;
+    fn mukthiban_tree_set_carried_dir(
+        dir_hash: &[u8], dir_table: &mut [u8], file_hash: &[u8], file_table: &[u8],
+        work: &mut [u32], inode: u32, carried: &[u8; 4],
+    ) -> Plain;
+    fn mukthiban_tree_set_carried_file(
+        dir_hash: &[u8], dir_table: &[u8], file_hash: &[u8], file_table: &mut [u8],
+        work: &mut [u32], inode: u32, carried: &[u8; 20],
+    ) -> Plain;
+    fn mukthiban_tree_open_dir(
+        dir_hash: &[u8], dir_table: &[u8], file_hash: &[u8], file_table: &[u8],
+        work: &mut [u32], opens: &mut [u32], inode: u32,
+    ) -> Plain;
+    fn mukthiban_tree_open_file(
+        dir_hash: &[u8], dir_table: &[u8], file_hash: &[u8], file_table: &[u8],
+        work: &mut [u32], opens: &mut [u32], inode: u32,
+    ) -> Plain;
+    fn mukthiban_tree_close_dir(
+        dir_hash: &[u8], dir_table: &[u8], file_hash: &[u8], file_table: &[u8],
+        work: &mut [u32], opens: &mut [u32], inode: u32,
+    ) -> Plain;
+    fn mukthiban_tree_close_file(
+        dir_hash: &[u8], dir_table: &[u8], file_hash: &[u8], file_table: &[u8],
+        work: &mut [u32], opens: &mut [u32], inode: u32,
+    ) -> Plain;
+}
