@@ -42,7 +42,12 @@ impl Chance {
         }
     }
     pub fn bytes(&mut self, len: usize) -> Vec<u8> {
-        (0..len).map(|_| self.next() as u8).collect()
+        let mut bytes = Vec::with_capacity(len + 8);
+        while bytes.len() < len {
+            bytes.extend(self.next().to_le_bytes());
+        }
+        bytes.truncate(len);
+        bytes
     }
     pub fn words(&mut self, len: usize) -> Vec<u32> {
         (0..len).map(|_| self.next() as u32).collect()

@@ -61,6 +61,21 @@ pub fn block_call(call: &BlockCall, lent: &mut Blocks) -> Answered {
     stated
 }
 
+/// The same for a call that changes no data, over data that are too many to be copied. The inner call is left out.
+pub fn block_call_on_data(call: &BlockCall, lent: &mut Blocks) -> Answered {
+    assert!(!matches!(call, BlockCall::Write { .. }), "write changes data");
+    let data = std::mem::take(&mut lent.data);
+    let mut copy = Blocks { data, ..lent.clone() };
+    let answered = Library.block_call(call, &mut copy);
+    lent.data = std::mem::take(&mut copy.data);
+    let stated = Stated.block_call(call, lent);
+    CALLS.fetch_add(1, Ordering::Relaxed);
+    let data = std::mem::take(&mut lent.data);
+    assert!(answered == stated && copy == *lent, "the library differs on {} bytes of data: {call:?}", data.len());
+    lent.data = data;
+    stated
+}
+
 pub fn tree_call(call: &TreeCall, lent: &mut Tree) -> Answered {
     let before = lent.clone();
     let mut copy = lent.clone();

@@ -7,13 +7,15 @@ use rules::blocks::layout;
 use rules::tree::tree;
 use std::collections::{HashSet, VecDeque};
 
-/// A volume of one-byte blocks with that table.
+const BLOCK_LEN: usize = 512;
+
+/// A volume with that table, and other bytes in each block.
 fn volume(table: Vec<u8>) -> Blocks {
     let n = table.len() / 8 - 1;
     Blocks {
         table,
-        data: (0..n).map(|b| b as u8 + 10).collect(),
-        block_len: 1,
+        data: (0..n * BLOCK_LEN).map(|at| (at / BLOCK_LEN * 64 + at % 61) as u8).collect(),
+        block_len: BLOCK_LEN,
         work: vec![77; n + 1],
         list: vec![99; n],
         buf: vec![55; 2],
@@ -35,8 +37,10 @@ fn all_block_calls(n: usize) -> Vec<BlockCall> {
         calls.push(BlockCall::OpenList { first });
         calls.push(BlockCall::Delete { first });
         calls.extend((0..=n + 1).map(|count| BlockCall::Resize { first, count }));
-        calls.extend((0..n).map(|pos| BlockCall::Read { first, pos }));
-        calls.extend((0..n).map(|pos| BlockCall::Write { first, pos }));
+        // Two bytes: within a block up to its end, and over each border between two.
+        for pos in (1..=n).flat_map(|block| [block * BLOCK_LEN - 2, block * BLOCK_LEN - 1]) {
+            calls.extend([BlockCall::Read { first, pos }, BlockCall::Write { first, pos }]);
+        }
     }
     calls
 }
@@ -113,7 +117,7 @@ fn small_tree(dirs: usize, files: usize, buckets: usize) -> Tree {
 }
 
 fn all_tree_calls(lent: &Tree) -> Vec<TreeCall> {
-    let names = [[b'a'; 16], [b'b'; 16]];
+    let names = [[b'a'; 16], *b"b\0\0\0\0\0\0\0\0\0\0\0\0\0\0\0"];
     let dirs = lent.dir_opens.len() as u32;
     let mut calls = vec![TreeCall::Stat, TreeCall::Test];
     for kind in [Kind::Dir, Kind::File] {

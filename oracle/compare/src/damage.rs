@@ -141,7 +141,7 @@ pub fn arbitrary_blocks(chance: &mut Chance) {
         let value = if at == 0 { 0 } else { likely_word(chance, n) };
         put_word(&mut table, at, value);
     }
-    let lent = volumes::volume(chance, table, 1);
+    let lent = volumes::volume(chance, table, 512);
     judge_blocks(chance, &lent);
 }
 
@@ -151,8 +151,8 @@ pub fn all_small(n: usize) -> usize {
     let words = 2 * (n + 1) - 1;
     let mut lent = Blocks {
         table: vec![0; 8 * (n + 1)],
-        data: vec![0; n],
-        block_len: 1,
+        data: vec![],
+        block_len: 512,
         work: vec![7; n],
         list: vec![],
         buf: vec![],
@@ -165,7 +165,9 @@ pub fn all_small(n: usize) -> usize {
             rest /= values.len();
         }
         if block_call(&BlockCall::Test, &mut lent).number == 0 {
+            lent.data = vec![0; n * lent.block_len];
             block_call(&BlockCall::Create { count: 1 }, &mut lent);
+            lent.data = vec![];
         }
     }
     all
@@ -182,7 +184,7 @@ pub fn wild_tree_call(chance: &mut Chance, lent: &Tree) -> TreeCall {
     let name = trees::any_name(chance);
     let carried = [chance.next() as u8; 20];
     match chance.below(12) {
-        0 => TreeCall::Lookup { kind, parent, name },
+        0 => TreeCall::Lookup { kind, parent, name: trees::any_bytes_name(chance) },
         1 => TreeCall::Make { kind, parent, name, carried },
         2 => TreeCall::Rename { kind, inode, parent, name },
         3 => TreeCall::Delete { kind, inode },

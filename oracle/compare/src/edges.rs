@@ -1,7 +1,7 @@
 //! Lengths and numbers at every edge: 0, one short, one more, the largest, 2^32, 2^64 - 1, and products that wrap.
 
 use crate::chance::Chance;
-use crate::check::{block_call, tree_call};
+use crate::check::{block_call, block_call_on_data, tree_call};
 use crate::{damage, trees, volumes};
 use port::{BlockCall, Blocks, Kind, Tree, TreeCall};
 
@@ -39,8 +39,8 @@ fn every_block_call(first: usize, number: usize) -> [BlockCall; 8] {
 fn block_lengths(chance: &mut Chance) {
     let lengths = [0, 1, 7, 8, 9, 15, 16, 17, 23, 24, 32, 40];
     for table_len in lengths {
-        for data_len in [0, 1, 2, 3, 4, 5, 8, 16] {
-            for block_len in [0, 1, 2, 3, 4, 65_536, 65_537, 1 << 32, 1 << 62, (1 << 62) + 1, 1 << 63, (1 << 63) + 1, usize::MAX] {
+        for data_len in [0, 1, 2, 3, 4, 5, 8, 511, 512, 513, 1_024, 2_048] {
+            for block_len in [0, 1, 2, 3, 4, 512, 65_536, 65_537, 1 << 32, 1 << 62, (1 << 62) + 1, 1 << 63, (1 << 63) + 1, usize::MAX] {
                 for work_len in [0, 1, 2, 3, 4, 6] {
                     let mut table = chance.bytes(table_len);
                     if chance.one_in(2) {
@@ -81,27 +81,33 @@ fn block_numbers(chance: &mut Chance) {
     }
 }
 
-/// The largest volumes, and one block more.
+/// The largest volumes, and one block more. The data are many and lent once.
 fn large_blocks(chance: &mut Chance) {
+    const LEN: usize = 512;
     for n in [1_000_000, 1_000_001] {
         let mut lent = Blocks {
             table: vec![0xA5; 8 * (n + 1)],
-            data: vec![3; n],
-            block_len: 1,
+            data: vec![0; n * LEN],
+            block_len: LEN,
             work: vec![9; n],
             list: vec![4; 8],
             buf: vec![6; 3],
         };
-        block_call(&BlockCall::Format, &mut lent);
-        block_call(&BlockCall::Test, &mut lent);
-        block_call(&BlockCall::Create { count: n - 3 }, &mut lent);
-        block_call(&BlockCall::Create { count: 4 }, &mut lent);
-        block_call(&BlockCall::Read { first: 0, pos: n - 6 }, &mut lent);
-        block_call(&BlockCall::Read { first: 0, pos: n - 5 }, &mut lent);
-        block_call(&BlockCall::Resize { first: 0, count: 7 }, &mut lent);
-        block_call(&BlockCall::OpenList { first: 0 }, &mut lent);
+        let end = (n - 3) * LEN;
+        for call in [
+            BlockCall::Format,
+            BlockCall::Test,
+            BlockCall::Create { count: n - 3 },
+            BlockCall::Create { count: 4 },
+            BlockCall::Read { first: 0, pos: end - 3 },
+            BlockCall::Read { first: 0, pos: end - 2 },
+            BlockCall::Resize { first: 0, count: 7 },
+            BlockCall::OpenList { first: 0 },
+        ] {
+            block_call_on_data(&call, &mut lent);
+        }
         lent.work.pop();
-        block_call(&BlockCall::Test, &mut lent);
+        block_call_on_data(&BlockCall::Test, &mut lent);
     }
     let n = chance.within(60_000, 70_000);
     let mut table = chance.bytes(8 * (n + 1));
@@ -109,19 +115,31 @@ fn large_blocks(chance: &mut Chance) {
     rules::blocks::lay_out(&mut table, &layout);
     let mut lent = volumes::volume(chance, table, 1);
     block_call(&BlockCall::Test, &mut lent);
-    for block_len in [65_536, 65_537] {
+}
+
+/// One block of every length at an edge, with a file in it: read to its end, and a byte more. Where the length is in use the file is created and written.
+fn long_blocks() {
+    for block_len in [511, 512, 513, 4_095, 4_096, 4_097, 65_535, 65_536, 65_537] {
         let mut lent = Blocks {
             table: vec![0; 16],
             data: vec![0; block_len],
             block_len,
             work: vec![1],
-            list: vec![],
+            list: vec![7],
             buf: vec![7; 5],
         };
-        block_call(&BlockCall::Format, &mut lent);
-        block_call(&BlockCall::Create { count: 1 }, &mut lent);
-        block_call(&BlockCall::Write { first: 0, pos: block_len - 5 }, &mut lent);
-        block_call(&BlockCall::Write { first: 0, pos: block_len - 4 }, &mut lent);
+        rules::blocks::format(&mut lent.table).unwrap();
+        if matches!(block_len, 512 | 4_096) {
+            block_call(&BlockCall::Create { count: 1 }, &mut lent);
+            block_call(&BlockCall::Write { first: 0, pos: block_len - 5 }, &mut lent);
+            block_call(&BlockCall::Write { first: 0, pos: block_len - 4 }, &mut lent);
+        } else {
+            let file = vec![rules::blocks::Run { start: 0, size: 1 }];
+            rules::blocks::lay_out(&mut lent.table, &rules::blocks::Layout { free: vec![], files: vec![file] });
+        }
+        block_call(&BlockCall::OpenList { first: 0 }, &mut lent);
+        block_call(&BlockCall::Read { first: 0, pos: block_len - 5 }, &mut lent);
+        block_call(&BlockCall::Read { first: 0, pos: block_len - 4 }, &mut lent);
     }
 }
 
@@ -235,6 +253,7 @@ fn large_trees() {
 
 pub fn run(chance: &mut Chance, times: usize) {
     large_blocks(chance);
+    long_blocks();
     large_trees();
     tree_maxima(chance);
     for _ in 0..times {

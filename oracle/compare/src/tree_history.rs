@@ -3,7 +3,7 @@
 use crate::chance::Chance;
 use crate::check;
 use crate::stored;
-use crate::trees::{self, any_name};
+use crate::trees::{self, any_bytes_name, any_name};
 use original::Tables;
 use port::{Answered, Kind, Tree, TreeCall};
 use rules::tree::{tree, Four};
@@ -207,7 +207,7 @@ pub fn any_call(chance: &mut Chance, lent: &mut Tree) -> TreeCall {
         0..=9 => TreeCall::Make { kind, parent, name, carried },
         10..=15 => TreeCall::Rename { kind, inode, parent, name },
         16..=20 => TreeCall::Delete { kind, inode },
-        21..=23 => TreeCall::Lookup { kind, parent, name },
+        21..=23 => TreeCall::Lookup { kind, parent, name: any_bytes_name(chance) },
         24..=25 => TreeCall::List { kind, inode: parent },
         26 => TreeCall::Stat,
         27 => TreeCall::Test,

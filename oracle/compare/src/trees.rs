@@ -6,10 +6,22 @@ use rules::entries::{hash, key};
 use rules::put_word;
 use rules::tree::{tree, Four};
 
-/// Few names, so that keys meet.
+/// A name that a new entry may have: the first byte is not zero, and after a zero come only zeros. Few of them, so that keys meet; some use all 16 bytes.
 pub fn any_name(chance: &mut Chance) -> [u8; 16] {
+    let (mut name, place) = if chance.one_in(4) { ([b'z'; 16], 15) } else { ([0; 16], 0) };
+    name[place] = chance.pick(b"abcdefgh");
+    name
+}
+
+/// A name that an entry may have that is there already: any bytes, also what no new entry may have.
+pub fn any_bytes_name(chance: &mut Chance) -> [u8; 16] {
     let mut name = [0; 16];
-    name[chance.pick(&[0, 0, 0, 15])] = chance.pick(b"abcdefgh");
+    match chance.below(8) {
+        0 => name[15] = chance.pick(b"abcdefgh"),
+        1 => (name[0], name[2]) = (chance.pick(b"abcdefgh"), b'x'),
+        2 => {}
+        _ => name = any_name(chance),
+    }
     name
 }
 
@@ -85,7 +97,7 @@ fn any_keys(chance: &mut Chance, inodes: &[u32], parents: impl Fn(&mut Chance, u
     let mut keys: Vec<(u32, [u8; 20])> = vec![];
     for (i, x) in inodes.iter().enumerate() {
         let parent = parents(chance, i);
-        let mut wanted = key(parent, &any_name(chance));
+        let mut wanted = key(parent, &any_bytes_name(chance));
         while keys.iter().any(|(_, other)| *other == wanted) {
             let name: [u8; 16] = chance.bytes(16).try_into().unwrap();
             wanted = key(parent, &name);

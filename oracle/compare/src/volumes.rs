@@ -42,6 +42,11 @@ pub fn any_size(chance: &mut Chance) -> usize {
     }
 }
 
+/// A block length at which tables may be changed: 512, and 4,096 now and then where there are few blocks.
+pub fn any_block_len(chance: &mut Chance, n: usize) -> usize {
+    if n <= 12 && chance.one_in(8) { 4_096 } else { 512 }
+}
+
 /// A volume with that table; data, work and lists hold junk.
 pub fn volume(chance: &mut Chance, table: Vec<u8>, block_len: usize) -> Blocks {
     let n = table.len() / 8 - 1;
@@ -62,7 +67,7 @@ pub fn formatted(chance: &mut Chance) -> Blocks {
     let len = 8 * (n + 1);
     let mut table = if chance.one_in(2) { vec![0; len] } else { chance.bytes(len) };
     rules::blocks::format(&mut table).unwrap();
-    let block_len = chance.within(1, 9);
+    let block_len = any_block_len(chance, n);
     volume(chance, table, block_len)
 }
 
@@ -74,6 +79,6 @@ pub fn any_sound(chance: &mut Chance) -> Blocks {
     lay_out(&mut table, &wanted);
     let held = layout(&table).expect("a table that is laid out is sound");
     assert_eq!(held, wanted, "a table holds what is laid out in it");
-    let block_len = chance.within(1, 9);
+    let block_len = any_block_len(chance, n);
     volume(chance, table, block_len)
 }

@@ -1,43 +1,75 @@
 //! The stored answers, replayed on the statement of the rules and on the proved library.
 
-use compare::stored::{self, block_bytes, block_record, tree_bytes, tree_record};
+use compare::stored::bytes::Reader;
+use compare::stored::{self, block_bytes, block_record, first, tree_bytes, tree_record};
+use compare::stored::{BlockRecord, TreeRecord};
 use port::{Library, Port, Stated};
-use rules::word;
 use std::path::Path;
 
-/// The records of a stored file, by its header.
-fn records(name: &str, mark: u32, width: usize) -> Vec<Vec<u8>> {
-    let path = Path::new(env!("CARGO_MANIFEST_DIR")).join("../..").join(name);
-    let bytes = std::fs::read(path).unwrap();
-    assert_eq!((word(&bytes, 0), word(&bytes, 4)), (mark, 1));
-    assert_eq!(word(&bytes, 12) as usize, width);
-    let records: Vec<Vec<u8>> = bytes[stored::HEADER..].chunks(width).map(|r| r.to_vec()).collect();
-    assert_eq!(records.len(), word(&bytes, 8) as usize);
-    records
+fn file(name: &str) -> Vec<u8> {
+    std::fs::read(Path::new(env!("CARGO_MANIFEST_DIR")).join("../..").join(name)).unwrap()
 }
 
-#[test]
-fn blocks() {
-    for bytes in records("crates/stored_blocks/stdin", stored::BLOCK_MARK, stored::BLOCK_RECORD) {
-        let record = block_record(&bytes);
-        assert_eq!(block_bytes(&record), bytes);
-        for port in [&Stated as &dyn Port, &Library] {
-            let mut lent = record.before.clone();
-            let answered = port.block_call(&record.call, &mut lent);
-            assert_eq!((answered, &lent), (record.answered, &record.after), "{record:?}");
-        }
+/// How many records follow, by the header of a part.
+fn count(r: &mut Reader, mark: u32, version: u32, width: usize) -> usize {
+    assert_eq!((r.word(), r.word()), (mark, version));
+    let count = r.word() as usize;
+    assert_eq!(r.word() as usize, width);
+    assert!(count > 200, "{count} records");
+    count
+}
+
+fn replay_block(record: &BlockRecord) {
+    for port in [&Stated as &dyn Port, &Library] {
+        let mut lent = record.before.clone();
+        let answered = port.block_call(&record.call, &mut lent);
+        assert_eq!((answered, &lent), (record.answered, &record.after), "{record:?}");
+    }
+}
+
+fn replay_tree(record: &TreeRecord) {
+    for port in [&Stated as &dyn Port, &Library] {
+        let mut lent = record.before.clone();
+        let answered = port.tree_call(&record.call, &mut lent);
+        assert_eq!((answered, &lent), (record.answered, &record.after), "{record:?}");
     }
 }
 
 #[test]
-fn tree() {
-    for bytes in records("crates/stored_tree/stdin", stored::TREE_MARK, stored::TREE_RECORD) {
-        let record = tree_record(&bytes);
+fn both_parts() {
+    let bytes = file("oracle/stored/answers");
+    let r = &mut Reader { bytes: &bytes };
+    for _ in 0..count(r, stored::BLOCK_MARK, stored::VERSION, stored::BLOCK_RECORD) {
+        let before = r.bytes;
+        let record = block_record(r);
+        assert_eq!(block_bytes(&record), before[..before.len() - r.bytes.len()]);
+        replay_block(&record);
+    }
+    for _ in 0..count(r, stored::TREE_MARK, stored::VERSION, stored::TREE_RECORD) {
+        let bytes = r.take(stored::TREE_RECORD);
+        let record = tree_record(bytes);
         assert_eq!(tree_bytes(&record), bytes);
-        for port in [&Stated as &dyn Port, &Library] {
-            let mut lent = record.before.clone();
-            let answered = port.tree_call(&record.call, &mut lent);
-            assert_eq!((answered, &lent), (record.answered, &record.after), "{record:?}");
-        }
+        replay_tree(&record);
     }
+    assert!(r.bytes.is_empty());
+}
+
+#[test]
+fn version_1_blocks() {
+    let bytes = file("crates/stored_blocks/stdin");
+    let r = &mut Reader { bytes: &bytes };
+    for _ in 0..count(r, stored::BLOCK_MARK, 1, first::BLOCK_RECORD) {
+        replay_block(&first::block_record(r.take(first::BLOCK_RECORD)));
+    }
+    assert!(r.bytes.is_empty());
+}
+
+#[test]
+fn version_1_tree() {
+    let bytes = file("crates/stored_tree/stdin");
+    let r = &mut Reader { bytes: &bytes };
+    for _ in 0..count(r, stored::TREE_MARK, 1, stored::TREE_RECORD) {
+        replay_tree(&tree_record(r.take(stored::TREE_RECORD)));
+    }
+    assert!(r.bytes.is_empty());
 }
