@@ -14,13 +14,14 @@ static int failures = 0;
         }                                                             \
     } while (0)
 
-/* 4 blocks of 2 bytes, 4 directory entries, 4 file entries, 5 buckets each */
-static uint8_t table[8 * 5], data[2 * 4];
+/* 4 blocks of 512 bytes, 4 directory entries, 4 file entries, 5 buckets each */
+enum { LENGTH = 512 };
+static uint8_t table[8 * 5], data[LENGTH * 4];
 static uint8_t dir_hash[4 * 5], dir_table[40 * 4], file_hash[4 * 5], file_table[48 * 4];
 static uint32_t work[8], dir_opens[4], file_opens[4], list[4];
 
 #define FAT table, sizeof table
-#define DATA data, sizeof data, (size_t)2
+#define DATA data, sizeof data, (size_t)LENGTH
 #define FOUR \
     dir_hash, sizeof dir_hash, dir_table, sizeof dir_table, file_hash, sizeof file_hash, file_table, sizeof file_table
 #define WORK work, (size_t)8
@@ -61,12 +62,13 @@ static void blocks(void)
     EXPECT(list[0] == 0 && list[1] == 1 && list[2] == 3);
     EXPECT(mukthiban_fat_open_list(FAT, DATA, WORK, 0, list, 2).answer == MUKTHIBAN_LIST_TOO_SHORT);
 
-    EXPECT(mukthiban_fat_write(FAT, DATA, WORK, 0, 2, buf, 4).answer == MUKTHIBAN_DONE);
-    EXPECT(data[2] == 9 && data[3] == 8 && data[6] == 7 && data[7] == 6);
+    EXPECT(mukthiban_fat_write(FAT, DATA, WORK, 0, 2 * LENGTH - 2, buf, 4).answer == MUKTHIBAN_DONE);
+    EXPECT(data[2 * LENGTH - 2] == 9 && data[2 * LENGTH - 1] == 8);
+    EXPECT(data[3 * LENGTH] == 7 && data[3 * LENGTH + 1] == 6);
     memset(buf, 0, sizeof buf);
-    EXPECT(mukthiban_fat_read(FAT, DATA, WORK, 0, 2, buf, 4).answer == MUKTHIBAN_DONE);
+    EXPECT(mukthiban_fat_read(FAT, DATA, WORK, 0, 2 * LENGTH - 2, buf, 4).answer == MUKTHIBAN_DONE);
     EXPECT(buf[0] == 9 && buf[3] == 6);
-    EXPECT(mukthiban_fat_read(FAT, DATA, WORK, 0, 3, buf, 4).answer == MUKTHIBAN_OUT_OF_BOUND);
+    EXPECT(mukthiban_fat_read(FAT, DATA, WORK, 0, 3 * LENGTH - 3, buf, 4).answer == MUKTHIBAN_OUT_OF_BOUND);
 
     EXPECT(mukthiban_fat_delete(FAT, DATA, WORK, 0).answer == MUKTHIBAN_DONE);
     tested = mukthiban_fat_test(FAT, WORK);

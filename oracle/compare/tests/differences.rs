@@ -33,7 +33,7 @@ fn panics<T>(run: impl FnOnce() -> T) -> bool {
     ended
 }
 
-/// A volume of one-byte blocks whose entries are given from entry 0 on.
+/// A volume of 512-byte blocks whose entries are given from entry 0 on.
 fn volume(entries: &[(u32, u32)]) -> Blocks {
     let mut table = vec![0; 8 * entries.len()];
     for (e, (u, v)) in entries.iter().enumerate() {
@@ -43,8 +43,8 @@ fn volume(entries: &[(u32, u32)]) -> Blocks {
     let n = entries.len() - 1;
     Blocks {
         table,
-        data: vec![0; n],
-        block_len: 1,
+        data: vec![0; n * 512],
+        block_len: 512,
         work: vec![0; n],
         list: vec![0; n],
         buf: vec![0],
@@ -177,7 +177,7 @@ fn two_files_on_one_block() {
 #[test]
 fn sizes_of_blocks() {
     // No blocks at all.
-    let none = Blocks { table: vec![0; 8], block_len: 1, ..Blocks::default() };
+    let none = Blocks { table: vec![0; 8], block_len: 512, ..Blocks::default() };
     assert_eq!(block_number(BlockCall::Create { count: 1 }, &none), 2);
     assert_eq!(block_number(BlockCall::Format, &none), 2);
     // Block length 0.

@@ -8,7 +8,9 @@ use rules::word;
 
 const F: u32 = 0x8000_0000;
 
-/// A volume of one-byte blocks with a work list.
+const LEN: usize = 512;
+
+/// A volume with a work list.
 struct Volume {
     table: Vec<u8>,
     data: Vec<u8>,
@@ -19,31 +21,31 @@ impl Volume {
     fn formatted(n: usize) -> Volume {
         let mut table = vec![0; 8 * (n + 1)];
         blocks::format(&mut table).unwrap();
-        Volume { table, data: vec![0; n], work: vec![7; n] }
+        Volume { table, data: vec![0; n * LEN], work: vec![7; n] }
     }
     fn entries(&self) -> Vec<(u32, u32)> {
         let at = |e: usize| (word(&self.table, e * 8), word(&self.table, e * 8 + 4));
         (0..self.table.len() / 8).map(at).collect()
     }
     fn create(&mut self, count: usize) -> Result<usize, rules::Answer> {
-        blocks::create(&mut self.table, &self.data, 1, &mut self.work, count)
+        blocks::create(&mut self.table, &self.data, LEN, &mut self.work, count)
     }
     fn resize(&mut self, first: usize, count: usize) -> Result<(), rules::Answer> {
-        blocks::resize(&mut self.table, &self.data, 1, &mut self.work, first, count)
+        blocks::resize(&mut self.table, &self.data, LEN, &mut self.work, first, count)
     }
     fn delete(&mut self, first: usize) -> Result<(), rules::Answer> {
-        blocks::delete(&mut self.table, &self.data, 1, &mut self.work, first)
+        blocks::delete(&mut self.table, &self.data, LEN, &mut self.work, first)
     }
     fn list(&mut self, first: usize) -> Vec<u32> {
         let mut list = vec![9; 8];
         let count =
-            blocks::open_list(&self.table, &self.data, 1, &mut self.work, first, &mut list);
+            blocks::open_list(&self.table, &self.data, LEN, &mut self.work, first, &mut list);
         list.truncate(count.unwrap());
         list
     }
     fn read(&mut self, first: usize, pos: usize, len: usize) -> Result<(), rules::Answer> {
         let mut buf = vec![0; len];
-        blocks::read(&self.table, &self.data, 1, &mut self.work, first, pos, &mut buf)
+        blocks::read(&self.table, &self.data, LEN, &mut self.work, first, pos, &mut buf)
     }
 }
 
@@ -68,9 +70,9 @@ fn block_table() {
     assert_eq!(v.resize(1, 1), Ok(()));
     assert_eq!(v.entries(), [(0, 3), (F, 4), (F, 0), (F, 0), (1, 0)]);
     assert_eq!(v.resize(1, 3), Err(NoSpace));
-    assert_eq!(v.read(1, 1, 0), Ok(()));
-    assert_eq!(v.read(1, 0, 1), Ok(()));
-    assert_eq!(v.read(1, 1, 1), Err(OutOfBound));
+    assert_eq!(v.read(1, LEN, 0), Ok(()));
+    assert_eq!(v.read(1, LEN - 1, 1), Ok(()));
+    assert_eq!(v.read(1, LEN, 1), Err(OutOfBound));
     assert_eq!(v.read(1, usize::MAX, 1), Err(OutOfBound));
 }
 

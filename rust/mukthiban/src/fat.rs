@@ -6,19 +6,19 @@
 //! ```
 //! use mukthiban::{fat, Refusal};
 //! let mut table = [0u8; 8 * 5]; // 4 blocks
-//! let mut data = [0u8; 4 * 16];
+//! let mut data = [0u8; 4 * 512];
 //! let mut work = [0u32; 4];
 //! fat::format(&mut table)?;
 //!
-//! let file = fat::create(&mut table, &data, 16, &mut work, 3)?;
-//! fat::write(&table, &mut data, 16, &mut work, file, 10, b"saved game")?;
+//! let file = fat::create(&mut table, &data, 512, &mut work, 3)?;
+//! fat::write(&table, &mut data, 512, &mut work, file, 507, b"saved game")?;
 //! let mut back = [0; 10];
-//! fat::read(&table, &data, 16, &mut work, file, 10, &mut back)?;
+//! fat::read(&table, &data, 512, &mut work, file, 507, &mut back)?;
 //! assert_eq!(&back, b"saved game");
 //!
 //! let tested = fat::test(&table, &mut work)?;
 //! assert_eq!((tested.free, tested.files), (1, 1));
-//! assert_eq!(fat::create(&mut table, &data, 16, &mut work, 2), Err(Refusal::NoSpace));
+//! assert_eq!(fat::create(&mut table, &data, 512, &mut work, 2), Err(Refusal::NoSpace));
 //! # Ok::<(), Refusal>(())
 //! ```
 

@@ -44,12 +44,18 @@ fn both(shape: Shape) -> (Volume, Plain) {
     (volume, plain)
 }
 
+/// A position near a block's border, and a length up to three blocks.
+fn span(dice: &mut Dice, n: usize, block_len: usize) -> (usize, usize) {
+    let pos = (dice.below(n + 1) * block_len + dice.below(5)).saturating_sub(2);
+    (pos, [dice.below(6), dice.below(3) * block_len + dice.below(3)][dice.below(2)])
+}
+
 #[test]
 fn block_calls_agree() {
     for seed in 0..60 {
         let mut dice = Dice(seed);
         let n = 1 + dice.below(24);
-        let block_len = 1 + dice.below(5);
+        let block_len = [512, 4_096][dice.below(2)];
         let (mut volume, mut plain) = both(Shape { blocks: n, block_len, dir_max: 2, file_max: 1, buckets: 1 });
         for _ in 0..120 {
             let block = dice.below(n + 2);
@@ -66,14 +72,14 @@ fn block_calls_agree() {
                     assert_eq!(volume.open_list(block), count.map(|c| list[..c].to_vec()));
                 }
                 4 => {
+                    let (pos, count) = span(&mut dice, n, block_len);
                     let (mut a, mut b) = (vec![1; count], vec![1; count]);
-                    let pos = dice.below(n * block_len + 2);
                     assert_eq!(volume.read(block, pos, &mut a), fat::read(&p.fat, &p.data, len, w, block, pos, &mut b));
                     assert_eq!(a, b);
                 }
                 _ => {
+                    let (pos, count) = span(&mut dice, n, block_len);
                     let bytes: Vec<u8> = (0..count).map(|_| dice.below(256) as u8).collect();
-                    let pos = dice.below(n * block_len + 2);
                     assert_eq!(
                         volume.write(block, pos, &bytes),
                         fat::write(&p.fat, &mut p.data, len, w, block, pos, &bytes)
@@ -93,9 +99,10 @@ fn block_calls_agree() {
     }
 }
 
+/// One letter, or sixteen of which the last differs.
 fn name(dice: &mut Dice) -> Name {
-    let mut name = [0; 16];
-    name[dice.below(2) * 15] = b'a' + dice.below(3) as u8;
+    let (mut name, place) = [([0; 16], 0), ([b'z'; 16], 15)][dice.below(2)];
+    name[place] = b'a' + dice.below(3) as u8;
     name
 }
 
@@ -104,7 +111,7 @@ fn tree_calls_agree() {
     for seed in 0..60 {
         let mut dice = Dice(seed + 1000);
         let (dir_max, file_max, buckets) = (2 + dice.below(5), 1 + dice.below(5), 1 + dice.below(4));
-        let (mut v, mut p) = both(Shape { blocks: 1, block_len: 1, dir_max, file_max, buckets });
+        let (mut v, mut p) = both(Shape { blocks: 1, block_len: 512, dir_max, file_max, buckets });
         for _ in 0..200 {
             let inode = dice.below(dir_max + 2) as u32;
             let parent = dice.below(dir_max + 1) as u32;
@@ -193,11 +200,11 @@ fn tree_calls_agree() {
 
 #[test]
 fn long_listings() {
-    let shape = Shape { blocks: 1, block_len: 1, dir_max: 2, file_max: 400, buckets: 7 };
+    let shape = Shape { blocks: 1, block_len: 512, dir_max: 2, file_max: 400, buckets: 7 };
     let mut volume = Volume::new(shape).unwrap();
     for i in 0..300u32 {
         let mut name = [0; 16];
-        name[..4].copy_from_slice(&i.to_le_bytes());
+        name[..4].copy_from_slice(format!("{i:04}").as_bytes());
         volume.make_file(ROOT, &name, &[0; 20]).unwrap();
     }
     let list = volume.list_files(ROOT).unwrap();
@@ -214,7 +221,7 @@ fn entries(table: &[u8]) -> Vec<(u32, u32)> {
 #[test]
 fn worked_examples_of_document_01() {
     const F: u32 = 0x8000_0000;
-    let shape = Shape { blocks: 4, block_len: 1, dir_max: 4, file_max: 1, buckets: 5 };
+    let shape = Shape { blocks: 4, block_len: 512, dir_max: 4, file_max: 1, buckets: 5 };
     let mut v = Volume::new(shape).unwrap();
     assert_eq!(entries(&v.parts().fat), [(0, 1), (F, F), (F + 1, 4), (0, 0), (F + 1, 4)]);
     assert_eq!(v.create(1), Ok(0));
@@ -230,9 +237,9 @@ fn worked_examples_of_document_01() {
     assert_eq!(v.resize(1, 1), Ok(()));
     assert_eq!(entries(&v.parts().fat), [(0, 3), (F, 4), (F, 0), (F, 0), (1, 0)]);
     assert_eq!(v.resize(1, 3), Err(Refusal::NoSpace));
-    assert_eq!(v.read(1, 1, &mut []), Ok(()));
-    assert_eq!(v.read(1, 1, &mut [0]), Err(Refusal::OutOfBound));
-    assert_eq!(v.read(1, 2, &mut []), Err(Refusal::OutOfBound));
+    assert_eq!(v.read(1, 512, &mut []), Ok(()));
+    assert_eq!(v.read(1, 512, &mut [0]), Err(Refusal::OutOfBound));
+    assert_eq!(v.read(1, 513, &mut []), Err(Refusal::OutOfBound));
 
     let word = |t: &[u8], at: usize| u32::from_le_bytes(t[at..at + 4].try_into().unwrap());
     let hash: Vec<u32> = (0..5).map(|i| word(&v.parts().dir_hash, i * 4)).collect();
@@ -256,7 +263,7 @@ fn worked_examples_of_document_01() {
 
 #[test]
 fn what_is_not_sound_is_not_opened() {
-    let shape = Shape { blocks: 4, block_len: 2, dir_max: 4, file_max: 4, buckets: 3 };
+    let shape = Shape { blocks: 4, block_len: 512, dir_max: 4, file_max: 4, buckets: 3 };
     let good = Volume::new(shape).unwrap().into_parts();
     let refusal = |change: &dyn Fn(&mut Parts)| {
         let mut parts = good.clone();
@@ -267,8 +274,8 @@ fn what_is_not_sound_is_not_opened() {
     };
     assert_eq!(refusal(&|p| p.fat[0] = 1), Refusal::BrokenFat);
     assert_eq!(refusal(&|p| p.dir_table[0] = 9), Refusal::BrokenTree);
-    assert_eq!(refusal(&|p| p.block_len = 3), Refusal::SizeMismatch);
-    assert_eq!(refusal(&|p| p.data.truncate(7)), Refusal::SizeMismatch);
+    assert_eq!(refusal(&|p| p.block_len = 513), Refusal::SizeMismatch);
+    assert_eq!(refusal(&|p| p.data.truncate(2_047)), Refusal::SizeMismatch);
     assert_eq!(refusal(&|p| p.file_hash.clear()), Refusal::SizeMismatch);
     // The block table is judged first.
     assert_eq!(refusal(&|p| (p.fat[0], p.dir_table[0]) = (1, 9)), Refusal::BrokenFat);
