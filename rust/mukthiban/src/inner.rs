@@ -3,7 +3,7 @@
 //! Safety, for all of this module: the tables were accepted by both tests and changed since by these calls alone, and
 //! the rest of what `include/mukthiban_tested.h` requires holds. [`Volume`](crate::Volume) sees to it.
 
-use crate::volume::Parts;
+use crate::parts::Parts;
 use mukthiban_ffi::{tested, Answered, Created, Opened};
 
 pub unsafe fn create(p: &mut Parts, block_count: usize) -> Created {

@@ -9,14 +9,17 @@
 //! - [`Record`] reads where a file's blocks begin and how long it is.
 
 mod inner;
+mod parts;
 mod record;
 mod refusal;
+mod tables;
 mod volume;
 
 pub mod fat;
 pub mod tree;
 
+pub use parts::{Parts, Shape};
 pub use record::Record;
 pub use refusal::Refusal;
 pub use tree::{Kind, Name, ROOT};
-pub use volume::{NotSound, Parts, Shape, Volume};
+pub use volume::{NotSound, Volume};

@@ -1,115 +1,79 @@
-use std::fmt;
+use core::fmt;
 
-/// Why a call was refused. The numbers and names are document 01's.
-///
-/// ```
-/// use mukthiban::Refusal;
-/// assert_eq!(Refusal::NoSpace.number(), 6);
-/// assert_eq!(Refusal::from_number(6), Some(Refusal::NoSpace));
-/// assert_eq!(Refusal::NoSpace.name(), "NoSpace");
-/// assert_eq!(Refusal::from_number(0), None); // 0 is Done
-/// ```
-#[derive(Clone, Copy, Debug, PartialEq, Eq, Hash, PartialOrd, Ord)]
-#[repr(u32)]
-pub enum Refusal {
-    SizeMismatch = 1,
-    InvalidValue = 2,
-    WorkTooShort = 3,
-    BrokenFat = 4,
-    NotAFile = 5,
-    NoSpace = 6,
-    OutOfBound = 7,
-    ListTooShort = 8,
-    BrokenTree = 9,
-    NotFound = 10,
-    AlreadyExist = 11,
-    Busy = 12,
-    DeletingRoot = 13,
-    NotEmpty = 14,
-    IntoItself = 15,
-    NotOpen = 16,
-    TooManyOpens = 17,
+/// The refusals, each once: its name, its number and what it means.
+macro_rules! refusals {
+    ($($name:ident = $number:literal, $meaning:literal;)*) => {
+        /// Why a call was refused. The numbers and names are document 01's.
+        ///
+        /// Numbers need not follow each other, and more of them may come.
+        ///
+        /// ```
+        /// use mukthiban::Refusal;
+        /// assert_eq!(Refusal::NoSpace.number(), 6);
+        /// assert_eq!(Refusal::from_number(6), Some(Refusal::NoSpace));
+        /// assert_eq!(Refusal::NoSpace.name(), "NoSpace");
+        /// assert_eq!(Refusal::from_number(0), None); // 0 is Done
+        /// ```
+        #[derive(Clone, Copy, Debug, PartialEq, Eq, Hash, PartialOrd, Ord)]
+        #[non_exhaustive]
+        #[repr(u32)]
+        pub enum Refusal {
+            $(#[doc = concat!("Number ", $number, ": ", $meaning, ".")] $name = $number,)*
+        }
+
+        impl Refusal {
+            /// Every refusal, by rising number.
+            pub const ALL: &'static [Refusal] = &[$(Refusal::$name),*];
+
+            /// The refusal with that number, if there is one. 0 is Done and no refusal.
+            pub fn from_number(number: u32) -> Option<Refusal> {
+                match number {
+                    $($number => Some(Refusal::$name),)*
+                    _ => None,
+                }
+            }
+
+            /// Document 01's name.
+            pub fn name(self) -> &'static str {
+                match self {
+                    $(Refusal::$name => stringify!($name),)*
+                }
+            }
+
+            /// What it means, in one plain sentence.
+            pub fn meaning(self) -> &'static str {
+                match self {
+                    $(Refusal::$name => $meaning,)*
+                }
+            }
+        }
+    };
 }
 
-use Refusal::*;
+refusals! {
+    SizeMismatch = 1, "a table, the hash buckets or the data have a length that does not fit";
+    InvalidValue = 2, "a size or a number is outside its bounds, or no blocks were asked for";
+    WorkTooShort = 3, "the work list or the open counts have too few places";
+    BrokenFat = 4, "the block table is not sound: its chains can't be trusted";
+    NotAFile = 5, "the block is not the first block of a file";
+    NoSpace = 6, "too few free blocks, or no free entry";
+    OutOfBound = 7, "the position plus the length passes the end of the file";
+    ListTooShort = 8, "the list is too short for the whole answer";
+    BrokenTree = 9, "the entry tables are not sound: directories and files can't be trusted";
+    NotFound = 10, "there is no live entry with that inode or name";
+    AlreadyExist = 11, "another entry has that name already";
+    Busy = 12, "it is opened more than once";
+    DeletingRoot = 13, "the root directory can't be deleted or renamed";
+    NotEmpty = 14, "the directory is not empty";
+    IntoItself = 15, "a directory can't be moved into itself or below itself";
+    NotOpen = 16, "it is not open";
+    TooManyOpens = 17, "it is opened 65,535 times already";
+}
 
 impl Refusal {
-    /// Every refusal, by number.
-    pub const ALL: [Refusal; 17] = [
-        SizeMismatch,
-        InvalidValue,
-        WorkTooShort,
-        BrokenFat,
-        NotAFile,
-        NoSpace,
-        OutOfBound,
-        ListTooShort,
-        BrokenTree,
-        NotFound,
-        AlreadyExist,
-        Busy,
-        DeletingRoot,
-        NotEmpty,
-        IntoItself,
-        NotOpen,
-        TooManyOpens,
-    ];
-
-    /// The refusal with that number, if there is one. 0 is Done and no refusal.
-    pub fn from_number(number: u32) -> Option<Refusal> {
-        let place = usize::try_from(number).ok()?.checked_sub(1)?;
-        Refusal::ALL.get(place).copied()
-    }
-
     /// Document 01's number.
     pub fn number(self) -> u32 {
         self as u32
-    }
-
-    /// Document 01's name.
-    pub fn name(self) -> &'static str {
-        match self {
-            SizeMismatch => "SizeMismatch",
-            InvalidValue => "InvalidValue",
-            WorkTooShort => "WorkTooShort",
-            BrokenFat => "BrokenFat",
-            NotAFile => "NotAFile",
-            NoSpace => "NoSpace",
-            OutOfBound => "OutOfBound",
-            ListTooShort => "ListTooShort",
-            BrokenTree => "BrokenTree",
-            NotFound => "NotFound",
-            AlreadyExist => "AlreadyExist",
-            Busy => "Busy",
-            DeletingRoot => "DeletingRoot",
-            NotEmpty => "NotEmpty",
-            IntoItself => "IntoItself",
-            NotOpen => "NotOpen",
-            TooManyOpens => "TooManyOpens",
-        }
-    }
-
-    /// What it means, in one plain sentence.
-    pub fn meaning(self) -> &'static str {
-        match self {
-            SizeMismatch => "a table, the hash buckets or the data have a length that does not fit",
-            InvalidValue => "a size or a number is outside its bounds, or no blocks were asked for",
-            WorkTooShort => "the work list or the open counts have too few places",
-            BrokenFat => "the block table is not sound: its chains can't be trusted",
-            NotAFile => "the block is not the first block of a file",
-            NoSpace => "too few free blocks, or no free entry",
-            OutOfBound => "the position plus the length passes the end of the file",
-            ListTooShort => "the list is too short for the whole answer",
-            BrokenTree => "the entry tables are not sound: directories and files can't be trusted",
-            NotFound => "there is no live entry with that inode or name",
-            AlreadyExist => "another entry has that name already",
-            Busy => "it is opened more than once",
-            DeletingRoot => "the root directory can't be deleted or renamed",
-            NotEmpty => "the directory is not empty",
-            IntoItself => "a directory can't be moved into itself or below itself",
-            NotOpen => "it is not open",
-            TooManyOpens => "it is opened 65,535 times already",
-        }
     }
 }
 
@@ -124,12 +88,54 @@ impl fmt::Display for Refusal {
     }
 }
 
-impl std::error::Error for Refusal {}
+impl core::error::Error for Refusal {}
 
 /// `Ok` for 0, else the refusal. The library is proved to answer no other number.
 pub(crate) fn judge(number: u32) -> Result<(), Refusal> {
     match number {
         0 => Ok(()),
-        other => Err(Refusal::from_number(other).expect("the library answers 0 to 17")),
+        other => Err(Refusal::from_number(other).expect("the library answers a number of the table")),
+    }
+}
+
+#[cfg(test)]
+mod tests {
+    use super::Refusal;
+
+    /// `NoSpace` is `MUKTHIBAN_NO_SPACE`.
+    fn c_name(name: &str) -> String {
+        let mut c = String::from("MUKTHIBAN");
+        for letter in name.chars() {
+            if letter.is_uppercase() {
+                c.push('_');
+            }
+            c.extend(letter.to_uppercase());
+        }
+        c
+    }
+
+    /// The header has these numbers under these names, and no others but Done.
+    #[test]
+    fn as_in_the_header() {
+        let header = include_str!("../../../include/mukthiban.h");
+        let list = header.split_once("MUKTHIBAN_DONE = 0,").unwrap().1.split_once("};").unwrap().0;
+        let in_c: Vec<&str> =
+            list.lines().map(|line| line.split("/*").next().unwrap().trim().trim_end_matches(',')).collect();
+        let in_c: Vec<&str> = in_c.into_iter().filter(|line| !line.is_empty()).collect();
+        let ours: Vec<String> = Refusal::ALL.iter().map(|r| format!("{} = {}", c_name(r.name()), r.number())).collect();
+        assert_eq!(in_c, ours);
+    }
+
+    #[test]
+    fn by_number() {
+        assert!(Refusal::ALL.is_sorted_by_key(|r| r.number()));
+        for number in 0..64 {
+            assert_eq!(Refusal::from_number(number).map_or(0, Refusal::number) != 0, known(number));
+        }
+        assert_eq!(Refusal::from_number(u32::MAX), None);
+    }
+
+    fn known(number: u32) -> bool {
+        Refusal::ALL.iter().any(|r| r.number() == number)
     }
 }
