@@ -13,12 +13,15 @@ house:
 # Against the Rust: the long comparison, with a new seed or SEED=number.
 .PHONY: oracle bench
 oracle:
-	tools/library
 	cd oracle && cargo run --offline --release --quiet -p compare -- long $(SEED)
 # The original, a careful test in plain Rust, and the library, measured in one run.
 bench:
-	tools/library
 	cd oracle && cargo run --offline --release --quiet -p bench
+
+# The proved library with its manifest, in dist/: what cargo, the demo and C link.
+.PHONY: dist
+dist:
+	tools/dist
 
 # A sample volume, looked at, lifted and damaged.
 .PHONY: demo
