@@ -25,6 +25,12 @@
 use crate::refusal::{judge, Refusal};
 use mukthiban_ffi as ffi;
 
+/// The most blocks that a block table has.
+pub const MAX_BLOCKS: usize = 1_000_000;
+
+/// The longest block, in bytes.
+pub const MAX_BLOCK_LEN: usize = 65_536;
+
 /// What the test counts.
 #[derive(Clone, Copy, Debug, PartialEq, Eq)]
 pub struct Tested {

@@ -4,22 +4,34 @@
 //! other byte as it was. This crate adds names to its numbers, slices to its pointers, and [`Volume`].
 //!
 //! - [`fat`] and [`tree`] have each call once, over lent slices, any bytes allowed.
-//! - [`Volume`] owns a whole volume, tests it once, and then works without testing again.
+//! - [`Volume`] owns a whole volume, tests it once, and then works without testing again. It has a walk of its tree,
+//!   lookup by path, and files that are read and written as the standard library's are.
 //! - [`Refusal`] says why a call was refused.
-//! - [`Record`] reads where a file's blocks begin and how long it is.
+//! - [`Record`] reads where a file's blocks begin and how long it is; [`name`] makes and shows names.
+//!
+//! Without the feature `std`, which is on by default, the crate is `no_std` and needs no allocator: all but `Volume`
+//! and what belongs to it is there.
+#![cfg_attr(not(feature = "std"), no_std)]
+#![deny(missing_docs)]
 
+#[cfg(feature = "std")]
 mod inner;
+#[cfg(feature = "std")]
 mod parts;
 mod record;
 mod refusal;
 mod tables;
+#[cfg(feature = "std")]
 mod volume;
 
 pub mod fat;
+pub mod name;
 pub mod tree;
 
+#[cfg(feature = "std")]
 pub use parts::{Parts, Shape};
 pub use record::Record;
 pub use refusal::Refusal;
-pub use tree::{Kind, Name, ROOT};
-pub use volume::{NotSound, Volume};
+pub use tables::{Kind, Name, ROOT};
+#[cfg(feature = "std")]
+pub use volume::{Entry, File, FileMut, NotSound, Volume, Walk};

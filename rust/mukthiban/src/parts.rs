@@ -1,7 +1,8 @@
 use crate::tables::{Tables, DIR_WIDTH, FILE_WIDTH};
+use std::fmt;
 
 /// The bytes of a volume: what stands in its files.
-#[derive(Clone, Debug, Default, PartialEq, Eq)]
+#[derive(Clone, Default, PartialEq, Eq)]
 pub struct Parts {
     /// Bytes in a block.
     pub block_len: usize,
@@ -9,10 +10,26 @@ pub struct Parts {
     pub fat: Vec<u8>,
     /// The blocks' bytes.
     pub data: Vec<u8>,
+    /// The directories' buckets.
     pub dir_hash: Vec<u8>,
+    /// The directories' entries.
     pub dir_table: Vec<u8>,
+    /// The files' buckets.
     pub file_hash: Vec<u8>,
+    /// The files' entries.
     pub file_table: Vec<u8>,
+}
+
+/// Lengths alone: the bytes are many.
+impl fmt::Debug for Parts {
+    fn fmt(&self, f: &mut fmt::Formatter<'_>) -> fmt::Result {
+        f.debug_struct("Parts")
+            .field("block_len", &self.block_len)
+            .field("fat", &self.fat.len())
+            .field("data", &self.data.len())
+            .field("tables", &self.tables())
+            .finish()
+    }
 }
 
 impl Parts {

@@ -15,7 +15,9 @@
 /// ```
 #[derive(Clone, Copy, Debug, PartialEq, Eq)]
 pub struct Record {
+    /// The first block of its chain; without meaning where the size is 0.
     pub first_block: u32,
+    /// The file's length in bytes.
     pub size: u64,
 }
 
@@ -35,8 +37,20 @@ impl Record {
         carried[8..16].copy_from_slice(&self.size.to_le_bytes());
     }
 
-    /// The blocks that hold `size` bytes. 0 for an empty file.
+    /// The blocks that hold `size` bytes. 0 for an empty file; `u64::MAX` where blocks of no byte can't hold it.
+    ///
+    /// ```
+    /// use mukthiban::Record;
+    /// let record = Record { first_block: 5, size: 700 };
+    /// assert_eq!(record.blocks(512), 2);
+    /// assert_eq!(record.blocks(0), u64::MAX);
+    /// assert_eq!(Record::EMPTY.blocks(0), 0);
+    /// ```
     pub fn blocks(self, block_len: usize) -> u64 {
-        self.size.div_ceil(block_len as u64)
+        match (self.size, block_len) {
+            (0, _) => 0,
+            (_, 0) => u64::MAX,
+            (size, len) => size.div_ceil(len as u64),
+        }
     }
 }

@@ -90,6 +90,30 @@ impl fmt::Display for Refusal {
 
 impl core::error::Error for Refusal {}
 
+/// As the standard library's files say it; the refusal is its source.
+///
+/// ```
+/// use mukthiban::Refusal;
+/// let error = std::io::Error::from(Refusal::NoSpace);
+/// assert_eq!(error.kind(), std::io::ErrorKind::StorageFull);
+/// ```
+#[cfg(feature = "std")]
+impl From<Refusal> for std::io::Error {
+    fn from(refusal: Refusal) -> std::io::Error {
+        use std::io::ErrorKind;
+        let kind = match refusal {
+            Refusal::NoSpace => ErrorKind::StorageFull,
+            Refusal::NotFound => ErrorKind::NotFound,
+            Refusal::AlreadyExist => ErrorKind::AlreadyExists,
+            Refusal::Busy | Refusal::TooManyOpens => ErrorKind::ResourceBusy,
+            Refusal::NotEmpty => ErrorKind::DirectoryNotEmpty,
+            Refusal::BrokenFat | Refusal::BrokenTree | Refusal::SizeMismatch => ErrorKind::InvalidData,
+            _ => ErrorKind::InvalidInput,
+        };
+        std::io::Error::new(kind, refusal)
+    }
+}
+
 /// `Ok` for 0, else the refusal. The library is proved to answer no other number.
 pub(crate) fn judge(number: u32) -> Result<(), Refusal> {
     match number {

@@ -1,5 +1,7 @@
 //! What the calls on the entry tables are about: kinds, names, and the four tables as they are lent.
 
+use core::fmt;
+
 /// The root directory's inode.
 pub const ROOT: u32 = 1;
 
@@ -9,6 +11,12 @@ pub const DIR_WIDTH: usize = 40;
 /// The width of a file entry.
 pub const FILE_WIDTH: usize = 48;
 
+/// The most entries that an entry table has room for.
+pub const MAX_ENTRIES: usize = 65_536;
+
+/// The most hash buckets of a table.
+pub const MAX_BUCKETS: usize = 65_536;
+
 /// A name: any 16 bytes, all compared.
 pub type Name = [u8; 16];
 
@@ -16,25 +24,34 @@ pub type Name = [u8; 16];
 #[derive(Clone, Copy, Debug, PartialEq, Eq, Hash)]
 #[repr(u32)]
 pub enum Kind {
+    /// A directory.
     Dir = 0,
+    /// A file.
     File = 1,
 }
 
 /// The four tables, lent to be read.
-#[derive(Clone, Copy, Debug)]
+#[derive(Clone, Copy)]
 pub struct Tables<'a> {
+    /// The directories' buckets, 4 bytes each.
     pub dir_hash: &'a [u8],
+    /// The directories' entries, [`DIR_WIDTH`] bytes each.
     pub dir_table: &'a [u8],
+    /// The files' buckets, 4 bytes each.
     pub file_hash: &'a [u8],
+    /// The files' entries, [`FILE_WIDTH`] bytes each.
     pub file_table: &'a [u8],
 }
 
 /// The four tables, lent to be changed.
-#[derive(Debug)]
 pub struct TablesMut<'a> {
+    /// The directories' buckets, 4 bytes each.
     pub dir_hash: &'a mut [u8],
+    /// The directories' entries, [`DIR_WIDTH`] bytes each.
     pub dir_table: &'a mut [u8],
+    /// The files' buckets, 4 bytes each.
     pub file_hash: &'a mut [u8],
+    /// The files' entries, [`FILE_WIDTH`] bytes each.
     pub file_table: &'a mut [u8],
 }
 
@@ -47,5 +64,24 @@ impl TablesMut<'_> {
             file_hash: self.file_hash,
             file_table: self.file_table,
         }
+    }
+}
+
+/// Lengths alone: the bytes are many.
+impl fmt::Debug for Tables<'_> {
+    fn fmt(&self, f: &mut fmt::Formatter<'_>) -> fmt::Result {
+        f.debug_struct("Tables")
+            .field("dir_hash", &self.dir_hash.len())
+            .field("dir_table", &self.dir_table.len())
+            .field("file_hash", &self.file_hash.len())
+            .field("file_table", &self.file_table.len())
+            .finish()
+    }
+}
+
+/// Lengths alone: the bytes are many.
+impl fmt::Debug for TablesMut<'_> {
+    fn fmt(&self, f: &mut fmt::Formatter<'_>) -> fmt::Result {
+        self.shared().fmt(f)
     }
 }

@@ -27,11 +27,12 @@ use crate::refusal::{judge, Refusal};
 use core::fmt;
 use mukthiban_ffi as ffi;
 
-pub use crate::tables::{Kind, Name, Tables, TablesMut, DIR_WIDTH, FILE_WIDTH, ROOT};
+pub use crate::tables::{Kind, Name, Tables, TablesMut, DIR_WIDTH, FILE_WIDTH, MAX_BUCKETS, MAX_ENTRIES, ROOT};
 
 /// What lookup answers.
 #[derive(Clone, Copy, Debug, PartialEq, Eq)]
 pub struct Found {
+    /// The entry's inode.
     pub inode: u32,
     /// Entries of the bucket that were compared: the match's place, from 1.
     pub compared: u32,
@@ -40,7 +41,9 @@ pub struct Found {
 /// Why lookup answered no inode. With `NotFound` it says how many entries were compared: the bucket's length.
 #[derive(Clone, Copy, Debug, PartialEq, Eq)]
 pub struct Missed {
+    /// Why: `NotFound`, or what every call can answer.
     pub refusal: Refusal,
+    /// With `NotFound` the bucket's length, else 0.
     pub compared: u32,
 }
 
@@ -74,7 +77,9 @@ pub struct Room {
 /// What stat answers.
 #[derive(Clone, Copy, Debug, PartialEq, Eq)]
 pub struct Stat {
+    /// The directory table.
     pub dirs: Room,
+    /// The file table.
     pub files: Room,
 }
 

@@ -1,18 +1,27 @@
 mod blocks;
 mod counts;
+mod file;
 mod tree;
+mod walk;
 
-use crate::fat;
+pub use file::{File, FileMut};
+pub use walk::{Entry, Walk};
+
+use crate::fat::{self, MAX_BLOCKS, MAX_BLOCK_LEN};
 use crate::parts::{Parts, Shape};
 use crate::refusal::Refusal;
-use crate::tables::{TablesMut, DIR_WIDTH, FILE_WIDTH};
+use crate::tables::{TablesMut, DIR_WIDTH, FILE_WIDTH, MAX_BUCKETS, MAX_ENTRIES};
 use counts::count_files;
+use std::alloc::{alloc_zeroed, Layout};
 use std::fmt;
 
 /// Why a volume was not opened, with the parts as they were handed over.
 #[derive(Debug)]
+#[non_exhaustive]
 pub struct NotSound {
+    /// The first test's answer, or else the second's.
     pub refusal: Refusal,
+    /// What was handed over, unchanged.
     pub parts: Box<Parts>,
 }
 
@@ -22,7 +31,17 @@ impl fmt::Display for NotSound {
     }
 }
 
-impl std::error::Error for NotSound {}
+impl std::error::Error for NotSound {
+    fn source(&self) -> Option<&(dyn std::error::Error + 'static)> {
+        Some(&self.refusal)
+    }
+}
+
+impl From<NotSound> for Refusal {
+    fn from(no: NotSound) -> Refusal {
+        no.refusal
+    }
+}
 
 /// A whole volume in memory, tested once.
 ///
@@ -64,7 +83,7 @@ impl std::error::Error for NotSound {}
 /// assert_eq!(again.files(), 0);
 /// # Ok::<(), Refusal>(())
 /// ```
-#[derive(Clone, Debug)]
+#[derive(Clone)]
 pub struct Volume {
     parts: Parts,
     dir_opens: Vec<u32>,
@@ -73,6 +92,17 @@ pub struct Volume {
     free: usize,
     /// For the first block of each file how many blocks the file has; 0 for every other block.
     counts: Vec<u32>,
+}
+
+/// What it holds in numbers: the bytes are many.
+impl fmt::Debug for Volume {
+    fn fmt(&self, f: &mut fmt::Formatter<'_>) -> fmt::Result {
+        f.debug_struct("Volume")
+            .field("parts", &self.parts)
+            .field("free", &self.free)
+            .field("files", &self.files())
+            .finish_non_exhaustive()
+    }
 }
 
 impl Volume {
@@ -85,7 +115,9 @@ impl Volume {
     /// ```
     pub fn open(parts: Parts) -> Result<Volume, NotSound> {
         let (dirs, files) = parts.rooms();
-        let mut work = vec![0; parts.blocks().max(dirs + files)];
+        // Sizes beyond their bounds are refused before the work list is looked at.
+        let rooms = dirs.min(MAX_ENTRIES) + files.min(MAX_ENTRIES);
+        let mut work = vec![0; parts.blocks().min(MAX_BLOCKS).max(rooms)];
         match test(&parts, &mut work) {
             Ok(tested) => {
                 let counts = count_files(&parts.fat, tested);
@@ -96,7 +128,7 @@ impl Volume {
         }
     }
 
-    /// A new, empty volume.
+    /// A new, empty volume. `InvalidValue` where a size is outside its bounds, or there is no memory for it.
     ///
     /// ```
     /// use mukthiban::{Refusal, Shape, Volume};
@@ -104,21 +136,7 @@ impl Volume {
     /// assert_eq!(Volume::new(shape).unwrap_err(), Refusal::InvalidValue);
     /// ```
     pub fn new(shape: Shape) -> Result<Volume, Refusal> {
-        // A size that is out of bounds is made no memory for; the calls below refuse what is left.
-        let size = |count: usize, width: usize, most: usize| match count {
-            0 => Err(Refusal::InvalidValue),
-            _ if count > most => Err(Refusal::InvalidValue),
-            _ => Ok(count * width),
-        };
-        let mut parts = Parts {
-            block_len: shape.block_len,
-            fat: vec![0; size(shape.blocks, 8, 1_000_000)? + 8],
-            data: vec![0; size(shape.blocks, size(shape.block_len, 1, 65_536)?, 1_000_000)?],
-            dir_hash: vec![0; size(shape.buckets, 4, 65_536)?],
-            dir_table: vec![0; size(shape.dir_max, DIR_WIDTH, 65_536)?],
-            file_hash: vec![0; size(shape.buckets, 4, 65_536)?],
-            file_table: vec![0; size(shape.file_max, FILE_WIDTH, 65_536)?],
-        };
+        let mut parts = zeroed(shape)?;
         fat::format(&mut parts.fat)?;
         let mut tables = TablesMut {
             dir_hash: &mut parts.dir_hash,
@@ -127,7 +145,7 @@ impl Volume {
             file_table: &mut parts.file_table,
         };
         crate::tree::format(&mut tables, shape.dir_max, shape.file_max)?;
-        Volume::open(parts).map_err(|no| no.refusal)
+        Ok(Volume::open(parts)?)
     }
 
     /// The volume's bytes, to be read.
@@ -166,6 +184,38 @@ impl Volume {
             Some(&count) if count != 0 => Ok(count as usize),
             _ => Err(Refusal::NotAFile),
         }
+    }
+}
+
+/// Parts of that shape, all zeros. A size that is out of bounds is made no memory for; format refuses what is left.
+fn zeroed(shape: Shape) -> Result<Parts, Refusal> {
+    let within = |count: usize, most: usize| match count {
+        1.. if count <= most => Ok(count),
+        _ => Err(Refusal::InvalidValue),
+    };
+    let zeros = |len: usize| zeros(len).ok_or(Refusal::InvalidValue);
+    let (blocks, buckets) = (within(shape.blocks, MAX_BLOCKS)?, within(shape.buckets, MAX_BUCKETS)?);
+    let block_len = within(shape.block_len, MAX_BLOCK_LEN)?;
+    let (dirs, files) = (within(shape.dir_max, MAX_ENTRIES)?, within(shape.file_max, MAX_ENTRIES)?);
+    Ok(Parts {
+        block_len,
+        fat: zeros((blocks + 1) * 8)?,
+        data: zeros(blocks * block_len)?,
+        dir_hash: zeros(buckets * 4)?,
+        dir_table: zeros(dirs * DIR_WIDTH)?,
+        file_hash: zeros(buckets * 4)?,
+        file_table: zeros(files * FILE_WIDTH)?,
+    })
+}
+
+/// So many zeros, which are some; None where there is no memory for them.
+fn zeros(len: usize) -> Option<Vec<u8>> {
+    let layout = Layout::array::<u8>(len).ok().filter(|layout| layout.size() > 0)?;
+    // SAFETY: the layout has a size above 0. The memory is the global allocator's, of that layout and all of it zeros,
+    // so that it is a vector of `len` bytes.
+    unsafe {
+        let memory = alloc_zeroed(layout);
+        (!memory.is_null()).then(|| Vec::from_raw_parts(memory, len, len))
     }
 }
 
