@@ -23,6 +23,12 @@ bench:
 dist:
 	tools/dist
 
+# Headers, library and pkg-config file below PREFIX.
+.PHONY: install
+PREFIX = /usr/local
+install:
+	@tools/install "$(PREFIX)"
+
 # A sample volume, looked at, lifted and damaged.
 .PHONY: demo
 demo:

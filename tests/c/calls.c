@@ -1,5 +1,6 @@
 /* Calls every function of the C interface, and holds the answers against document 01. */
 #include "mukthiban.h"
+#include "mukthiban_text.h"
 
 #include <stdio.h>
 #include <string.h>
@@ -157,8 +158,16 @@ static void tree(void)
     EXPECT(mukthiban_tree_test(FOUR, WORK).answer == MUKTHIBAN_BROKEN_TREE);
 }
 
+static void texts(void)
+{
+    EXPECT(strcmp(mukthiban_text(MUKTHIBAN_DONE), "done") == 0);
+    EXPECT(strcmp(mukthiban_text(MUKTHIBAN_NOT_EMPTY), "the directory is not empty") == 0);
+    EXPECT(strcmp(mukthiban_text(UINT32_MAX), "not a number of mukthiban") == 0);
+}
+
 int main(void)
 {
+    texts();
     blocks();
     tree();
     return failures == 0 ? 0 : 1;

@@ -4,6 +4,7 @@
 use std::collections::BTreeMap;
 
 const PUBLIC: &str = include_str!("../../../include/mukthiban.h");
+const TYPES: &str = include_str!("../../../include/mukthiban_types.h");
 const TESTED: &str = include_str!("../../../include/mukthiban_tested.h");
 
 /// A text with one space where it had any white space, and none beside brackets.
@@ -130,9 +131,21 @@ fn inner_calls() {
 #[test]
 fn answers() {
     let text = tidy(include_str!("../src/answers.rs").split_once("\nanswers! {").expect("the answers").1);
-    let answers = answers_of(PUBLIC);
+    let answers = answers_of(TYPES);
     assert!(answers.len() >= 10, "the header declares {} answers", answers.len());
     for (name, fields) in answers {
         assert!(text.contains(&format!("{name} {{{fields}}}")), "{name} has other fields than {fields}");
+    }
+}
+
+#[test]
+fn version() {
+    assert!(TYPES.contains(concat!("#define MUKTHIBAN_VERSION \"", env!("CARGO_PKG_VERSION"), "\"\n")));
+    for (name, number) in [
+        ("MAJOR", env!("CARGO_PKG_VERSION_MAJOR")),
+        ("MINOR", env!("CARGO_PKG_VERSION_MINOR")),
+        ("PATCH", env!("CARGO_PKG_VERSION_PATCH")),
+    ] {
+        assert!(TYPES.contains(&format!("#define MUKTHIBAN_VERSION_{name} {number}\n")), "{name}");
     }
 }

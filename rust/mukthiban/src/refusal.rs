@@ -141,13 +141,24 @@ mod tests {
     /// The header has these numbers under these names, and no others but Done.
     #[test]
     fn as_in_the_header() {
-        let header = include_str!("../../../include/mukthiban.h");
+        let header = include_str!("../../../include/mukthiban_types.h");
         let list = header.split_once("MUKTHIBAN_DONE = 0,").unwrap().1.split_once("};").unwrap().0;
         let in_c: Vec<&str> =
             list.lines().map(|line| line.split("/*").next().unwrap().trim().trim_end_matches(',')).collect();
         let in_c: Vec<&str> = in_c.into_iter().filter(|line| !line.is_empty()).collect();
         let ours: Vec<String> = Refusal::ALL.iter().map(|r| format!("{} = {}", c_name(r.name()), r.number())).collect();
         assert_eq!(in_c, ours);
+    }
+
+    /// The C texts are these.
+    #[test]
+    fn texts_in_c() {
+        let header = include_str!("../../../include/mukthiban_text.h");
+        for r in Refusal::ALL {
+            let case = format!("case {}:\n        return \"{}\";", c_name(r.name()), r.meaning());
+            assert!(header.contains(&case), "{case}");
+        }
+        assert_eq!(header.matches("case ").count(), Refusal::ALL.len() + 1);
     }
 
     #[test]

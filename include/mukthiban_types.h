@@ -1,0 +1,119 @@
+/* What the calls of Mukthiban are about: version, limits, the numbers that a
+ * call can answer, and the answers. mukthiban.h has the calls. */
+#ifndef MUKTHIBAN_TYPES_H
+#define MUKTHIBAN_TYPES_H
+
+#include <stddef.h>
+#include <stdint.h>
+
+#define MUKTHIBAN_VERSION_MAJOR 0
+#define MUKTHIBAN_VERSION_MINOR 2
+#define MUKTHIBAN_VERSION_PATCH 0
+#define MUKTHIBAN_VERSION "0.2.0"
+
+/* Widths and limits. */
+#define MUKTHIBAN_ROOT 1u               /* the root directory's inode */
+#define MUKTHIBAN_NAME_LENGTH 16        /* bytes of a name */
+#define MUKTHIBAN_DIR_WIDTH 40          /* bytes of a directory entry */
+#define MUKTHIBAN_FILE_WIDTH 48         /* bytes of a file entry */
+#define MUKTHIBAN_DIR_CARRIED 4         /* carried bytes of a directory */
+#define MUKTHIBAN_FILE_CARRIED 20       /* carried bytes of a file */
+#define MUKTHIBAN_MAX_BLOCKS 1000000    /* blocks of a block table */
+#define MUKTHIBAN_MAX_BLOCK_LENGTH 65536 /* bytes in a block */
+#define MUKTHIBAN_MAX_BUCKETS 65536     /* hash buckets of a table */
+#define MUKTHIBAN_MAX_ENTRIES 65536     /* entries of an entry table, entry 0 included */
+#define MUKTHIBAN_MAX_OPENS 65535u      /* opens of one inode */
+
+/* The numbers that a call can answer; mukthiban_text.h has a text for each. */
+enum {
+    MUKTHIBAN_DONE = 0,
+    MUKTHIBAN_SIZE_MISMATCH = 1,  /* a length that fits no table, or does not fit the others */
+    MUKTHIBAN_INVALID_VALUE = 2,  /* a size or a number outside its bounds; 0 blocks asked for */
+    MUKTHIBAN_WORK_TOO_SHORT = 3, /* the work list or the open counts have too few places */
+    MUKTHIBAN_BROKEN_FAT = 4,     /* the block table is not sound */
+    MUKTHIBAN_NOT_A_FILE = 5,     /* the block is no file's first block */
+    MUKTHIBAN_NO_SPACE = 6,       /* too few free blocks, or no free entry */
+    MUKTHIBAN_OUT_OF_BOUND = 7,   /* position plus length passes the file's end */
+    MUKTHIBAN_LIST_TOO_SHORT = 8, /* the lent list can't hold the whole answer */
+    MUKTHIBAN_BROKEN_TREE = 9,    /* the entry tables are not sound */
+    MUKTHIBAN_NOT_FOUND = 10,     /* no live entry with that inode or key */
+    MUKTHIBAN_ALREADY_EXIST = 11, /* another live entry of that table has the key */
+    MUKTHIBAN_BUSY = 12,          /* delete with more than one open */
+    MUKTHIBAN_DELETING_ROOT = 13, /* delete or rename of directory 1 */
+    MUKTHIBAN_NOT_EMPTY = 14,     /* delete of a directory with children */
+    MUKTHIBAN_INTO_ITSELF = 15,   /* a directory moved to itself or below itself */
+    MUKTHIBAN_NOT_OPEN = 16,      /* close, delete or rename at open count 0 */
+    MUKTHIBAN_TOO_MANY_OPENS = 17 /* open at 65,535 opens or more */
+};
+
+/* The kinds of mukthiban_tree_name. */
+enum { MUKTHIBAN_DIRECTORY = 0, MUKTHIBAN_FILE = 1 };
+
+/* Answers: the number first, then the call's own fields. Those of block calls
+ * and those of tree calls are separate types. */
+
+/* Format, and every tree call that gives nothing else. */
+typedef struct {
+    uint32_t answer;
+} mukthiban_plain;
+
+/* A block call that gives nothing else. */
+typedef struct {
+    uint32_t answer;
+} mukthiban_answered;
+
+/* The test of the block table: its free blocks, and its files (chains other than the free one). */
+typedef struct {
+    uint32_t answer;
+    size_t free;
+    size_t files;
+} mukthiban_tested;
+
+/* Create: the new file's first block. */
+typedef struct {
+    uint32_t answer;
+    size_t first_block;
+} mukthiban_created;
+
+/* Open list: how many places of the lent list hold the file's blocks. */
+typedef struct {
+    uint32_t answer;
+    size_t count;
+} mukthiban_opened;
+
+/* Listing: how many places of the lent list hold the directory's children. */
+typedef struct {
+    uint32_t answer;
+    size_t count;
+} mukthiban_listed;
+
+/* Make: the new entry's inode. */
+typedef struct {
+    uint32_t answer;
+    uint32_t inode;
+} mukthiban_made;
+
+/* Lookup: the entry's inode, and how many entries of its bucket were compared:
+ * the match's place from 1, or the bucket's length with MUKTHIBAN_NOT_FOUND. */
+typedef struct {
+    uint32_t answer;
+    uint32_t inode;
+    uint32_t compared;
+} mukthiban_found;
+
+/* Stat: entries in all and entries still free, of directories and of files. */
+typedef struct {
+    uint32_t answer;
+    size_t dir_total;
+    size_t dir_free;
+    size_t file_total;
+    size_t file_free;
+} mukthiban_stat;
+
+/* Name: where the 16 bytes begin in the table that the kind selects. */
+typedef struct {
+    uint32_t answer;
+    size_t offset;
+} mukthiban_named;
+
+#endif
