@@ -30,6 +30,16 @@ fn whole(volume: &Volume, inode: u32) -> Vec<u8> {
     bytes
 }
 
+/// What a file's last block has behind its end.
+fn behind(volume: &Volume, inode: u32) -> Vec<u8> {
+    let record = volume.record(inode).unwrap();
+    let mut bytes = vec![7; (record.blocks(512) * 512 - record.size) as usize];
+    if record.size > 0 {
+        volume.read(record.first_block as usize, record.size as usize, &mut bytes).unwrap();
+    }
+    bytes
+}
+
 /// The model's write: zeros up to the position, then the bytes.
 fn write(model: &mut Vec<u8>, pos: usize, bytes: &[u8]) {
     if model.len() < pos + bytes.len() {
@@ -83,6 +93,9 @@ fn handles_as_vectors() {
             }
             let used: usize = models.iter().map(|m| blocks_of(m.len())).sum();
             assert_eq!(volume.free(), BLOCKS - used, "no block is lost");
+            for inode in inodes {
+                assert!(behind(&volume, inode).iter().all(|byte| *byte == 0));
+            }
         }
         Volume::open(volume.into_parts()).unwrap();
     }

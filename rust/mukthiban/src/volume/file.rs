@@ -153,7 +153,8 @@ impl FileMut<'_> {
         self.place.size
     }
 
-    /// Makes the file shorter or longer; what is new is zeros. A file of length 0 owns no blocks.
+    /// Makes the file shorter or longer. What is new is zeros, and so is what the last block has behind the end. A file
+    /// of length 0 owns no blocks.
     pub fn set_len(&mut self, size: u64) -> Result<(), Refusal> {
         let before = self.place.size;
         let now = self.resized(size)?;
@@ -165,9 +166,9 @@ impl FileMut<'_> {
         let pos = self.place.pos;
         self.record = now;
         self.place = Place { pos, ..Place::open(self.volume, now)? };
-        if before < size {
-            self.put(before, None, (size - before) as usize);
-        }
+        // What is new, and what the last block has behind the end, so that no older file's bytes are left there.
+        let (from, end) = (before.min(size), self.place.blocks.len() * self.volume.parts.block_len);
+        self.put(from, None, end - from as usize);
         Ok(())
     }
 
