@@ -152,7 +152,7 @@ fn tests(sizes: &[usize]) {
 }
 
 fn calls(n: usize, shape: Shape) {
-    let volume = shapes::volume(shape, n, 1);
+    let volume = shapes::volume(shape, n, 512);
     let at = |call: &str| format!("{n} {shape:?} {call}");
     let (large, small) = (volume.large, volume.small);
     let each = [
