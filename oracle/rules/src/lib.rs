@@ -7,6 +7,8 @@
 pub mod answer;
 pub mod blocks;
 pub mod entries;
+pub mod layout;
+pub mod sound;
 pub mod tree;
 
 pub use answer::Answer;
