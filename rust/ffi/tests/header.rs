@@ -1,7 +1,9 @@
-//! The Rust declarations say what the C headers say: the same answers with the same fields, and the same calls with
-//! the same parameters, in the same order.
+//! The Rust declarations say what the C headers and the exports of the proved crates say: the same answers with the same
+//! fields, and the same calls with the same parameters, in the same order.
 
 use std::collections::BTreeMap;
+use std::fs;
+use std::path::Path;
 
 const PUBLIC: &str = include_str!("../../../include/mukthiban.h");
 const TYPES: &str = include_str!("../../../include/mukthiban_types.h");
@@ -136,6 +138,53 @@ fn answers() {
     for (name, fields) in answers {
         assert!(text.contains(&format!("{name} {{{fields}}}")), "{name} has other fields than {fields}");
     }
+}
+
+/// The structs of a source in Rust's form, `NAME {FIELD: TYPE, ..}`, each with its fields.
+fn structs(tidy: &str, before: &str) -> BTreeMap<String, String> {
+    let parts = tidy.split(before).skip(1).filter_map(|part| part.split_once('}')?.0.split_once(" {"));
+    parts
+        .map(|(name, fields)| (name.to_string(), fields.replace("pub ", "").trim_end_matches(',').to_string()))
+        .collect()
+}
+
+/// Every call with its parameters and the fields of its answer. Rattle's answers may have other names.
+fn with_fields(calls: Vec<String>, answers: &BTreeMap<String, String>) -> BTreeMap<String, String> {
+    let calls = calls.iter().map(|call| {
+        let (front, answer) = call.split_once(" -> ").expect("an answer");
+        let (name, parameters) = front.split_once('(').expect("parameters");
+        (name.to_string(), format!("({parameters} -> {}", answers[answer]))
+    });
+    calls.collect()
+}
+
+/// The exports of the proved crates, as they are written there.
+fn exports() -> BTreeMap<String, String> {
+    let folder = Path::new(env!("CARGO_MANIFEST_DIR")).join("../../crates/mukthiban/src");
+    let files = fs::read_dir(folder).expect("the crate of the exports").map(|file| file.unwrap().path());
+    let text: String = files.map(|file| fs::read_to_string(file).unwrap() + "\n").collect();
+    let text = tidy(&text);
+    let answers = structs(&text, "#[repr(C)] pub struct ");
+    let calls = text.split("pub extern \"C\" ").skip(1).map(|part| {
+        let (front, back) = part.split_once(" -> ").expect("an answer");
+        format!("{front} -> {}", back.split_whitespace().next().expect("its name"))
+    });
+    with_fields(calls.collect(), &answers)
+}
+
+#[test]
+fn exports_of_the_crates() {
+    let answers = include_str!("../src/answers.rs").split_once("\nanswers! {").expect("the answers").1;
+    let plain: String = answers.lines().filter(|line| !line.trim().starts_with("///")).collect::<Vec<_>>().join(" # ");
+    let answers = structs(&tidy(&plain), "# ");
+    let mut calls = declared(include_str!("../src/calls.rs"));
+    calls.extend(declared(include_str!("../src/tested.rs")));
+    let (declared, exported) = (with_fields(calls, &answers), exports());
+    assert!(exported.len() >= 56, "{} exports", exported.len());
+    for (name, call) in &declared {
+        assert_eq!(exported.get(name), Some(call), "{name}");
+    }
+    assert_eq!(declared.len(), exported.len());
 }
 
 #[test]
