@@ -1,4 +1,4 @@
-/* Calls every function of the C interface, and holds the answers against document 01. */
+/* Calls every function of the C interface, and holds the answers against docs/RULES.md. */
 #include "mukthiban.h"
 #include "mukthiban_text.h"
 

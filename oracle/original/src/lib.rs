@@ -1,4 +1,4 @@
-//! The original, compiled unchanged from its own source, behind a small interface of plain bytes and 01's numbers.
+//! The original, compiled unchanged from its own source, behind a small interface of plain bytes and the rules' numbers.
 //!
 //! The six files are read at build time from the folder that SAVE3DS_SRC names. Where they are not to be had, `PRESENT` is false and nothing else may be called.
 
@@ -74,7 +74,7 @@ pub use absent::{Tables, Volume};
 /// Whether the original's source was there when this was built.
 pub const PRESENT: bool = cfg!(original);
 
-/// 01's number for the original's error; the errors that the three modules never give are 99.
+/// The rules' number for the original's error; the errors that the three modules never give are 99.
 #[cfg(original)]
 fn number(error: error::Error) -> u32 {
     use error::Error::*;

@@ -1,4 +1,4 @@
-//! Stands in for the original's file record, whose file is not at hand: 24 bytes, `next` first, then 20 carried bytes as 01 and 02 say.
+//! Stands in for the original's file record, whose file is not at hand: 24 bytes, `next` first, then 20 carried bytes as the rules say.
 
 use crate::fs_meta::FileInfo;
 use byte_struct::ByteStruct;

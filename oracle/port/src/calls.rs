@@ -2,7 +2,7 @@
 
 pub use rules::entries::Kind;
 
-/// What is lent to a block call. A call takes the parts that 01 gives it and must leave the others alone.
+/// What is lent to a block call. A call takes the parts that RULES 1.3 gives it and must leave the others alone.
 #[derive(Clone, PartialEq, Eq, Debug, Default)]
 pub struct Blocks {
     pub table: Vec<u8>,

@@ -1,4 +1,4 @@
-//! "A port": something that answers the calls of 01 over lent bytes. The statement of the rules is one, the proved library another.
+//! "A port": something that answers the calls of RULES 1.3 over lent bytes. The statement of the rules is one, the proved library another.
 
 mod calls;
 mod inner;

@@ -32,7 +32,7 @@ impl Answer {
 /// What a call gives: the answer fields of Done, or the refusal. A refusal has no fields, so all of them are 0.
 pub type Outcome<T> = Result<T, Answer>;
 
-/// The row of the table that applies when `when` holds: reads as one line of 01's order.
+/// The row of the table that applies when `when` holds: reads as one line of the order, RULES 2.2.
 pub fn refuse(when: bool, with: Answer) -> Outcome<()> {
     if when {
         Err(with)

@@ -81,7 +81,7 @@ pub fn hash(key: &Key) -> u32 {
     (0..5).fold(0x1234_5678, step)
 }
 
-/// Hash bytes and table bytes of one kind, seen through the fields of 01.
+/// Hash bytes and table bytes of one kind, seen through the fields of RULES 5.1.
 #[derive(Clone, Copy)]
 pub struct View<'a> {
     pub kind: Kind,

@@ -1,4 +1,4 @@
-//! The rules of document 01, stated a second time, in Rust and for reading.
+//! The rules of docs/RULES.md, stated a second time, in Rust and for reading.
 //!
 //! Nothing here is taken from the original or from the proved crates: every function is written from the paper, in its words, over plain bytes.
 //! It judges any input, sound or damaged: the number, every answer field and every lent byte.

@@ -1,4 +1,4 @@
-//! 01's "Checks to run", on the statement of the rules.
+//! The checks of RULES 8, on the statement of the rules.
 
 use rules::answer::Answer::*;
 use rules::blocks::{self, Tested};

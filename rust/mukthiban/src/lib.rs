@@ -1,6 +1,6 @@
 //! The block table and the entry tables of a saved-game volume, for Rust.
 //!
-//! The work is done by a static library whose every call is proved to answer as document 01 says and to leave every
+//! The work is done by a static library whose every call is proved to answer as `docs/RULES.md` says and to leave every
 //! other byte as it was. This crate adds names to its numbers, slices to its pointers, and [`Volume`].
 //!
 //! - [`fat`] and [`tree`] have each call once, over lent slices, any bytes allowed.

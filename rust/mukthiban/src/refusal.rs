@@ -3,7 +3,7 @@ use core::fmt;
 /// The refusals, each once: its name, its number and what it means.
 macro_rules! refusals {
     ($($name:ident = $number:literal, $meaning:literal;)*) => {
-        /// Why a call was refused. The numbers and names are document 01's.
+        /// Why a call was refused. The numbers and names are those of the rules (RULES 2.1).
         ///
         /// Numbers need not follow each other, and more of them may come.
         ///
@@ -33,7 +33,7 @@ macro_rules! refusals {
                 }
             }
 
-            /// Document 01's name.
+            /// The rules' name.
             pub fn name(self) -> &'static str {
                 match self {
                     $(Refusal::$name => stringify!($name),)*
@@ -71,7 +71,7 @@ refusals! {
 }
 
 impl Refusal {
-    /// Document 01's number.
+    /// The rules' number.
     pub fn number(self) -> u32 {
         self as u32
     }

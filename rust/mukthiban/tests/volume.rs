@@ -1,5 +1,5 @@
 //! A `Volume`, which tests once, beside the plain calls, which test each time: the same answers and the same bytes
-//! over long random histories. And document 01's worked examples.
+//! over long random histories. And the checks of RULES 8.
 
 use mukthiban::tree::TablesMut;
 use mukthiban::{fat, tree, Kind, Name, Parts, Refusal, Shape, Volume, ROOT};
@@ -219,7 +219,7 @@ fn entries(table: &[u8]) -> Vec<(u32, u32)> {
 }
 
 #[test]
-fn worked_examples_of_document_01() {
+fn checks_of_the_rules() {
     const F: u32 = 0x8000_0000;
     let shape = Shape { blocks: 4, block_len: 512, dir_max: 4, file_max: 1, buckets: 5 };
     let mut v = Volume::new(shape).unwrap();

@@ -2,7 +2,7 @@
 
 use crate::fat::Tested;
 
-/// For each file's first block the file's blocks, by document 01's node rule, on a table that the test has accepted.
+/// For each file's first block the file's blocks, by the node rule (RULES 3.2), on a table that the test has accepted.
 /// The sums are held against what the test answered.
 pub fn count_files(table: &[u8], tested: Tested) -> Vec<u32> {
     let word = |at: usize| u32::from_le_bytes(table[at..at + 4].try_into().expect("4 bytes")) as usize;

@@ -220,7 +220,7 @@ fn zeros(len: usize) -> Option<Vec<u8>> {
 }
 
 /// Both tests, and the sizes of the data. The open list of block 0 is asked for only to have data and block length
-/// judged by the library, in document 01's order; whether block 0 begins a file does not matter here.
+/// judged by the library, in the order of RULES 2.2; whether block 0 begins a file does not matter here.
 fn test(parts: &Parts, work: &mut [u32]) -> Result<fat::Tested, Refusal> {
     match fat::open_list(&parts.fat, &parts.data, parts.block_len, work, 0, &mut []) {
         Ok(_) | Err(Refusal::NotAFile | Refusal::ListTooShort) => (),
