@@ -170,6 +170,25 @@ pub fn any_call(chance: &mut Chance, lent: &mut Blocks) -> BlockCall {
     }
 }
 
+/// Reads and writes of a sound volume's files that begin and end at a block's border, a byte before it or a byte behind it.
+pub fn borders(chance: &mut Chance) {
+    let mut session = Session::new(volumes::any_sound(chance));
+    let held = layout(&session.lent.table).expect("a sound volume");
+    if held.files.is_empty() {
+        return;
+    }
+    for _ in 0..24 {
+        let chain = chance.pick(&held.files);
+        let (first, most) = (chain[0].start, blocks(&chain).min(6));
+        let mut border = || (chance.within(0, most) * session.lent.block_len + chance.below(3)).saturating_sub(1);
+        let (pos, end) = (border(), border());
+        session.lent.buf = chance.bytes(end.saturating_sub(pos));
+        let call = chance.pick(&[BlockCall::Read { first, pos }, BlockCall::Write { first, pos }]);
+        session.run(&call);
+    }
+    session.compare_lists();
+}
+
 /// One random history.
 pub fn run(chance: &mut Chance) {
     let start = if chance.one_in(2) {

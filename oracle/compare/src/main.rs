@@ -50,6 +50,7 @@ fn main() {
     check::watch();
     let start = Instant::now();
     histories("block", block_history::run, seed, run.histories);
+    histories("border", block_history::borders, seed, run.histories);
     histories("tree", tree_history::run, seed, run.histories);
     closure::run(&mut Chance::new(seed), run.depth, run.states);
     damage::run(&mut Chance::new(seed), run.whole, run.damaged);
