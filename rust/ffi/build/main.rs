@@ -13,7 +13,7 @@ fn main() {
     println!("cargo::rerun-if-env-changed=MUKTHIBAN_LIB");
     println!("cargo::rerun-if-changed=build");
     let root = PathBuf::from(env::var_os("CARGO_MANIFEST_DIR").expect("cargo sets it")).join("../..");
-    let found = match env::var_os("MUKTHIBAN_LIB") {
+    let found = match env::var_os("MUKTHIBAN_LIB").filter(|named| !named.is_empty()) {
         Some(named) => read(&root.join(named), "MUKTHIBAN_LIB names it"),
         None => shipped(&root, &env::var("TARGET").expect("cargo sets it")),
     };
