@@ -7,8 +7,8 @@ use native.Mathlib.Omega.{arith}
 use Rattle.links.specs.Links.{_∈_, Distinct, Links, Holds}
 use Rattle.links.specs.Change.{walk}
 use Rattle.links.proofs.Held.{same-or}
-use Rattle.tree_table.specs.View.{View, parent, place, removedOf, LiveIn}
-use Rattle.tree_sound.specs.Sound.{Table, Sound, up, Reaches}
+use Rattle.tree_table.specs.View.{View, parent, place, removedOf, LiveIn, Reaches}
+use Rattle.tree_sound.specs.Sound.{Table, Sound, up}
 
 walk-none : (next : ℕ → ℕ) (k x : ℕ) → x ≡ 0 → walk next k x ≡ []
 walk-none next zero x e = refl
@@ -116,21 +116,27 @@ module _ (D F : View) (w : Fresh D F) where
   pub fresh-sound : Sound D F
   fresh-sound =
       record {
-        dirs = dirs;
-        files = no-files F (w .files);
-        count-two = omega (arith, w .count);
-        root-live = root-live;
-        root-key = w .key;
-        root-next = w .next;
-        dir-parents = λ y l ne. absurd (ne (only y l));
-        file-parents = λ y l. absurd (no-live F (w .files) y l);
-        sub-dirs = λ p l.
-            holds-none (D .next) (D .head p) (λ y. LiveIn D y × (up D y ≡ p)) (ap (D .head) (only p l) ∙ w .sub-dirs)
-            (λ y q. omega (arith, only p l, q .1, ap (up D) (only y (q .0)), root-up));
-        sub-files = λ p l.
-            holds-none (F .next) (F .head p) (λ y. LiveIn F y × (up F y ≡ p)) (ap (F .head) (only p l) ∙ w .sub-files)
-            (λ y q. no-live F (w .files) y (q .0));
-        reach = λ y l. (1 ∷ [], (only y l, omega arith, root-up), inl refl);
+        dirs = record {
+          below = record {
+            table = dirs;
+            parents = λ y l ne. absurd (ne (only y l));
+            lists = λ p l.
+                holds-none (D .next) (D .head p) (λ y. LiveIn D y × (up D y ≡ p)) (ap (D .head) (only p l) ∙ w .sub-dirs)
+                (λ y q. omega (arith, only p l, q .1, ap (up D) (only y (q .0)), root-up));
+          };
+          count-two = omega (arith, w .count);
+          root-live = root-live;
+          root-key = w .key;
+          root-next = w .next;
+          reach = λ y l. (1 ∷ [], (only y l, omega arith, root-up), inl refl);
+        };
+        files = record {
+          table = no-files F (w .files);
+          parents = λ y l _. absurd (no-live F (w .files) y l);
+          lists = λ p l.
+              holds-none (F .next) (F .head p) (λ y. LiveIn F y × (up F y ≡ p)) (ap (F .head) (only p l) ∙ w .sub-files)
+              (λ y q. no-live F (w .files) y (q .0));
+        };
       }
 
 -- tables with the root and one directory in it, both in one bucket
@@ -237,7 +243,7 @@ module _ (D F : View) (w : Second D F) where
   file-head p (inl e) = ap (F .head) e ∙ w .sub-files .0
   file-head p (inr e) = ap (F .head) e ∙ w .sub-files .1
 
-  reaches : (y : ℕ) → (y ≡ 1) ⊎ (y ≡ 2) → Reaches D y
+  reaches : (y : ℕ) → (y ≡ 1) ⊎ (y ≡ 2) → Reaches (up D) y
   reaches y (inl e) = (1 ∷ [], (e, omega arith, up-1), inl refl)
   reaches y (inr e) = (2 ∷ 1 ∷ [], (e, omega arith, (w .parent, omega arith, up-1)), inr (inl refl))
 
@@ -248,16 +254,18 @@ module _ (D F : View) (w : Second D F) where
   pub second-sound : Sound D F
   second-sound =
       record {
-        dirs = dirs-2;
-        files = no-files F (w .files);
-        count-two = omega (arith, w .count);
-        root-live = live-1;
-        root-key = w .key;
-        root-next = w .next .0;
-        dir-parents = λ y l ne. parents y (either y l) ne;
-        file-parents = λ y l. absurd (no-live F (w .files) y l);
-        sub-dirs = λ p l. children p (either p l);
-        sub-files = λ p l.
-            holds-none (F .next) (F .head p) (λ y. LiveIn F y × (up F y ≡ p)) (file-head p (either p l)) (λ y q. no-live F (w .files) y (q .0));
-        reach = λ y l. reaches y (either y l);
+        dirs = record {
+          below = record { table = dirs-2; parents = λ y l ne. parents y (either y l) ne; lists = λ p l. children p (either p l) };
+          count-two = omega (arith, w .count);
+          root-live = live-1;
+          root-key = w .key;
+          root-next = w .next .0;
+          reach = λ y l. reaches y (either y l);
+        };
+        files = record {
+          table = no-files F (w .files);
+          parents = λ y l _. absurd (no-live F (w .files) y l);
+          lists = λ p l.
+              holds-none (F .next) (F .head p) (λ y. LiveIn F y × (up F y ≡ p)) (file-head p (either p l)) (λ y q. no-live F (w .files) y (q .0));
+        };
       }

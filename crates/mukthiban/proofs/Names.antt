@@ -18,7 +18,7 @@ use Rattle.tree_test.specs.Promise.{tested, testDone}
 use Rattle.tree_test.specs.declared.Tested.{Tested}
 use Rattle.tree_promises.specs.Tables.{Tables}
 use Rattle.tree_promises.specs.Ready.{LiveAt}
-use Rattle.tree_marks.specs.Marks.{Tells}
+use Rattle.order.specs.Tells.{Tells}
 use Rattle.tree_test.proofs.Cases.{tells-not}
 use Rattle.tree_promises.specs.declared.Kind.the-variants.{Directory, File}
 use Rattle.tree.specs.Name.{NameAnswerPromise}

@@ -4,3 +4,4 @@ pub mod Gate
 pub mod Given
 pub mod Beside
 pub mod Giving
+pub mod Tells

@@ -13,7 +13,7 @@ use Rattle.tree_key.specs.Hash.{hashOf}
 use Rattle.order.specs.First.{First}
 use Rattle.order.specs.declared.Answer.{Answer}
 use Rattle.order.specs.declared.Answer.the-variants.{Done}
-use Rattle.tree_marks.specs.Marks.{Tells}
+use Rattle.order.specs.Tells.{Tells}
 use Rattle.tree_marks.proofs.Walks.{le-or-lt}
 use Rattle.tree_test.proofs.Cases.{tells-not}
 use Rattle.tree_promises.specs.Tables.{Tables, tables}

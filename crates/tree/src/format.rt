@@ -6,7 +6,7 @@ ghost use lib.ListN.{length, replicate};
 ghost use Rattle.order.specs.Gate.{cleared};
 ghost use Rattle.words.specs.Word.{putWord};
 ghost use Rattle.tree_key.specs.Hash.{hashOf};
-ghost use Rattle.tree_marks.specs.Marks.{Tells};
+ghost use Rattle.order.specs.Tells.{Tells};
 ghost use Rattle.tree_table.specs.Field.{write, wrote};
 ghost use Rattle.tree_promises.specs.Tables.{tables};
 ghost use Rattle.tree_promises.specs.Calls.{carryGives};

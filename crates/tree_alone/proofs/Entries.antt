@@ -21,7 +21,8 @@ use Rattle.tree_table.specs.View.{keyAt}
 use Rattle.tree_table.specs.Chain.{linkAt, listAt, Ends, seekIn}
 use Rattle.tree_table.specs.declared.Hit.{Hit}
 use Rattle.tree_table.proofs.Chain.{key-part, goes, stops, list-is, ends}
-use Rattle.tree_marks.specs.Marks.{gone, markAt, Tells, Listed, Within}
+use Rattle.order.specs.Tells.{Tells}
+use Rattle.tree_marks.specs.Marks.{gone, markAt, Listed, Within}
 use Rattle.tree_marks.proofs.Walks.{entry-in, within-trans}
 use Rattle.tree_marks.proofs.Gathering.{Checking, check-on, gathers-more, gathers-stop}
 use Rattle.tree_marks.specs.Gather.{Gathered, any, bucketAt}

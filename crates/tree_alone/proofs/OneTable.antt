@@ -13,8 +13,9 @@ use Rattle.links.proofs.Laws.{one-list, positive, after, distinct, walked, fewe
 use Rattle.links.proofs.Held.{same-or, holds-kept}
 use Rattle.tree_key.specs.Hash.{hashOf}
 use Rattle.tree_table.specs.View.{View, place, removedOf, Live, LiveIn}
-use Rattle.tree_marks.specs.Marks.{gone, markAt, Free, Marked, Listed, Within, Tells}
-use Rattle.tree_marks.specs.Gather.{Alive, Gathered, Gathers, any, Kept}
+use Rattle.order.specs.Tells.{Tells}
+use Rattle.tree_marks.specs.Marks.{gone, markAt, Free, Marked, Listed, Within}
+use Rattle.tree_marks.specs.Gather.{Gathered, Gathers, any, Kept}
 use Rattle.tree_marks.proofs.Walks.{le-or-lt}
 use Rattle.tree_marks.proofs.Gathering.{in-or, gathered, gathered-ok}
 use Rattle.tree_sound.specs.Sound.{Table}
@@ -62,11 +63,11 @@ module _ (v : View) (hb : 0 < v .buckets) (hm : v .buckets ≤ 65536) (h : ℕ �
   abbrev pub own : ℕ → ℕ
   own y = place v (v .key y) + 1
 
-  pub by-number : Table v → (j : ℕ) → 0 < j → j < v .buckets + 1 → Holds (v .coll) (h j) (λ y. Alive (v .count) (removedOf v) y × (own y ≡ j))
+  pub by-number : Table v → (j : ℕ) → 0 < j → j < v .buckets + 1 → Holds (v .coll) (h j) (λ y. Live (v .count) (removedOf v) y × (own y ≡ j))
   by-number T j j0 jn =
       let e : j - 1 + 1 ≡ j = omega arith in
-      subst (λ i. Holds (v .coll) (h i) (λ y. Alive (v .count) (removedOf v) y × (own y ≡ i))) e
-      (holds-kept (v .coll) (v .coll) (λ y. LiveIn v y × (place v (v .key y) ≡ j - 1)) (λ y. Alive (v .count) (removedOf v) y × (own y ≡ j - 1 + 1))
+      subst (λ i. Holds (v .coll) (h i) (λ y. Live (v .count) (removedOf v) y × (own y ≡ i))) e
+      (holds-kept (v .coll) (v .coll) (λ y. LiveIn v y × (place v (v .key y) ≡ j - 1)) (λ y. Live (v .count) (removedOf v) y × (own y ≡ j - 1 + 1))
       (v .hash (j - 1)) (h (j - 1 + 1)) (eh (j - 1)) (λ y _. refl)
       (λ y. (λ q. (q .0, ap (λ n. n + 1) (q .1)), λ q. let r : place v (v .key y) + 1 ≡ j - 1 + 1 = q .1 in (q .0, omega arith)))
       (T .bucket (j - 1) (omega arith)))
@@ -92,16 +93,16 @@ module _ (v : View) (hb : 0 < v .buckets) (hm : v .buckets ≤ 65536) (h : ℕ �
         (G .only y)
 
     module _ (marks : (y : ℕ) → 0 < y → y < v .count → (W y ≡ gone) ⊎ (W y ≡ own y)) where
-      pub buckets-right : (b : ℕ) → b < v .buckets → Holds (v .coll) (v .hash b) (λ y. Live v R y × (place v (v .key y) ≡ b))
+      pub buckets-right : (b : ℕ) → b < v .buckets → Holds (v .coll) (v .hash b) (λ y. Live (v .count) R y × (place v (v .key y) ≡ b))
       buckets-right b hbb =
-          holds-kept (v .coll) (v .coll) (λ y. Alive (v .count) R y × (own y ≡ b + 1)) (λ y. Live v R y × (place v (v .key y) ≡ b))
+          holds-kept (v .coll) (v .coll) (λ y. Live (v .count) R y × (own y ≡ b + 1)) (λ y. Live (v .count) R y × (place v (v .key y) ≡ b))
           (h (b + 1)) (v .hash b) (sym (eh b)) (λ y _. refl)
           (λ y. (λ q. let e : place v (v .key y) + 1 ≡ b + 1 = q .1 in (q .0, omega arith), λ q. (q .0, ap (λ n. n + 1) (q .1))))
           (gathered (v .coll) (v .count) h any R (v .buckets + 1) W (omega arith) G own marks (b + 1) (omega arith) (omega arith) tt)
 
       -- no entry behind a live one in its bucket has its key: live keys are distinct
-      pub keys-apart : ((y : ℕ) → Live v R y → (zs : List ℕ) → Links (v .coll) (v .coll y) zs → (z : ℕ) → z ∈ zs → v .key z ≡ v .key y → ⊥)
-          → (y z : ℕ) → Live v R y → Live v R z → v .key y ≡ v .key z → y ≡ z
+      pub keys-apart : ((y : ℕ) → Live (v .count) R y → (zs : List ℕ) → Links (v .coll) (v .coll y) zs → (z : ℕ) → z ∈ zs → v .key z ≡ v .key y → ⊥)
+          → (y z : ℕ) → Live (v .count) R y → Live (v .count) R z → v .key y ≡ v .key z → y ≡ z
       keys-apart apart y z hy hz e =
           let H = buckets-right (place v (v .key y)) (mod-lt (hashOf (v .key y)) hb) in
           ⊎-elim (λ (q : y ≡ z). q)

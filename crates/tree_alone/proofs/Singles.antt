@@ -13,7 +13,8 @@ use Rattle.words.specs.Word.{word}
 use Rattle.tree_table.specs.Field.{field}
 use Rattle.tree_table.specs.View.{View, removedOf}
 use Rattle.tree_table.specs.Chain.{linkAt}
-use Rattle.tree_marks.specs.Marks.{markAt, Within, Tells}
+use Rattle.order.specs.Tells.{Tells}
+use Rattle.tree_marks.specs.Marks.{markAt, Within}
 use Rattle.tree_marks.specs.Gather.{Gathered, bucketAt, any, Kept}
 use Rattle.tree_marks.proofs.Walks.{within-refl, within-trans, within-more}
 use Rattle.tree_sound.specs.Sound.{Table}

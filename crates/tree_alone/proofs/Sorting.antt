@@ -15,7 +15,8 @@ use Rattle.tree_table.specs.Field.{field}
 use Rattle.tree_table.specs.View.{View, place, hashAt, removedOf, Live, keyAt}
 use Rattle.tree_table.specs.Chain.{linkAt, listAt, Ends}
 use Rattle.tree_table.proofs.Chain.{list-is, ends}
-use Rattle.tree_marks.specs.Marks.{gone, markAt, Listed, Within, Tells}
+use Rattle.order.specs.Tells.{Tells}
+use Rattle.tree_marks.specs.Marks.{gone, markAt, Listed, Within}
 use Rattle.tree_marks.specs.Gather.{Gathered, bucketAt, any}
 use Rattle.tree_marks.proofs.Walks.{within-trans, entry-in}
 use Rattle.tree_sound.specs.Sound.{Table}
@@ -144,7 +145,7 @@ module _ (h t : List ℕ) (w off : ℕ) (work : List ℕ) (zeros : (y : ℕ) →
                 ⊎-elim (λ (g : markAt w2 off y ≡ gone). inl g)
                 (λ (q : (markAt w2 off y ≡ hashOf (keyAt (field w t) y) % (length h / 4) + 1) × Apart t w y). inr (q .0)) (C .yes e3 y a b)
 
-            apart : (y : ℕ) → Live v rem y → (zs : List ℕ) → Links coll (coll y) zs → (z : ℕ) → z ∈ zs → v .key z ≡ v .key y → ⊥
+            apart : (y : ℕ) → Live (v .count) rem y → (zs : List ℕ) → Links coll (coll y) zs → (z : ℕ) → z ∈ zs → v .key z ≡ v .key y → ⊥
             unfolding field
             apart y ly zs l z m e =
                 ⊎-elim (λ (g : markAt w2 off y ≡ gone). ly .2 (all .removed y .1 g))
@@ -167,9 +168,9 @@ module _ (h t : List ℕ) (w off : ℕ) (work : List ℕ) (zeros : (y : ℕ) →
               removed-once = subst Distinct (sym is) (distinct coll (coll 0) rem (A .good e1 .1));
               removed-below = λ y m. below y (subst (λ R. y ∈ R) is m);
               bucket = λ b hbb.
-                  subst (λ R. Holds coll (v .hash b) (λ y. Live v R y × (place v (v .key y) ≡ b))) (sym is)
+                  subst (λ R. Holds coll (v .hash b) (λ y. Live (v .count) R y × (place v (v .key y) ≡ b))) (sym is)
                   (buckets-right v hb hm (bucketAt h) (bucket-at h) rem (markAt w2 off) all marks b hbb);
-              keys = subst (λ R. (y z : ℕ) → Live v R y → Live v R z → v .key y ≡ v .key z → y ≡ z) (sym is)
+              keys = subst (λ R. (y z : ℕ) → Live (v .count) R y → Live (v .count) R z → v .key y ≡ v .key z → y ≡ z) (sym is)
                   (keys-apart v hb hm (bucketAt h) (bucket-at h) rem (markAt w2 off) all marks apart);
             }
 

@@ -7,11 +7,11 @@ use Prim.Native.Nat.{ℕ, _+_, _-_, _*_, _/_, _≤_, _<_}
 use lib.ListN.{length, getD}
 use Rattle.links.specs.Links.{_∈_, Links, Holds}
 use Rattle.tree_table.specs.Field.{field}
-use Rattle.tree_table.specs.View.{View, viewOf, hashAt, removedOf}
+use Rattle.tree_table.specs.View.{View, viewOf, hashAt, removedOf, Live}
 use Rattle.tree_table.specs.Chain.{linkAt}
 use Rattle.tree_sound.specs.Sound.{Table}
 use Rattle.tree_marks.specs.Marks.{gone, markAt, Within, Free, Marked}
-use Rattle.tree_marks.specs.Gather.{Alive, Gathered, any, bucketAt}
+use Rattle.tree_marks.specs.Gather.{Gathered, any, bucketAt}
 use Rattle.tree_alone.specs.Entries.{AllFit}
 
 -- the removed entries have the mark `gone`, all others none
@@ -34,7 +34,7 @@ pub record Filed (h t : List ℕ) (w count buckets off : ℕ) (R work′ : List 
       → Gathered (linkAt t w (w - 4)) count (bucketAt h) any R (buckets + 1) (markAt work′ off)
       × ((j : ℕ) → 0 < j → j < buckets + 1 → AllFit t w buckets (bucketAt h j) j)
   pub bad : r ≡ false → (f : ℕ → ℕ)
-      → ((j : ℕ) → 0 < j → j < buckets + 1 → any j → Holds (linkAt t w (w - 4)) (bucketAt h j) (λ y. Alive count R y × (f y ≡ j)))
+      → ((j : ℕ) → 0 < j → j < buckets + 1 → any j → Holds (linkAt t w (w - 4)) (bucketAt h j) (λ y. Live count R y × (f y ≡ j)))
       → ((j : ℕ) → 0 < j → j < buckets + 1 → AllFit t w buckets (bucketAt h j) j) → ⊥
 
 -- one table t of width w with its hash h, whatever its root and child lists

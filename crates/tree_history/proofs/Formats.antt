@@ -273,21 +273,27 @@ module _ (s : Tables) (dm fm : ℕ) (M : Maxima s dm fm) where
 
   pub formatted-sound : Sound D F
   formatted-sound = record {
-    dirs = dir-table;
-    files = file-table;
-    count-two = let a = count in omega arith;
-    root-live = live;
-    root-key = key;
-    root-next = next;
-    dir-parents = λ y l n. absurd (n (only y l));
-    file-parents = λ y l. absurd (no-file y l);
-    sub-dirs = λ p l. (
-      [],
-      ap (D .head) (only p l) ∙ sub-dir,
-      λ y. (λ z. absurd z, λ q. absurd (let a = ap (up D) (only y (q .0)) ∙ up-root in let b : up D y ≡ p = q .1 in let c = only p l in omega arith)),
-    );
-    sub-files = λ p l. ([], ap (F .head) (only p l) ∙ sub-file, λ y. (λ z. absurd z, λ q. absurd (no-file y (q .0))));
-    reach = λ y l. (1 ∷ [], (only y l, omega arith, up-root), inl refl);
+    dirs = record {
+      below = record {
+        table = dir-table;
+        parents = λ y l n. absurd (n (only y l));
+        lists = λ p l. (
+          [],
+          ap (D .head) (only p l) ∙ sub-dir,
+          λ y. (λ z. absurd z, λ q. absurd (let a = ap (up D) (only y (q .0)) ∙ up-root in let b : up D y ≡ p = q .1 in let c = only p l in omega arith)),
+        );
+      };
+      count-two = let a = count in omega arith;
+      root-live = live;
+      root-key = key;
+      root-next = next;
+      reach = λ y l. (1 ∷ [], (only y l, omega arith, up-root), inl refl);
+    };
+    files = record {
+      table = file-table;
+      parents = λ y l _. absurd (no-file y l);
+      lists = λ p l. ([], ap (F .head) (only p l) ∙ sub-file, λ y. (λ z. absurd z, λ q. absurd (no-file y (q .0))));
+    };
   }
 
   -- the same lengths, and bytes

@@ -8,10 +8,10 @@ use Rattle.links.specs.Links.{_∈_, Links}
 use Rattle.links.proofs.Laws.{distinct}
 use Rattle.links.proofs.Held.{same-or, upd-same, upd-other}
 use Rattle.tree_key.specs.Key.{nameKey}
-use Rattle.tree_table.specs.View.{View, parent, removedOf, LiveIn}
+use Rattle.tree_table.specs.View.{View, parent, removedOf, LiveIn, Reaches}
 use Rattle.tree_table.proofs.Table.{link, unlink}
 use Rattle.tree_table.proofs.Agree.{Agree}
-use Rattle.tree_sound.specs.Sound.{up, Reaches}
+use Rattle.tree_sound.specs.Sound.{up}
 use Rattle.tree_sound.proofs.Equal.{tree-of}
 use Rattle.tree_promises.specs.Tables.{Tables, dirs, files, above}
 use Rattle.tree_promises.specs.Steps.{renamedDir}
@@ -51,7 +51,7 @@ module _ (u u′ : ℕ → ℕ) (x : ℕ) (eo : (y : ℕ) → 0 < y → y ≢ x 
 
 module _ (s : Tables) (w : Whole s) (x p : ℕ) (name : List ℕ) (bn : AreBytes name) where
   -- stays-reachable: a directory that may be renamed leaves every directory reaching the root
-  pub stays-reachable : MayRename s x p name → (y : ℕ) → LiveIn (dirs (renamedDir s x p name)) y → Reaches (dirs (renamedDir s x p name)) y
+  pub stays-reachable : MayRename s x p name → (y : ℕ) → LiveIn (dirs (renamedDir s x p name)) y → Reaches (up (dirs (renamedDir s x p name))) y
   stays-reachable m =
       kept-rename-dir s (fine s w) (w .sound) x p name (are-bytes name bn) (m .subject) (m .not-root) (m .parent) (m .not-into-itself) (m .free-key) .reach
 
@@ -62,11 +62,11 @@ module _ (s : Tables) (w : Whole s) (x p : ℕ) (name : List ℕ) (bn : AreBytes
         (tree-of (dirs s) (files s) refl refl (w .sound)) x lx n1 p lp name (are-bytes name bn)
 
     -- ring-below-itself: without the row IntoItself it would not: a directory that goes to itself or below itself no longer reaches the root
-    pub ring-below-itself : x ∈ above (dirs s) p → Reaches (dirs (renamedDir s x p name)) x → ⊥
+    pub ring-below-itself : x ∈ above (dirs s) p → Reaches (up (dirs (renamedDir s x p name))) x → ⊥
     ring-below-itself m r =
         let D : View = dirs s in
         let k : List ℕ = nameKey p name in
-        let t = w .sound .reach p lp in
+        let t = w .sound .dirs .reach p lp in
         let i : x ∈ t .0 = subst (λ zs. x ∈ zs) (way-up D (files s) (w .sound) p lp (t .0) (t .1)) m in
         ring (up D) (up (dirs (renamedDir s x p name))) x (λ y h n. ap parent (same .key y h ∙ upd-other (D .key) x k y n)) p (t .0) (r .0)
         (ap parent (same .key x (lx .0) ∙ upd-same (D .key) x k x refl)) (t .1) i (lx .0) (r .1)

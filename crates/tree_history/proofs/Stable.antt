@@ -11,7 +11,7 @@ use Rattle.links.specs.Change.{walk}
 use Rattle.links.proofs.Laws.{distinct, walked, fewer}
 use Rattle.links.proofs.Held.{same-or}
 use Rattle.tree_table.specs.View.{View, place, removedOf, LiveIn}
-use Rattle.tree_sound.specs.Sound.{Table, Sound, up}
+use Rattle.tree_sound.specs.Sound.{Table, Below, Sound, up}
 use Rattle.tree_kept.proofs.Above.{way-up}
 
 -- not denied
@@ -87,30 +87,32 @@ table-stable v n = record {
     links : Links (v .coll) (v .coll 0) (removedOf v)
     links = links-stable (v .coll) (v .coll 0) (removedOf v) (λ k. n (λ T. k (T .removed)))
 
-pub sound-stable : (D F : View) → Likely (Sound D F) → Sound D F
-sound-stable D F n = record {
-  dirs = dirs;
-  files = files;
-  count-two = le-stable 2 (D .count) (λ k. n (λ S. k (S .count-two)));
-  root-live = live-stable D 1 (λ k. n (λ S. k (S .root-live)));
-  root-key = list-stable (D .key 1) (0 ∷ 0 ∷ 0 ∷ 0 ∷ 0 ∷ []) (λ k. n (λ S. k (S .root-key)));
-  root-next = eq-stable (D .next 1) 0 (λ k. n (λ S. k (S .root-next)));
-  dir-parents = λ y l m. live-stable D (up D y) (λ k. n (λ S. k (S .dir-parents y l m)));
-  file-parents = λ y l. live-stable D (up F y) (λ k. n (λ S. k (S .file-parents y l)));
-  sub-dirs = λ p l. holds-stable D (D .next) (D .head p) (λ y. up D y ≡ p) (λ y. eq-stable (up D y) p) (dirs .count-one) (λ k. n (λ S. k (S .sub-dirs p l)));
-  sub-files = λ p l. holds-stable F (F .next) (F .head p) (λ y. up F y ≡ p) (λ y. eq-stable (up F y) p) (files .count-one) (λ k. n (λ S. k (S .sub-files p l)));
-  reach = λ y l. (
-    walk (up D) (D .count) y,
-    links-stable (up D) y (walk (up D) (D .count) y) (λ k. n (λ S. k (subst (λ zs. Links (up D) y zs) (sym (way S y l)) (S .reach y l .1)))),
-    in-stable 1 (walk (up D) (D .count) y) (λ k. n (λ S. k (subst (λ zs. 1 ∈ zs) (sym (way S y l)) (S .reach y l .2)))),
-  );
+below-stable : (D v : View) (root : ℕ) → Likely (Below D v root) → Below D v root
+below-stable D v root n = record {
+  table = table;
+  parents = λ y l m. live-stable D (up v y) (λ k. n (λ B. k (B .parents y l m)));
+  lists = λ p l. holds-stable v (v .next) (v .head p) (λ y. up v y ≡ p) (λ y. eq-stable (up v y) p) (table .count-one) (λ k. n (λ B. k (B .lists p l)));
 }
   where
-    dirs : Table D
-    dirs = table-stable D (λ k. n (λ S. k (S .dirs)))
+    table : Table v
+    table = table-stable v (λ k. n (λ B. k (B .table)))
 
-    files : Table F
-    files = table-stable F (λ k. n (λ S. k (S .files)))
-
-    way : (S : Sound D F) (y : ℕ) (l : LiveIn D y) → walk (up D) (D .count) y ≡ S .reach y l .0
-    way S y l = way-up D F S y l (S .reach y l .0) (S .reach y l .1)
+pub sound-stable : (D F : View) → Likely (Sound D F) → Sound D F
+sound-stable D F n = record {
+  dirs = record {
+    below = below-stable D D 1 (λ k. n (λ S. k (S .dirs .below)));
+    count-two = le-stable 2 (D .count) (λ k. n (λ S. k (S .dirs .count-two)));
+    root-live = live-stable D 1 (λ k. n (λ S. k (S .dirs .root-live)));
+    root-key = list-stable (D .key 1) (0 ∷ 0 ∷ 0 ∷ 0 ∷ 0 ∷ []) (λ k. n (λ S. k (S .dirs .root-key)));
+    root-next = eq-stable (D .next 1) 0 (λ k. n (λ S. k (S .dirs .root-next)));
+    reach = λ y l. (
+      walk (up D) (D .count) y,
+      links-stable (up D) y (walk (up D) (D .count) y) (λ k. n (λ S. k (subst (λ zs. Links (up D) y zs) (sym (way S y l)) (S .dirs .reach y l .1)))),
+      in-stable 1 (walk (up D) (D .count) y) (λ k. n (λ S. k (subst (λ zs. 1 ∈ zs) (sym (way S y l)) (S .dirs .reach y l .2)))),
+    );
+  };
+  files = below-stable D F 0 (λ k. n (λ S. k (S .files)));
+}
+  where
+    way : (S : Sound D F) (y : ℕ) (l : LiveIn D y) → walk (up D) (D .count) y ≡ S .dirs .reach y l .0
+    way S y l = way-up D F S y l (S .dirs .reach y l .0) (S .dirs .reach y l .1)

@@ -23,6 +23,7 @@ use Rattle.tree_table.specs.Steps.{freeOf, giveWrites}
 use Rattle.tree_table.specs.Chain.{linkAt, listAt, Ends, member}
 use Rattle.tree_table.proofs.Chain.{member-in, not-member}
 use Rattle.tree_table.proofs.Field.{length-wrote}
+use Rattle.tree_table.proofs.Table.{not-zero}
 use Rattle.tree_sound.specs.Sound.{Table, Sound, up}
 use Rattle.tree_promises.specs.Tables.{Tables, tables, dirs, files, above, Has, HasOther}
 use Rattle.tree_promises.specs.Steps.{unlinkedDir, unlinkedFile, linkedDir, linkedFile}
@@ -34,7 +35,7 @@ use Rattle.tree_inner.specs.Judge.{JudgedBy}
 use Rattle.tree_inner.specs.declared.judge.Judged.{Judged}
 use Rattle.tree_inner.specs.declared.judge.Judged.the-variants.{Go, Refused}
 use Rattle.tree_inner.proofs.Lists.{inside, all-fit, count-few, child-ends, child-list, dir-single, file-single, ends-of, list-of}
-use Rattle.tree_marks.specs.Marks.{Tells}
+use Rattle.order.specs.Tells.{Tells}
 use Rattle.tree_test.proofs.Cases.{tells-not}
 use Rattle.tree_inner.proofs.Judges.{given-behind, none-both, passed, given-first, none-first, live-sure}
 
@@ -50,12 +51,12 @@ module _ (s : Tables) (R : Ready s) (x : ℕ) where
 
   module _ (l : LiveIn (dirs s) x) (n : x ≢ 1) where
     dir-up : LiveIn (dirs s) (field 40 (s .dirTable) x 1)
-    dir-up = R .sound .dir-parents x l n
+    dir-up = R .sound .dirs .below .parents x l n
 
     pub dir-listed : Listed (s .dirTable) 24 (s .dirTable) 40 x
     unfolding field
     dir-listed =
-        let H = R .sound .sub-dirs (field 40 (s .dirTable) x 1) dir-up in
+        let H = R .sound .dirs .below .lists (field 40 (s .dirTable) x 1) dir-up in
         let S = dir-single s R in
         let P : ℕ → Type 0 = λ y. up (dirs s) y ≡ field 40 (s .dirTable) x 1 in
         record {
@@ -68,12 +69,12 @@ module _ (s : Tables) (R : Ready s) (x : ℕ) where
 
   module _ (l : LiveIn (files s) x) where
     file-up : LiveIn (dirs s) (field 48 (s .fileTable) x 1)
-    file-up = R .sound .file-parents x l
+    file-up = R .sound .files .parents x l (not-zero (l .0))
 
     pub file-listed : Listed (s .dirTable) 28 (s .fileTable) 48 x
     unfolding field
     file-listed =
-        let H = R .sound .sub-files (field 48 (s .fileTable) x 1) file-up in
+        let H = R .sound .files .lists (field 48 (s .fileTable) x 1) file-up in
         let S = file-single s R in
         let P : ℕ → Type 0 = λ y. up (files s) y ≡ field 48 (s .fileTable) x 1 in
         record {
@@ -91,7 +92,7 @@ module _ (s : Tables) (R : Ready s) where
   D = dirs s
 
   root-up : up D 1 ≡ 0
-  root-up = ap parent (R .sound .root-key)
+  root-up = ap parent (R .sound .dirs .root-key)
 
   none-above : (z : ℕ) (zs : List ℕ) → Links (up D) 0 zs → z ∈ zs → ⊥
   none-above z (b ∷ zs) k i = let p : 0 ≡ b = k .0 in let q : 0 < b = k .1 in omega arith
@@ -103,7 +104,7 @@ module _ (s : Tables) (R : Ready s) where
       ⊎-elim
       (λ (e : a ≡ 1). absurd (none-above z xs (subst (λ w. Links (up D) w xs) (ap (up D) e ∙ root-up) (l .2)) m))
       (λ (n : a ≢ 1).
-      above-live (up D a) xs (R .sound .dir-parents a (subst (λ w. LiveIn D w) (l .0) ly) n) (l .2) z m)
+      above-live (up D a) xs (R .sound .dirs .below .parents a (subst (λ w. LiveIn D w) (l .0) ly) n) (l .2) z m)
       (same-or a 1)
 
   module _ (p : ℕ) (lp : LiveIn D p) where
@@ -116,14 +117,14 @@ module _ (s : Tables) (R : Ready s) where
 
     pub above-ends : Ends (s .dirTable) 40 0 p
     above-ends =
-        let r = R .sound .reach p lp in
-        ends-of (s .dirTable) 40 0 (field 40 (s .dirTable) 0 1) p (λ y. field 40 (s .dirTable) y 1) up-same (r .0) (r .1) (R .sound .dirs .count-one)
+        let r = R .sound .dirs .reach p lp in
+        ends-of (s .dirTable) 40 0 (field 40 (s .dirTable) 0 1) p (λ y. field 40 (s .dirTable) y 1) up-same (r .0) (r .1) (R .sound .dirs .below .table .count-one)
         (count-few (s .dirHash) (s .dirTable) 40 (dir-single s R)) (all-fit (s .dirHash) (s .dirTable) 40 (dir-single s R)) (λ y m. above-live p (r .0) lp (r .1) y m .1)
 
     pub above-list : listAt (s .dirTable) 40 0 p ≡ above D p
     above-list =
-        let r = R .sound .reach p lp in
-        list-of (s .dirTable) 40 0 (field 40 (s .dirTable) 0 1) p (λ y. field 40 (s .dirTable) y 1) up-same (r .0) (r .1) (R .sound .dirs .count-one)
+        let r = R .sound .dirs .reach p lp in
+        list-of (s .dirTable) 40 0 (field 40 (s .dirTable) 0 1) p (λ y. field 40 (s .dirTable) y 1) up-same (r .0) (r .1) (R .sound .dirs .below .table .count-one)
         (count-few (s .dirHash) (s .dirTable) 40 (dir-single s R)) (all-fit (s .dirHash) (s .dirTable) 40 (dir-single s R)) (λ y m. above-live p (r .0) lp (r .1) y m .1)
 
 -- ---- the tests of rename and make
@@ -271,7 +272,7 @@ module _ (s : Tables) (R : Ready s) (opens : List ℕ) (x : ℕ) where
         (omega (arith, file-listed s R x gone-file .inside, same-files (s .dirTable) (s .fileHash) (s .fileTable) x f1 e), omega arith, gone-file .0)
 
     pub file-opens : length (s .fileTable) / 48 ≤ length opens → (i : ℕ) → i ≡ x → i < length opens
-    file-opens room i q = let l : x < field 48 (s .fileTable) 0 1 = gone-file .1 in omega (arith, R .sound .files .count-max, R .sound .files .max-room)
+    file-opens room i q = let l : x < field 48 (s .fileTable) 0 1 = gone-file .1 in omega (arith, R .sound .files .table .count-max, R .sound .files .table .max-room)
 
   module _ (n : None (deleteDirTests s opens x)) where
     gone-dir : LiveIn (dirs s) x
@@ -288,7 +289,7 @@ module _ (s : Tables) (R : Ready s) (opens : List ℕ) (x : ℕ) where
         (omega (arith, dir-listed s R x gone-dir not-root .inside, same-dirs (s .dirHash) (s .dirTable) x d1 e), omega arith, gone-dir .0)
 
     pub dir-opens : length (s .dirTable) / 40 ≤ length opens → (i : ℕ) → i ≡ x → i < length opens
-    dir-opens room i q = let l : x < field 40 (s .dirTable) 0 1 = gone-dir .1 in omega (arith, R .sound .dirs .count-max, R .sound .dirs .max-room)
+    dir-opens room i q = let l : x < field 40 (s .dirTable) 0 1 = gone-dir .1 in omega (arith, R .sound .dirs .below .table .count-max, R .sound .dirs .below .table .max-room)
 
   module _ (p : ℕ) (name : List ℕ) where
     module _ (n : None (renameFileTests s opens x p name)) where

@@ -31,7 +31,7 @@ use Rattle.tree_inner.specs.Judge.{JudgedBy}
 use Rattle.tree_inner.specs.declared.judge.Judged.{Judged}
 use Rattle.tree_inner.specs.declared.judge.Judged.the-variants.{Go, Refused}
 use Rattle.tree_inner.proofs.Lists.{inside, all-fit, bucket-ends, bucket-list, bucket-is}
-use Rattle.tree_marks.specs.Marks.{Tells}
+use Rattle.order.specs.Tells.{Tells}
 use Rattle.tree_inner.proofs.Live.{in-hash}
 use Rattle.tree_test.proofs.Cases.{told-false, tells-not}
 use Rattle.tree_inner.proofs.Lookups.{Missed, seek-missed, seek-met}

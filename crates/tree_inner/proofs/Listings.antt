@@ -17,7 +17,7 @@ use Rattle.tree_table.specs.Field.{field}
 use Rattle.tree_table.specs.View.{View, childrenOf, removedOf, LiveIn}
 use Rattle.tree_table.specs.Steps.{freeOf}
 use Rattle.tree_table.specs.Chain.{listAt, Ends}
-use Rattle.tree_marks.specs.Marks.{Tells}
+use Rattle.order.specs.Tells.{Tells}
 use Rattle.tree_promises.specs.Tables.{Tables, dirs, files}
 use Rattle.tree_promises.specs.Ready.{Ready, LiveAt, Single, alone}
 use Rattle.tree_promises.specs.Calls.{Listing, listGives, shortRows, listedDone, ListDirs, ListFiles, part}
@@ -74,22 +74,22 @@ module _ (s : Tables) (R : Ready s) (x i : ℕ) {r : Bool} (T : Tells (LiveAt 40
     pub dirs-end : first ≡ word (s .dirTable) (i * 40 + 24) → Ends (s .dirTable) 40 20 first
     dirs-end f =
         subst (λ z. Ends (s .dirTable) 40 20 z) (sym (f ∙ sub-dir))
-        (child-ends (s .dirHash) (s .dirTable) 40 (dir-single s R) (dirs s .head x) _ (R .sound .sub-dirs x live-x))
+        (child-ends (s .dirHash) (s .dirTable) 40 (dir-single s R) (dirs s .head x) _ (R .sound .dirs .below .lists x live-x))
 
     pub files-end : first ≡ word (s .dirTable) (i * 40 + 28) → Ends (s .fileTable) 48 20 first
     files-end f =
         subst (λ z. Ends (s .fileTable) 48 20 z) (sym (f ∙ sub-file))
-        (child-ends (s .fileHash) (s .fileTable) 48 (file-single s R) (files s .head x) _ (R .sound .sub-files x live-x))
+        (child-ends (s .fileHash) (s .fileTable) 48 (file-single s R) (files s .head x) _ (R .sound .files .lists x live-x))
 
     dir-children : first ≡ word (s .dirTable) (i * 40 + 24) → listAt (s .dirTable) 40 20 first ≡ childrenOf (dirs s) x
     dir-children f =
         ap (listAt (s .dirTable) 40 20) (f ∙ sub-dir)
-        ∙ child-list (s .dirHash) (s .dirTable) 40 (dir-single s R) (dirs s .head x) _ (R .sound .sub-dirs x live-x)
+        ∙ child-list (s .dirHash) (s .dirTable) 40 (dir-single s R) (dirs s .head x) _ (R .sound .dirs .below .lists x live-x)
 
     file-children : first ≡ word (s .dirTable) (i * 40 + 28) → listAt (s .fileTable) 48 20 first ≡ childrenOf (files s) x
     file-children f =
         ap (listAt (s .fileTable) 48 20) (f ∙ sub-file)
-        ∙ child-list (s .fileHash) (s .fileTable) 48 (file-single s R) (files s .head x) _ (R .sound .sub-files x live-x)
+        ∙ child-list (s .fileHash) (s .fileTable) 48 (file-single s R) (files s .head x) _ (R .sound .files .lists x live-x)
 
     pub dirs-listed : first ≡ word (s .dirTable) (i * 40 + 24) → (list : List ℕ) (o : Listing)
         → First (shortRows (listAt (s .dirTable) 40 20 first) list) (listedDone (listAt (s .dirTable) 40 20 first) list) o → ListDirs s x list o

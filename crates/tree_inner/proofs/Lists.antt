@@ -101,7 +101,7 @@ module _ (h t : List ℕ) (w : ℕ) (S : Single h t w) where
 -- the two tables by themselves
 module _ (s : Tables) (R : Ready s) where
   pub dir-single : Single (s .dirHash) (s .dirTable) 40
-  dir-single = record { wide = omega arith; some = R .dir-buckets; few = R .few-dirs; root = 1; head = dirs s .head; table = R .sound .dirs }
+  dir-single = record { wide = omega arith; some = R .dir-buckets; few = R .few-dirs; root = 1; head = dirs s .head; table = R .sound .dirs .below .table }
 
   pub file-single : Single (s .fileHash) (s .fileTable) 48
-  file-single = record { wide = omega arith; some = R .file-buckets; few = R .few-files; root = 0; head = files s .head; table = R .sound .files }
+  file-single = record { wide = omega arith; some = R .file-buckets; few = R .few-files; root = 0; head = files s .head; table = R .sound .files .table }

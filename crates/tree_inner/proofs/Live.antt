@@ -16,7 +16,7 @@ use Rattle.tree_table.specs.View.{View, keyAt, hashAt, bucketOf}
 use Rattle.tree_table.specs.Chain.{listAt, Ends, member}
 use Rattle.tree_table.proofs.Chain.{key-part, member-in, in-member}
 use Rattle.tree_sound.specs.Sizes.{buckets}
-use Rattle.tree_marks.specs.Marks.{Tells}
+use Rattle.order.specs.Tells.{Tells}
 use Rattle.tree_test.proofs.Cases.{told-false}
 use Rattle.tree_promises.specs.Ready.{LiveAt, Single}
 use Rattle.tree_inner.proofs.Lists.{inside, all-fit, bucket-ends, bucket-list, bucket-is}

@@ -11,7 +11,7 @@ use Rattle.order.specs.First.{First, row}
 use Rattle.order.specs.declared.Answer.{Answer}
 use Rattle.order.specs.declared.Answer.the-variants.{Done, NotFound, NotOpen, TooManyOpens}
 use Rattle.tree_table.specs.Field.{field}
-use Rattle.tree_marks.specs.Marks.{Tells}
+use Rattle.order.specs.Tells.{Tells}
 use Rattle.tree_test.proofs.Cases.{tells-not}
 use Rattle.tree_promises.specs.Tables.{Tables, tables, dirs, files}
 use Rattle.tree_promises.specs.Steps.{carriedDir, carriedFile}

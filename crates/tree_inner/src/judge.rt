@@ -4,7 +4,7 @@ ghost use mathlib.Core.List.{[], _∷_};
 ghost use Prim.Native.Nat.{_+_, _*_, _/_, _≤_, _<_};
 ghost use lib.ListN.{length};
 ghost use Rattle.tree_key.specs.Key.{keyWords, nameKey};
-ghost use Rattle.tree_marks.specs.Marks.{Tells};
+ghost use Rattle.order.specs.Tells.{Tells};
 ghost use Rattle.tree_table.specs.Field.{field};
 ghost use Rattle.tree_table.specs.Steps.{freeOf};
 ghost use Rattle.tree_promises.specs.Tables.{tables, dirs, files, HasOther};

@@ -4,7 +4,7 @@ ghost use Prim.Native.Nat.{_-_, _/_, _≤_};
 ghost use lib.ListN.{length};
 ghost use Rattle.order.specs.First.{First};
 ghost use Rattle.tree_promises.specs.Calls.{openRows, openDone, closeRows, closeDone, openingGives, lookupRows, lookupDone, lookupGives, listGives, shortRows, listedDone, ListDirs, ListFiles, statGives, statDone};
-ghost use Rattle.tree_marks.specs.Marks.{Tells};
+ghost use Rattle.order.specs.Tells.{Tells};
 ghost use Rattle.tree_table.specs.Chain.{listAt, Ends};
 ghost use Rattle.tree_table.specs.Steps.{freeOf};
 ghost use Rattle.tree_promises.specs.Tables.{tables};

@@ -19,15 +19,15 @@ module _ (D F : View) (S : Sound D F) where
   above-low y (a ∷ xs) ly l z (inr m) =
       ⊎-elim
       (λ (e : a ≡ 1).
-      let u : up D a ≡ 0 = ap (up D) e ∙ ap parent (S .root-key) in
+      let u : up D a ≡ 0 = ap (up D) e ∙ ap parent (S .dirs .root-key) in
       let n : xs ≡ [] = one-list (up D) (up D a) 0 xs [] u (l .2) refl in
       absurd (subst (λ zs. z ∈ zs) n m))
-      (λ (e : a ≢ 1). above-low (up D a) xs (S .dir-parents a (subst (λ w. LiveIn D w) (l .0) ly) e) (l .2) z m)
+      (λ (e : a ≢ 1). above-low (up D a) xs (S .dirs .below .parents a (subst (λ w. LiveIn D w) (l .0) ly) e) (l .2) z m)
       (same-or a 1)
 
   -- the way up is the list that a walk of as many steps as there are entries finds
   pub way-up : (y : ℕ) → LiveIn D y → (xs : List ℕ) → Links (up D) y xs → walk (up D) (D .count) y ≡ xs
   way-up y ly xs l =
-      let c : 0 < D .count = (let a = S .dirs .count-one in omega arith) in
+      let c : 0 < D .count = (let a = S .dirs .below .table .count-one in omega arith) in
       let q : length xs < D .count = fewer (up D) (D .count) y xs c l (above-low y xs ly l) in
       walked (up D) (D .count) y xs l (omega arith)

@@ -25,7 +25,7 @@ use Rattle.tree_kept.proofs.Loose.{entry-fits, fit-append, fit-copy, re
 use Rattle.tree_kept.proofs.Files.{Fine}
 use Rattle.tree_kept.proofs.Dirs.{unlinked-dir, unlinked-heads, unlinked-dir-fine, bucket-some, dir-parent}
 
-module _ (dh d fh f : List ℕ) (Q : Fine dh d fh f) (RD RF : List ℕ) (T : Tree (dirView dh d) (fileView d fh f) RD RF) (x : ℕ) (lx : Live (dirView dh d) RD x) (n1 : x ≢ 1) where
+module _ (dh d fh f : List ℕ) (Q : Fine dh d fh f) (RD RF : List ℕ) (T : Tree (dirView dh d) (fileView d fh f) RD RF) (x : ℕ) (lx : Live (dirView dh d .count) RD x) (n1 : x ≢ 1) where
   abbrev D : View
   D = dirView dh d
 
@@ -56,15 +56,15 @@ module _ (dh d fh f : List ℕ) (Q : Fine dh d fh f) (RD RF : List ℕ) (T : Tre
   fine : Fine (s1 .dirHash) d1 fh f
   fine = unlinked-dir-fine dh d fh f Q RD RF T x lx n1
 
-  lp : Live D RD (up D x)
+  lp : Live (D .count) RD (up D x)
   lp = dir-parent dh d fh f Q RD RF T x lx n1
 
-  loose : Sound D1 (Live D RD) RD x
+  loose : Sound D1 (Live (D .count) RD) RD x
   loose =
-      sound-agree (unlink D x) D1 A RD x (Live D RD) (Live D RD) (λ p. (λ l. l, λ l. l)) (λ p l. l .0)
-      (unlinked D RD x lx (Live D RD) (T .dirs) (bucket-some dh d fh f Q RD RF T x lx n1) lp)
+      sound-agree (unlink D x) D1 A RD x (Live (D .count) RD) (Live (D .count) RD) (λ p. (λ l. l, λ l. l)) (λ p l. l .0)
+      (unlinked D RD x lx (Live (D .count) RD) (T .dirs) (bucket-some dh d fh f Q RD RF T x lx n1) lp)
 
-  still : Live D1 RD x
+  still : Live (D1 .count) RD x
   still = live-agree (unlink D x) D1 A RD x .0 lx
 
   in-room : x < length d1 / 40
@@ -90,10 +90,10 @@ module _ (dh d fh f : List ℕ) (Q : Fine dh d fh f) (RD RF : List ℕ) (T : Tre
       (hashAt (s1 .dirHash)) (hashAt (s1 .dirHash)) (λ p. field 40 d2 p 7) (λ p. field 40 d2 p 7)
       refl (ap (λ n. n / 40) (length-wrote 40 gw d1)) (λ y g h. after 40 d1 gw fit y g (omega arith)) (λ b. refl) (λ q. refl))
 
-  lives : (p : ℕ) → Live D (x ∷ RD) p → (p ≢ x) × Live D RD p
+  lives : (p : ℕ) → Live (D .count) (x ∷ RD) p → (p ≢ x) × Live (D .count) RD p
   lives p l = let r = gave-live D RD x p .0 l in (r .1, r .0)
 
-  back : (p : ℕ) → p ≢ x → Live D RD p → Live D (x ∷ RD) p
+  back : (p : ℕ) → p ≢ x → Live (D .count) RD p → Live (D .count) (x ∷ RD) p
   back p n l = gave-live D RD x p .1 (l, n)
 
   count-same : D2 .count ≡ D .count
@@ -101,7 +101,7 @@ module _ (dh d fh f : List ℕ) (Q : Fine dh d fh f) (RD RF : List ℕ) (T : Tre
 
   -- one more entry is free, whether or not x has children
   pub deleted-dir-removed : removedOf D2 ≡ x ∷ RD
-  deleted-dir-removed = removed-agree (give D1 x) D2 (Live D RD) (x ∷ RD) (gave D1 (Live D RD) RD x still loose) (same .count) (same .coll)
+  deleted-dir-removed = removed-agree (give D1 x) D2 (Live (D .count) RD) (x ∷ RD) (gave D1 (Live (D .count) RD) RD x still loose) (same .count) (same .coll)
 
   pub deleted-dir-count : D2 .count ≡ D .count
   deleted-dir-count = count-same
@@ -114,24 +114,24 @@ module _ (dh d fh f : List ℕ) (Q : Fine dh d fh f) (RD RF : List ℕ) (T : Tre
     no-own : up D x ≢ x
     no-own = childless D F RD RF T x lx n1 (Q .dir-some) no-dirs no-files x lx
 
-    dirs-sound : Sound (heads (give D1 x) (λ p. field 40 d2 p 7)) (Live D (x ∷ RD)) (x ∷ RD) 0
+    dirs-sound : Sound (heads (give D1 x) (λ p. field 40 d2 p 7)) (Live (D .count) (x ∷ RD)) (x ∷ RD) 0
     dirs-sound =
-        fewer-dirs (give D1 x) (Live D RD) (Live D (x ∷ RD)) (x ∷ RD) 0 x (λ p. field 40 d2 p 7) (gave D1 (Live D RD) RD x still loose) lives back
+        fewer-dirs (give D1 x) (Live (D .count) RD) (Live (D .count) (x ∷ RD)) (x ∷ RD) 0 x (λ p. field 40 d2 p 7) (gave D1 (Live (D .count) RD) RD x still loose) lives back
         (λ p n. given p 7 (omega arith) (omega arith) ∙ upd-other (λ z. field 40 d1 z 7) x (field 40 d1 0 7) p n) lx
         (A .head x (lx .0) ∙ upd-other (D .head) (up D x) _ x (λ (e : x ≡ up D x). no-own (sym e)) ∙ no-dirs)
 
-    files-sound : Sound (fileView d2 fh f) (Live D (x ∷ RD)) RF 0
+    files-sound : Sound (fileView d2 fh f) (Live (D .count) (x ∷ RD)) RF 0
     files-sound =
-        fewer-dirs F (Live D RD) (Live D (x ∷ RD)) RF 0 x (λ p. field 40 d2 p 8) (T .files) lives back
+        fewer-dirs F (Live (D .count) RD) (Live (D .count) (x ∷ RD)) RF 0 x (λ p. field 40 d2 p 8) (T .files) lives back
         (λ p n.
         given p 8 (omega arith) (omega arith) ∙ upd-other (λ z. field 40 d1 z 8) x (field 40 d1 0 8) p n
         ∙ unlinked-heads dh d fh f Q RD RF T x lx n1 p 8 (omega arith) (omega arith)) lx no-files
 
     -- the directories that are live are so by either count
-    to : (p : ℕ) → Live D (x ∷ RD) p → Live D2 (x ∷ RD) p
+    to : (p : ℕ) → Live (D .count) (x ∷ RD) p → Live (D2 .count) (x ∷ RD) p
     to p l = (l .0, subst (λ n. p < n) (sym count-same) (l .1), l .2)
 
-    from : (p : ℕ) → Live D2 (x ∷ RD) p → Live D (x ∷ RD) p
+    from : (p : ℕ) → Live (D2 .count) (x ∷ RD) p → Live (D .count) (x ∷ RD) p
     from p l = (l .0, subst (λ n. p < n) count-same (l .1), l .2)
 
     -- an entry but x keeps its key and its next field, as unlink left it
@@ -143,7 +143,7 @@ module _ (dh d fh f : List ℕ) (Q : Fine dh d fh f) (RD RF : List ℕ) (T : Tre
 
     pub deleted-dir-kept : Tree D2 (fileView d2 fh f) (x ∷ RD) RF
     deleted-dir-kept = record {
-      dirs = sound-agree (heads (give D1 x) (λ p. field 40 d2 p 7)) D2 same (x ∷ RD) 0 (Live D (x ∷ RD)) (Live D2 (x ∷ RD)) (λ p. (to p, from p)) (λ p l. l .0) dirs-sound;
+      dirs = sound-agree (heads (give D1 x) (λ p. field 40 d2 p 7)) D2 same (x ∷ RD) 0 (Live (D .count) (x ∷ RD)) (Live (D2 .count) (x ∷ RD)) (λ p. (to p, from p)) (λ p l. l .0) dirs-sound;
       files = record {
         max-room = files-sound .max-room;
         count-one = files-sound .count-one;
@@ -161,7 +161,7 @@ module _ (dh d fh f : List ℕ) (Q : Fine dh d fh f) (RD RF : List ℕ) (T : Tre
       root-key = key-same 1 (omega arith) n1x ∙ T .root-key;
       root-next =
           same .next 1 (omega arith) ∙ upd-other (D1 .next) x (D1 .next 0) 1 n1x ∙ A .next 1 (omega arith)
-          ∙ unlinked-next D RD x lx (Live D RD) (T .dirs) lp 1 (λ (e : up D 1 ≡ up D x). not-zero (lp .0) (sym e ∙ root-up D F RD RF T))
+          ∙ unlinked-next D RD x lx (Live (D .count) RD) (T .dirs) lp 1 (λ (e : up D 1 ≡ up D x). not-zero (lp .0) (sym e ∙ root-up D F RD RF T))
           ∙ T .root-next;
       reach = λ y ly.
           let w = lives y (from y ly) in

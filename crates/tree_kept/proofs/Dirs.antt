@@ -33,7 +33,7 @@ use Rattle.tree_kept.proofs.Files.{Fine, fine-wrote, dir-low}
 pub tree-agree : (D D′ F F′ : View) (RD RF : List ℕ) → Tree D F RD RF → Agree D D′ → Agree F F′ → Tree D′ F′ RD RF
 tree-agree D D′ F F′ RD RF T A B =
     tree-files D D′ F F′ RD RF RF T A (B .root ∙ T .file-root)
-    (sound-agree F F′ B RF 0 (Live D RD) (Live D RD) (λ p. (λ l. l, λ l. l)) (λ p l. l .0) (T .files))
+    (sound-agree F F′ B RF 0 (Live (D .count) RD) (Live (D .count) RD) (λ p. (λ l. l, λ l. l)) (λ p l. l .0) (T .files))
 
 -- the files do not see a directory's other fields
 pub files-same : (d d′ fh f : List ℕ) → ((p : ℕ) → field 40 d′ p 8 ≡ field 40 d p 8) → Agree (fileView d fh f) (fileView d′ fh f)
@@ -62,7 +62,7 @@ headed false e v m hd q y = q y
 
 -- ---- unlink
 
-module _ (dh d fh f : List ℕ) (Q : Fine dh d fh f) (RD RF : List ℕ) (T : Tree (dirView dh d) (fileView d fh f) RD RF) (x : ℕ) (lx : Live (dirView dh d) RD x) (n1 : x ≢ 1) where
+module _ (dh d fh f : List ℕ) (Q : Fine dh d fh f) (RD RF : List ℕ) (T : Tree (dirView dh d) (fileView d fh f) RD RF) (x : ℕ) (lx : Live (dirView dh d .count) RD x) (n1 : x ≢ 1) where
   abbrev D : View
   D = dirView dh d
 
@@ -75,18 +75,18 @@ module _ (dh d fh f : List ℕ) (Q : Fine dh d fh f) (RD RF : List ℕ) (T : Tre
   pub bucket-some : b < length dh / 4
   bucket-some = mod-lt (hashOf (D .key x)) (Q .dir-some)
 
-  pub dir-parent : Live D RD p
+  pub dir-parent : Live (D .count) RD p
   dir-parent = T .dirs .parents x (lx, not-zero (lx .0)) (λ e. n1 (e ∙ T .dir-root))
 
   bucket-low : bucketBefore D x < D .count
   bucket-low =
       let H = T .dirs .bucket b bucket-some in
-      before-low D (Live D RD) RD (T .dirs) (D .coll) (D .hash b) (λ y. place D (D .key y) ≡ b) H x (H .2 x .1 ((lx, not-zero (lx .0)), refl))
+      before-low D (Live (D .count) RD) RD (T .dirs) (D .coll) (D .hash b) (λ y. place D (D .key y) ≡ b) H x (H .2 x .1 ((lx, not-zero (lx .0)), refl))
 
   child-low : childBefore D x < D .count
   child-low =
       let H = T .dirs .child p dir-parent in
-      before-low D (Live D RD) RD (T .dirs) (D .next) (D .head p) (λ y. parent (D .key y) ≡ p) H x (H .2 x .1 ((lx, not-zero (lx .0)), refl))
+      before-low D (Live (D .count) RD) RD (T .dirs) (D .next) (D .head p) (λ y. parent (D .key y) ≡ p) H x (H .2 x .1 ((lx, not-zero (lx .0)), refl))
 
   abbrev s1 : Tables
   s1 = unlinkedDir (tables dh d fh f) x
@@ -191,7 +191,7 @@ module _ (dh d fh f : List ℕ) (Q : Fine dh d fh f) (x p : ℕ) (name : List �
 -- ---- the theorems
 
 module _ (dh d fh f : List ℕ) (Q : Fine dh d fh f) (RD RF : List ℕ) (T : Tree (dirView dh d) (fileView d fh f) RD RF) where
-  module _ (x : ℕ) (lx : Live (dirView dh d) RD x) (n1 : x ≢ 1) (p : ℕ) (lp : Live (dirView dh d) RD p) (name : List ℕ) (bn : Bytes name) where
+  module _ (x : ℕ) (lx : Live (dirView dh d .count) RD x) (n1 : x ≢ 1) (p : ℕ) (lp : Live (dirView dh d .count) RD p) (name : List ℕ) (bn : Bytes name) where
     abbrev t1 : Tables
     t1 = unlinkedDir (tables dh d fh f) x
 
@@ -217,7 +217,7 @@ module _ (dh d fh f : List ℕ) (Q : Fine dh d fh f) (RD RF : List ℕ) (T : Tre
         (link-agree (unlink (dirView dh d) x) (dirView (t1 .dirHash) (t1 .dirTable)) x (nameKey p name) (lp .0) A)
         (linked-dir (t1 .dirHash) (t1 .dirTable) fh f fine x p name bn (lx .0) in-room p-room)
 
-    pub renamed-dir-kept : ((y : ℕ) → Live (dirView dh d) RD y → y ≢ x → dirView dh d .key y ≢ nameKey p name)
+    pub renamed-dir-kept : ((y : ℕ) → Live (dirView dh d .count) RD y → y ≢ x → dirView dh d .key y ≢ nameKey p name)
         → ((qs : List ℕ) → Links (up (dirView dh d)) p qs → x ∈ qs → ⊥)
         → Tree (dirView (t2 .dirHash) (t2 .dirTable)) (fileView (t2 .dirTable) fh f) RD RF
     renamed-dir-kept fresh above =
@@ -227,7 +227,7 @@ module _ (dh d fh f : List ℕ) (Q : Fine dh d fh f) (RD RF : List ℕ) (T : Tre
         (files-same d (t2 .dirTable) fh f
         (λ y. linked-heads (t1 .dirHash) (t1 .dirTable) fh f fine x p name bn (lx .0) in-room p-room y ∙ unlinked-heads dh d fh f Q RD RF T x lx n1 y 8 (omega arith) (omega arith)))
 
-  pub carried-dir-kept : (x : ℕ) → Live (dirView dh d) RD x → (bytes : List ℕ) → Bytes bytes
+  pub carried-dir-kept : (x : ℕ) → Live (dirView dh d .count) RD x → (bytes : List ℕ) → Bytes bytes
       → Tree (dirView dh (carriedDir (tables dh d fh f) x bytes .dirTable)) (fileView (carriedDir (tables dh d fh f) x bytes .dirTable) fh f) RD RF
   carried-dir-kept x lx bytes bb =
       let e = entry-fits 40 d x (dir-low dh d fh f Q RD RF T x (lx .1)) in

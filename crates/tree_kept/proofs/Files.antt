@@ -52,7 +52,7 @@ module _ (dh d fh f : List ℕ) (Q : Fine dh d fh f) (RD RF : List ℕ) (T : Tre
   pub dir-low : (y : ℕ) → y < D .count → y < length d / 40
   dir-low y h = let a = T .dirs .count-max in let b = T .dirs .max-room in omega arith
 
-  module _ (x : ℕ) (lx : Live F RF x) where
+  module _ (x : ℕ) (lx : Live (F .count) RF x) where
     abbrev p : ℕ
     p = parent (F .key x)
 
@@ -62,18 +62,18 @@ module _ (dh d fh f : List ℕ) (Q : Fine dh d fh f) (RD RF : List ℕ) (T : Tre
     hb : b < length fh / 4
     hb = mod-lt (hashOf (F .key x)) (Q .file-some)
 
-    pub parent-live : Live D RD p
+    pub parent-live : Live (D .count) RD p
     parent-live = T .files .parents x (lx, not-zero (lx .0)) (λ e. not-zero (lx .0) (e ∙ T .file-root))
 
     bucket-low : bucketBefore F x < F .count
     bucket-low =
         let H = T .files .bucket b hb in
-        before-low F (Live D RD) RF (T .files) (F .coll) (F .hash b) (λ y. place F (F .key y) ≡ b) H x (H .2 x .1 ((lx, not-zero (lx .0)), refl))
+        before-low F (Live (D .count) RD) RF (T .files) (F .coll) (F .hash b) (λ y. place F (F .key y) ≡ b) H x (H .2 x .1 ((lx, not-zero (lx .0)), refl))
 
     child-low : childBefore F x < F .count
     child-low =
         let H = T .files .child p parent-live in
-        before-low F (Live D RD) RF (T .files) (F .next) (F .head p) (λ y. parent (F .key y) ≡ p) H x (H .2 x .1 ((lx, not-zero (lx .0)), refl))
+        before-low F (Live (D .count) RD) RF (T .files) (F .next) (F .head p) (λ y. parent (F .key y) ≡ p) H x (H .2 x .1 ((lx, not-zero (lx .0)), refl))
 
     abbrev s1 : Tables
     s1 = unlinkedFile (tables dh d fh f) x
@@ -108,10 +108,10 @@ module _ (dh d fh f : List ℕ) (Q : Fine dh d fh f) (RD RF : List ℕ) (T : Tre
         (λ y. heads-after 40 d (eqb (childBefore F x) 0) p 8 (F .next x) (entry-fits 40 d p (dir-low p (parent-live .1))) (omega arith) (field-lt 48 f x 6 (Q .file-table)) y))
 
     -- with x loose
-    pub unlinked-sound : Sound (fileView (s1 .dirTable) (s1 .fileHash) (s1 .fileTable)) (Live D RD) RF x
+    pub unlinked-sound : Sound (fileView (s1 .dirTable) (s1 .fileHash) (s1 .fileTable)) (Live (D .count) RD) RF x
     unlinked-sound =
-        sound-agree (unlink F x) (fileView (s1 .dirTable) (s1 .fileHash) (s1 .fileTable)) unlinked-files RF x (Live D RD) (Live D RD) (λ p. (λ l. l, λ l. l)) (λ p l. l .0)
-        (unlinked F RF x lx (Live D RD) (T .files) hb parent-live)
+        sound-agree (unlink F x) (fileView (s1 .dirTable) (s1 .fileHash) (s1 .fileTable)) unlinked-files RF x (Live (D .count) RD) (Live (D .count) RD) (λ p. (λ l. l, λ l. l)) (λ p l. l .0)
+        (unlinked F RF x lx (Live (D .count) RD) (T .files) hb parent-live)
 
 -- ---- link
 
@@ -183,7 +183,7 @@ fine-wrote dh d fh f a b c e Q = record {
 
 -- ---- rename and delete of a file
 
-module _ (dh d fh f : List ℕ) (Q : Fine dh d fh f) (RD RF : List ℕ) (T : Tree (dirView dh d) (fileView d fh f) RD RF) (x : ℕ) (lx : Live (fileView d fh f) RF x) where
+module _ (dh d fh f : List ℕ) (Q : Fine dh d fh f) (RD RF : List ℕ) (T : Tree (dirView dh d) (fileView d fh f) RD RF) (x : ℕ) (lx : Live (fileView d fh f .count) RF x) where
   abbrev t1 : Tables
   t1 = unlinkedFile (tables dh d fh f) x
 
@@ -198,10 +198,10 @@ module _ (dh d fh f : List ℕ) (Q : Fine dh d fh f) (RD RF : List ℕ) (T : Tre
   same : Agree (unlink (fileView d fh f) x) G
   same = unlinked-files dh d fh f Q RD RF T x lx
 
-  still : Live G RF x
+  still : Live (G .count) RF x
   still = live-agree (unlink (fileView d fh f) x) G same RF x .0 lx
 
-  loose : Sound G (Live (dirView dh d) RD) RF x
+  loose : Sound G (Live (dirView dh d .count) RD) RF x
   loose = unlinked-sound dh d fh f Q RD RF T x lx
 
   in-room : x < length (t1 .fileTable) / 48
@@ -234,12 +234,12 @@ module _ (dh d fh f : List ℕ) (Q : Fine dh d fh f) (RD RF : List ℕ) (T : Tre
       (fileView (deletedFile (tables dh d fh f) x .dirTable) (deletedFile (tables dh d fh f) x .fileHash) (deletedFile (tables dh d fh f) x .fileTable)) RD (x ∷ RF)
   deleted-file-kept =
       tree-files (dirView dh d) (dirView dh (t1 .dirTable)) (fileView d fh f) G2 RD RF (x ∷ RF) T (unlinked-dirs dh d fh f Q RD RF T x lx) refl
-      (sound-agree (give G x) G2 gave-same (x ∷ RF) 0 (Live (dirView dh d) RD) (Live (dirView dh d) RD) (λ p. (λ l. l, λ l. l)) (λ p l. l .0)
-      (gave G (Live (dirView dh d) RD) RF x still loose))
+      (sound-agree (give G x) G2 gave-same (x ∷ RF) 0 (Live (dirView dh d .count) RD) (Live (dirView dh d .count) RD) (λ p. (λ l. l, λ l. l)) (λ p l. l .0)
+      (gave G (Live (dirView dh d .count) RD) RF x still loose))
 
   -- one more entry is free
   pub deleted-file-removed : removedOf G2 ≡ x ∷ RF
-  deleted-file-removed = removed-agree (give G x) G2 (Live (dirView dh d) RD) (x ∷ RF) (gave G (Live (dirView dh d) RD) RF x still loose) (gave-same .count) (gave-same .coll)
+  deleted-file-removed = removed-agree (give G x) G2 (Live (dirView dh d .count) RD) (x ∷ RF) (gave G (Live (dirView dh d .count) RD) RF x still loose) (gave-same .count) (gave-same .coll)
 
   pub deleted-file-count : G2 .count ≡ fileView d fh f .count
   deleted-file-count = gave-same .count ∙ same .count
@@ -247,8 +247,8 @@ module _ (dh d fh f : List ℕ) (Q : Fine dh d fh f) (RD RF : List ℕ) (T : Tre
   pub deleted-file-maximum : G2 .maximum ≡ fileView d fh f .maximum
   deleted-file-maximum = gave-same .maximum ∙ same .maximum
 
-  module _ (p : ℕ) (lp : Live (dirView dh d) RD p) (name : List ℕ) (bn : Bytes name)
-      (fresh : (y : ℕ) → Live (fileView d fh f) RF y → y ≢ x → fileView d fh f .key y ≢ nameKey p name) where
+  module _ (p : ℕ) (lp : Live (dirView dh d .count) RD p) (name : List ℕ) (bn : Bytes name)
+      (fresh : (y : ℕ) → Live (fileView d fh f .count) RF y → y ≢ x → fileView d fh f .key y ≢ nameKey p name) where
     abbrev t2 : Tables
     t2 = renamedFile (tables dh d fh f) x p name
 
@@ -265,6 +265,6 @@ module _ (dh d fh f : List ℕ) (Q : Fine dh d fh f) (RD RF : List ℕ) (T : Tre
         refl
         (sound-agree (link G x (nameKey p name)) (fileView (t2 .dirTable) (t2 .fileHash) (t2 .fileTable))
         (linked-files dh (t1 .dirTable) (t1 .fileHash) (t1 .fileTable) fine x p name bn (lx .0) in-room p-room) RF 0
-        (Live (dirView dh d) RD) (Live (dirView dh d) RD) (λ q. (λ l. l, λ l. l)) (λ q l. l .0)
-        (linked G RF x (nameKey p name) still (Live (dirView dh d) RD) loose
+        (Live (dirView dh d .count) RD) (Live (dirView dh d .count) RD) (λ q. (λ l. l, λ l. l)) (λ q l. l .0)
+        (linked G RF x (nameKey p name) still (Live (dirView dh d .count) RD) loose
         (λ y h e. fresh y (live-agree (unlink (fileView d fh f) x) G same RF y .1 (h .0)) (h .1) (sym (same .key y (h .0 .0)) ∙ e)) lp))

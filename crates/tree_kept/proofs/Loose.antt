@@ -56,9 +56,9 @@ removed-agree v v′ Dir R S c e =
 
 -- ---- the directories as they were to the rule, and other files
 
-pub tree-files : (D D′ F F′ : View) (RD RF RF′ : List ℕ) → Tree D F RD RF → Agree D D′ → F′ .root ≡ 0 → Sound F′ (Live D RD) RF′ 0 → Tree D′ F′ RD RF′
+pub tree-files : (D D′ F F′ : View) (RD RF RF′ : List ℕ) → Tree D F RD RF → Agree D D′ → F′ .root ≡ 0 → Sound F′ (Live (D .count) RD) RF′ 0 → Tree D′ F′ RD RF′
 tree-files D D′ F F′ RD RF RF′ T A e S = record {
-  dirs = sound-agree D D′ A RD 0 (Live D RD) (Live D′ RD) (live-agree D D′ A RD) (λ p l. l .0) (T .dirs);
+  dirs = sound-agree D D′ A RD 0 (Live (D .count) RD) (Live (D′ .count) RD) (live-agree D D′ A RD) (λ p l. l .0) (T .dirs);
   files = same-dirs F′ RF′ S;
   dir-root = A .root ∙ T .dir-root;
   file-root = e;
@@ -70,7 +70,7 @@ tree-files D D′ F F′ RD RF RF′ T A e S = record {
       (r .0, kept (up D) (up D′) y (r .0) (λ z m. ap parent (A .key z (positive (up D) y (r .0) (r .1) z m))) (r .1), r .2);
 }
   where
-    same-dirs : (v : View) (R : List ℕ) → Sound v (Live D RD) R 0 → Sound v (Live D′ RD) R 0
+    same-dirs : (v : View) (R : List ℕ) → Sound v (Live (D .count) RD) R 0 → Sound v (Live (D′ .count) RD) R 0
     same-dirs v R S = record {
       max-room = S .max-room;
       count-one = S .count-one;

@@ -27,8 +27,8 @@ use Rattle.tree_kept.proofs.MakeFile.{took-agrees}
 use Rattle.tree_kept.proofs.Dirs.{tree-agree, files-same, linked-dir, linked-heads}
 
 module _ (dh d fh f : List ℕ) (Q : Fine dh d fh f) (RD RF : List ℕ) (T : Tree (dirView dh d) (fileView d fh f) RD RF)
-    (p : ℕ) (lp : Live (dirView dh d) RD p) (name padding : List ℕ) (bn : Bytes name) (bp : Bytes padding) (sp : Space (dirView dh d))
-    (fresh : (y : ℕ) → Live (dirView dh d) RD y → dirView dh d .key y ≢ nameKey p name) where
+    (p : ℕ) (lp : Live (dirView dh d .count) RD p) (name padding : List ℕ) (bn : Bytes name) (bp : Bytes padding) (sp : Space (dirView dh d))
+    (fresh : (y : ℕ) → Live (dirView dh d .count) RD y → dirView dh d .key y ≢ nameKey p name) where
   abbrev D : View
   D = dirView dh d
 
@@ -60,7 +60,7 @@ module _ (dh d fh f : List ℕ) (Q : Fine dh d fh f) (RD RF : List ℕ) (T : Tre
   s4 = madeDir (tables dh d fh f) p name padding
 
   Tk : Took D RD (rest RD) (taken D) (take D .count)
-  Tk = took-live D (Live D RD) RD (T .dirs)
+  Tk = took-live D (Live (D .count) RD) RD (T .dirs)
 
   low0 : 40 ≤ length d
   low0 = let e = entry-fits 40 d 0 (dir-low dh d fh f Q RD RF T 0 (let a = T .dirs .count-one in omega arith)) in omega arith
@@ -70,7 +70,7 @@ module _ (dh d fh f : List ℕ) (Q : Fine dh d fh f) (RD RF : List ℕ) (T : Tre
 
   x-room : x < length d / 40
   x-room =
-      let S = took D (Live D RD) RD (T .dirs) sp in
+      let S = took D (Live (D .count) RD) RD (T .dirs) sp in
       let a = S .count-max in let b = S .max-room in let c = Tk .0 .1 in omega arith
 
   x-in : x < length d1 / 40

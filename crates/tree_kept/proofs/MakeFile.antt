@@ -109,15 +109,15 @@ module _ (dh d fh f : List ℕ) (Q : Fine dh d fh f) (RD RF : List ℕ) (T : Tre
   abbrev F : View
   F = fileView d fh f
 
-  pub carried-file-kept : (x : ℕ) → Live F RF x → (carried : List ℕ) → Bytes carried
+  pub carried-file-kept : (x : ℕ) → Live (F .count) RF x → (carried : List ℕ) → Bytes carried
       → Tree (dirView dh d) (fileView d fh (carriedFile (tables dh d fh f) x carried .fileTable)) RD RF
   carried-file-kept x lx carried bc =
       tree-files (dirView dh d) (dirView dh d) F (fileView d fh (carriedFile (tables dh d fh f) x carried .fileTable)) RD RF RF T (agree-refl (dirView dh d)) refl
       (sound-agree F (fileView d fh (carriedFile (tables dh d fh f) x carried .fileTable)) (carried-files d fh f x (file-low dh d fh f Q RD RF T x (lx .1)) carried bc) RF 0
-      (Live (dirView dh d) RD) (Live (dirView dh d) RD) (λ p. (λ l. l, λ l. l)) (λ p l. l .0) (T .files))
+      (Live (dirView dh d .count) RD) (Live (dirView dh d .count) RD) (λ p. (λ l. l, λ l. l)) (λ p l. l .0) (T .files))
 
-  module _ (p : ℕ) (lp : Live (dirView dh d) RD p) (name carried : List ℕ) (bn : Bytes name) (bc : Bytes carried) (sp : Space F)
-      (fresh : (y : ℕ) → Live F RF y → F .key y ≢ nameKey p name) where
+  module _ (p : ℕ) (lp : Live (dirView dh d .count) RD p) (name carried : List ℕ) (bn : Bytes name) (bc : Bytes carried) (sp : Space F)
+      (fresh : (y : ℕ) → Live (F .count) RF y → F .key y ≢ nameKey p name) where
     abbrev x : ℕ
     x = taken F
 
@@ -134,10 +134,10 @@ module _ (dh d fh f : List ℕ) (Q : Fine dh d fh f) (RD RF : List ℕ) (T : Tre
     t3 = madeFile (tables dh d fh f) p name carried
 
     Tk : Took F RF (rest RF) (taken F) (take F .count)
-    Tk = took-live F (Live (dirView dh d) RD) RF (T .files)
+    Tk = took-live F (Live (dirView dh d .count) RD) RF (T .files)
 
-    S0 : Sound (take F) (Live (dirView dh d) RD) (rest RF) x
-    S0 = took F (Live (dirView dh d) RD) RF (T .files) sp
+    S0 : Sound (take F) (Live (dirView dh d .count) RD) (rest RF) x
+    S0 = took F (Live (dirView dh d .count) RD) RF (T .files) sp
 
     low0 : 0 < length f / 48
     low0 = file-low dh d fh f Q RD RF T 0 (let a = T .files .count-one in omega arith)
@@ -147,10 +147,10 @@ module _ (dh d fh f : List ℕ) (Q : Fine dh d fh f) (RD RF : List ℕ) (T : Tre
         took-agrees (length fh / 4) 0 48 (hashAt fh) (λ p. field 40 d p 8) f (omega arith) (let e = entry-fits 48 f 0 low0 in omega arith) (Q .file-table)
         (let a = T .files .count-max in let b = T .files .max-room in let c = Q .file-few in omega arith)
 
-    loose : Sound G (Live (dirView dh d) RD) (rest RF) x
-    loose = sound-agree (take F) G same (rest RF) x (Live (dirView dh d) RD) (Live (dirView dh d) RD) (λ p. (λ l. l, λ l. l)) (λ p l. l .0) S0
+    loose : Sound G (Live (dirView dh d .count) RD) (rest RF) x
+    loose = sound-agree (take F) G same (rest RF) x (Live (dirView dh d .count) RD) (Live (dirView dh d .count) RD) (λ p. (λ l. l, λ l. l)) (λ p l. l .0) S0
 
-    still : Live G (rest RF) x
+    still : Live (G .count) (rest RF) x
     still = live-agree (take F) G same (rest RF) x .0 (Tk .0)
 
     fine : Fine dh d fh f1
@@ -162,14 +162,14 @@ module _ (dh d fh f : List ℕ) (Q : Fine dh d fh f) (RD RF : List ℕ) (T : Tre
     p-room : p < length d / 40
     p-room = dir-low dh d fh f Q RD RF T p (lp .1)
 
-    linked-sound : Sound (fileView (t2 .dirTable) (t2 .fileHash) (t2 .fileTable)) (Live (dirView dh d) RD) (rest RF) 0
+    linked-sound : Sound (fileView (t2 .dirTable) (t2 .fileHash) (t2 .fileTable)) (Live (dirView dh d .count) RD) (rest RF) 0
     linked-sound =
         sound-agree (link G x (nameKey p name)) (fileView (t2 .dirTable) (t2 .fileHash) (t2 .fileTable)) (linked-files dh d fh f1 fine x p name bn (Tk .0 .0) in-room p-room) (rest RF) 0
-        (Live (dirView dh d) RD) (Live (dirView dh d) RD) (λ q. (λ l. l, λ l. l)) (λ q l. l .0)
-        (linked G (rest RF) x (nameKey p name) still (Live (dirView dh d) RD) loose
+        (Live (dirView dh d .count) RD) (Live (dirView dh d .count) RD) (λ q. (λ l. l, λ l. l)) (λ q l. l .0)
+        (linked G (rest RF) x (nameKey p name) still (Live (dirView dh d .count) RD) loose
         (λ y h e.
         ⊎-elim (λ (k : y ≡ taken F). h .1 k)
-        (λ (k : (y ≢ taken F) × Live F RF y). fresh y (k .1) (sym (same .key y (h .0 .0)) ∙ e))
+        (λ (k : (y ≢ taken F) × Live (F .count) RF y). fresh y (k .1) (sym (same .key y (h .0 .0)) ∙ e))
         (Tk .2 y .0 (live-agree (take F) G same (rest RF) y .1 (h .0)))) lp)
 
     pub made-file-kept : Tree (dirView dh (t3 .dirTable)) (fileView (t3 .dirTable) (t3 .fileHash) (t3 .fileTable)) RD (rest RF)
@@ -179,7 +179,7 @@ module _ (dh d fh f : List ℕ) (Q : Fine dh d fh f) (RD RF : List ℕ) (T : Tre
         (sound-agree (fileView (t2 .dirTable) (t2 .fileHash) (t2 .fileTable)) (fileView (t3 .dirTable) (t3 .fileHash) (t3 .fileTable))
         (carried-files (t2 .dirTable) (t2 .fileHash) (t2 .fileTable) x
         (let a = linked-sound .count-max in let b = linked-sound .max-room in let c = in-file in omega arith) carried bc)
-        (rest RF) 0 (Live (dirView dh d) RD) (Live (dirView dh d) RD) (λ q. (λ l. l, λ l. l)) (λ q l. l .0) linked-sound)
+        (rest RF) 0 (Live (dirView dh d .count) RD) (Live (dirView dh d .count) RD) (λ q. (λ l. l, λ l. l)) (λ q l. l .0) linked-sound)
       where
         in-file : x < fileView (t2 .dirTable) (t2 .fileHash) (t2 .fileTable) .count
         in-file =

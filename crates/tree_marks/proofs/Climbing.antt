@@ -11,9 +11,11 @@ use Rattle.links.specs.Links.{_∈_, Links}
 use Rattle.links.proofs.Laws.{one-list, fewer}
 use Rattle.links.proofs.Held.{same-or}
 use Rattle.links.proofs.Way.{Way, way-on, way-end, way-new, way-part, in-left, in-right}
-use Rattle.tree_marks.specs.Marks.{gone, markOf, Within, Marked, Tells}
-use Rattle.tree_marks.specs.Gather.{Alive, Told}
-use Rattle.tree_marks.specs.Climb.{Tops, Flat, Up, Rising, Risen, AllRisen}
+use Rattle.order.specs.Tells.{Tells}
+use Rattle.tree_marks.specs.Marks.{gone, markOf, Within, Marked}
+use Rattle.tree_table.specs.View.{Live, Reaches}
+use Rattle.tree_marks.specs.Gather.{Told}
+use Rattle.tree_marks.specs.Climb.{Tops, Flat, Rising, Risen, AllRisen}
 use Rattle.tree_marks.proofs.Walks.{in-snoc, within-refl, within-trans}
 use Rattle.tree_marks.proofs.Gathering.{in-or}
 
@@ -184,34 +186,34 @@ module _ {count y : ℕ} {work₀ work : List ℕ} {x p : ℕ} (F : Flattening c
 -- ---- what the marks know
 
 module _ (u : ℕ → ℕ) (count : ℕ) (R work : List ℕ) (S : Rising u count R work) where
-  pub up-first : (y : ℕ) (ps : List ℕ) → Alive count R y → Links (markOf work) y ps → Up u y
+  pub up-first : (y : ℕ) (ps : List ℕ) → Live count R y → Links (markOf work) y ps → Reaches u y
   up-first y [] al l = absurd (let a : 0 < y = al .0 in omega arith)
   up-first y (a ∷ qs) al l =
       ⊎-elim
-      (λ (k : (markOf work a ≡ 0) × Up u a). subst (λ z. Up u z) (sym (l .0)) (k .1))
-      (λ (k : (markOf work a ≡ u a) × Alive count R (u a)).
+      (λ (k : (markOf work a ≡ 0) × Reaches u a). subst (λ z. Reaches u z) (sym (l .0)) (k .1))
+      (λ (k : (markOf work a ≡ u a) × Live count R (u a)).
       let r = up-first (u a) qs (k .1) (subst (λ z. Links (markOf work) z qs) (k .0) (l .2)) in
       (a ∷ r .0, (l .0, l .1, r .1), inr (r .2)))
-      (S .at a (subst (λ z. Alive count R z) (l .0) al))
+      (S .at a (subst (λ z. Live count R z) (l .0) al))
 
-  pub up-all : (y : ℕ) (ps : List ℕ) → Alive count R y → Links (markOf work) y ps → (z : ℕ) → z ∈ ps → Alive count R z × Up u z
+  pub up-all : (y : ℕ) (ps : List ℕ) → Live count R y → Links (markOf work) y ps → (z : ℕ) → z ∈ ps → Live count R z × Reaches u z
   up-all y (a ∷ qs) al l z (inl e) =
-      subst (λ w. Alive count R w × Up u w) (l .0 ∙ sym e) (al, up-first y (a ∷ qs) al l)
+      subst (λ w. Live count R w × Reaches u w) (l .0 ∙ sym e) (al, up-first y (a ∷ qs) al l)
   up-all y (a ∷ qs) al l z (inr m) =
       ⊎-elim
-      (λ (k : (markOf work a ≡ 0) × Up u a).
+      (λ (k : (markOf work a ≡ 0) × Reaches u a).
       let n : qs ≡ [] = one-list (markOf work) (markOf work a) 0 qs [] (k .0) (l .2) refl in
       absurd (subst (λ w. z ∈ w) n m))
-      (λ (k : (markOf work a ≡ u a) × Alive count R (u a)).
+      (λ (k : (markOf work a ≡ u a) × Live count R (u a)).
       up-all (u a) qs (k .1) (subst (λ w. Links (markOf work) w qs) (k .0) (l .2)) z m)
-      (S .at a (subst (λ w. Alive count R w) (l .0) al))
+      (S .at a (subst (λ w. Live count R w) (l .0) al))
 
-  pub ends-of : u 1 ≡ 0 → (y : ℕ) (xs : List ℕ) → Alive count R y → Links u y xs → 1 ∈ xs → Tops count work y
+  pub ends-of : u 1 ≡ 0 → (y : ℕ) (xs : List ℕ) → Live count R y → Links u y xs → 1 ∈ xs → Tops count work y
   ends-of u1 y (a ∷ xs) al l m =
-      let la : Alive count R a = subst (λ w. Alive count R w) (l .0) al in
+      let la : Live count R a = subst (λ w. Live count R w) (l .0) al in
       ⊎-elim
-      (λ (k : (markOf work a ≡ 0) × Up u a). (a ∷ [], (l .0, l .1, k .0), λ z. ⊎-elim (λ (e : z ≡ a). let b : a < count = la .1 in omega arith) absurd))
-      (λ (k : (markOf work a ≡ u a) × Alive count R (u a)).
+      (λ (k : (markOf work a ≡ 0) × Reaches u a). (a ∷ [], (l .0, l .1, k .0), λ z. ⊎-elim (λ (e : z ≡ a). let b : a < count = la .1 in omega arith) absurd))
+      (λ (k : (markOf work a ≡ u a) × Live count R (u a)).
       ⊎-elim
       (λ (e : 1 ≡ a). absurd (let b : 0 < u a = k .1 .0 in let q : u a ≡ 0 = ap u (sym e) ∙ u1 in omega arith))
       (λ (j : 1 ∈ xs).
@@ -224,18 +226,18 @@ module _ (u : ℕ → ℕ) (count : ℕ) (R work : List ℕ) (S : Rising u count
       (S .at a la)
 
   -- marks set to 0 on the way up
-  pub rising-flat : (work′ : List ℕ) (y : ℕ) (ps : List ℕ) → Alive count R y → Links (markOf work) y ps → Marked (markOf work) (markOf work′) 0 ps → Rising u count R work′
+  pub rising-flat : (work′ : List ℕ) (y : ℕ) (ps : List ℕ) → Live count R y → Links (markOf work) y ps → Marked (markOf work) (markOf work′) 0 ps → Rising u count R work′
   rising-flat work′ y ps al l M = record {
     at = λ z lz.
         ⊎-elim
         (λ (m : z ∈ ps). inl (M .marked z m, up-all y ps al l z m .1))
         (λ (m : z ∈ ps → ⊥).
         let e : markOf work′ z ≡ markOf work z = M .others z m in
-        ⊎-elim (λ (k : (markOf work z ≡ 0) × Up u z). inl (e ∙ k .0, k .1)) (λ (k : (markOf work z ≡ u z) × Alive count R (u z)). inr (e ∙ k .0, k .1)) (S .at z lz))
+        ⊎-elim (λ (k : (markOf work z ≡ 0) × Reaches u z). inl (e ∙ k .0, k .1)) (λ (k : (markOf work z ≡ u z) × Live count R (u z)). inr (e ∙ k .0, k .1)) (S .at z lz))
         (in-or z ps);
   }
 
-  pub told-flat : Told count R work → (work′ : List ℕ) (y : ℕ) (ps : List ℕ) → Alive count R y → Links (markOf work) y ps → Marked (markOf work) (markOf work′) 0 ps → Told count R work′
+  pub told-flat : Told count R work → (work′ : List ℕ) (y : ℕ) (ps : List ℕ) → Live count R y → Links (markOf work) y ps → Marked (markOf work) (markOf work′) 0 ps → Told count R work′
   told-flat T work′ y ps al l M = record {
     dead = λ p a b.
         ⊎-elim
@@ -250,7 +252,7 @@ module _ (u : ℕ → ℕ) (count : ℕ) (R work : List ℕ) (S : Rising u count
 
 -- ---- rises
 
-pub alive-of : {count : ℕ} {R work : List ℕ} {y i m : ℕ} → Told count R work → 0 < y → y < count → i ≡ y → m ≡ getD work i 0 → (m ≡ gone → ⊥) → Alive count R y
+pub alive-of : {count : ℕ} {R work : List ℕ} {y i m : ℕ} → Told count R work → 0 < y → y < count → i ≡ y → m ≡ getD work i 0 → (m ≡ gone → ⊥) → Live count R y
 alive-of {count} {R} {work} {y} {i} {m} T a b ei em n = (a, b, λ k. n (em ∙ ap (markOf work) ei ∙ T .dead y a b .0 k))
 
 pub rises-gone : {count y : ℕ} {work : List ℕ} (i m : ℕ) → 0 < y → y < count → i ≡ y → m ≡ getD work i 0 → m ≡ gone → Risen count y work work true
@@ -265,7 +267,7 @@ pub rises-not : {count y : ℕ} {work : List ℕ} {r : Bool} (i m : ℕ) → 0 <
 rises-not {count} {y} {work} {r} i m a b ei em n C f = record {
   good = λ e. absurd (false≢true e);
   bad = λ _ u R u1 T S.
-      let al : Alive count R y = alive-of T a b ei em n in
+      let al : Live count R y = alive-of T a b ei em n in
       (al, λ p. false≢true (sym f ∙ C .only (ends-of u count R work S u1 y (p .0) al (p .1) (p .2))));
   within = within-refl 0 count work;
 }
@@ -274,7 +276,7 @@ pub rises-up : {count y : ℕ} {work work′ : List ℕ} {r : Bool} (i m : ℕ) 
     → Flat count y work work′ → Risen count y work work′ true
 rises-up {count} {y} {work} {work′} {r} i m a b ei em n C t F = record {
   good = λ _ u R T S.
-      let al : Alive count R y = alive-of T a b ei em n in
+      let al : Live count R y = alive-of T a b ei em n in
       let E = C .yes t in
       let M = F .marks (E .0) (E .1) in (
         told-flat u count R work S T work′ y (E .0) al (E .1) M,
@@ -290,7 +292,7 @@ rises-up {count} {y} {work} {work′} {r} i m a b ei em n C t F = record {
 pub record Reaching (count : ℕ) (work₀ work : List ℕ) (y : ℕ) : Type 0 where
   pub some : 0 < y
   pub known : (u : ℕ → ℕ) (R : List ℕ) → Told count R work₀ → Rising u count R work₀
-      → Told count R work × Rising u count R work × ((z : ℕ) → z < y → Alive count R z → Up u z)
+      → Told count R work × Rising u count R work × ((z : ℕ) → z < y → Live count R z → Reaches u z)
   pub within : Within 0 count work₀ work
 
 pub reach-begin : (count : ℕ) (work : List ℕ) → Reaching count work work 1
@@ -310,7 +312,7 @@ module _ {count : ℕ} {work₀ work work′ : List ℕ} {y : ℕ} {r : Bool} (G
           n .0,
           n .1,
           λ z h al.
-              ⊎-elim (λ (e : z ≡ y). subst (λ w. Up u w) (sym e) (n .2 (subst (λ w. Alive count R w) e al))) (λ (e : z ≢ y). k .2 z (omega arith) al) (same-or z y),
+              ⊎-elim (λ (e : z ≡ y). subst (λ w. Reaches u w) (sym e) (n .2 (subst (λ w. Live count R w) e al))) (λ (e : z ≢ y). k .2 z (omega arith) al) (same-or z y),
         );
     within = within-trans (G .within) (N .within);
   }

@@ -11,9 +11,11 @@ use lib.ListN.{length, getD, set}
 use Rattle.links.specs.Links.{_∈_, Links, Holds}
 use Rattle.links.proofs.Laws.{one-list, positive}
 use Rattle.links.proofs.Held.{same-or}
-use Rattle.tree_marks.specs.Marks.{gone, markAt, Free, Marked, Listed, Within, Tells}
+use Rattle.order.specs.Tells.{Tells}
+use Rattle.tree_marks.specs.Marks.{gone, markAt, Free, Marked, Listed, Within}
 use Rattle.tree_marks.proofs.Walks.{le-or-lt, within-refl, within-trans, within-set, mark-same, mark-other}
-use Rattle.tree_marks.specs.Gather.{Alive, Gathered, Gathers, any, Told, Dir, Kept, Named}
+use Rattle.tree_table.specs.View.{Live}
+use Rattle.tree_marks.specs.Gather.{Gathered, Gathers, any, Told, Dir, Kept, Named}
 
 pub in-or : (y : ℕ) (xs : List ℕ) → (y ∈ xs) ⊎ (y ∈ xs → ⊥)
 in-or y [] = inr (λ h. h)
@@ -94,8 +96,8 @@ module _ (nx : ℕ → ℕ) (count : ℕ) (head : ℕ → ℕ) (want : ℕ → T
     }
 
     -- if the lists are right, the next one is free: a walk that finds it is not shows that they are not
-    pub gather-free : (f : ℕ → ℕ) → ((j : ℕ) → 0 < j → j ≤ i → want j → Holds nx (head j) (λ y. Alive count R y × (f y ≡ j)))
-        → (wi : want i) → (H : Holds nx (head i) (λ y. Alive count R y × (f y ≡ i))) → Free count W (H .0)
+    pub gather-free : (f : ℕ → ℕ) → ((j : ℕ) → 0 < j → j ≤ i → want j → Holds nx (head j) (λ y. Live count R y × (f y ≡ j)))
+        → (wi : want i) → (H : Holds nx (head i) (λ y. Live count R y × (f y ≡ i))) → Free count W (H .0)
     gather-free f right wi H y m =
         let q = H .2 y .0 m in (
           q .0 .1,
@@ -115,7 +117,7 @@ module _ (nx : ℕ → ℕ) (count : ℕ) (head : ℕ → ℕ) (want : ℕ → T
   -- all walked, and every mark is `gone` or what the entry itself says: each list holds exactly its entries
   pub gathered : (n : ℕ) (W : ℕ → ℕ) → n ≤ gone → Gathered nx count head want R n W → (f : ℕ → ℕ)
       → ((y : ℕ) → 0 < y → y < count → (W y ≡ gone) ⊎ (W y ≡ f y))
-      → (j : ℕ) → 0 < j → j < n → want j → Holds nx (head j) (λ y. Alive count R y × (f y ≡ j))
+      → (j : ℕ) → 0 < j → j < n → want j → Holds nx (head j) (λ y. Live count R y × (f y ≡ j))
   gathered n W hn G f ok j j0 jn wj =
       let L = G .list j j0 jn wj in (
         L .0,
@@ -135,8 +137,8 @@ module _ (nx : ℕ → ℕ) (count : ℕ) (head : ℕ → ℕ) (want : ℕ → T
 
   -- and if the lists are right, every mark is so
   pub gathered-ok : (n : ℕ) (W : ℕ → ℕ) → Gathered nx count head want R n W → (f : ℕ → ℕ)
-      → ((j : ℕ) → 0 < j → j < n → want j → Holds nx (head j) (λ y. Alive count R y × (f y ≡ j)))
-      → ((y : ℕ) → Alive count R y → (0 < f y) × (f y < n) × want (f y))
+      → ((j : ℕ) → 0 < j → j < n → want j → Holds nx (head j) (λ y. Live count R y × (f y ≡ j)))
+      → ((y : ℕ) → Live count R y → (0 < f y) × (f y < n) × want (f y))
       → (y : ℕ) → 0 < y → y < count → (W y ≡ gone) ⊎ (W y ≡ f y)
   gathered-ok n W G f right w y y0 yc =
       ⊎-elim (λ (h : y ∈ R). inl (G .removed y .0 h))
@@ -203,7 +205,7 @@ pub record Children (nx : ℕ → ℕ) (count : ℕ) (head : ℕ → ℕ) (n off
   pub some : 0 < p
   pub most : (p ≤ n) ⊎ (p ≡ 1)
   pub dead : (j : ℕ) → (getD work j 0 ≡ gone) ↔ (getD work₀ j 0 ≡ gone)
-  pub lists : (RD R : List ℕ) → Told n RD work₀ → Gathered nx count head (Alive n RD) R 1 (markAt work₀ off) → Gathered nx count head (Alive n RD) R p (markAt work off)
+  pub lists : (RD R : List ℕ) → Told n RD work₀ → Gathered nx count head (Live n RD) R 1 (markAt work₀ off) → Gathered nx count head (Live n RD) R p (markAt work off)
   pub within : Within off count work₀ work
 
 pub children-begin : (nx : ℕ → ℕ) (count : ℕ) (head : ℕ → ℕ) (n off : ℕ) (work : List ℕ) → Children nx count head n off work work 1
@@ -217,7 +219,7 @@ children-begin nx count head n off work = record {
 
 module _ {nx : ℕ → ℕ} {count : ℕ} {head : ℕ → ℕ} {n off : ℕ} {work₀ work work′ : List ℕ} {p : ℕ} {r : Bool} (C : Children nx count head n off work₀ work p) (hp : p < n) (hm : n ≤ 65536)
     (D : Dir nx count head p off work work′ r) where
-  alive : (RD : List ℕ) → Told n RD work₀ → (getD work p 0 ≡ gone → ⊥) → Alive n RD p
+  alive : (RD : List ℕ) → Told n RD work₀ → (getD work p 0 ≡ gone → ⊥) → Live n RD p
   alive RD T k = (C .some, hp, λ m. k (C .dead p .1 (T .dead p (C .some) hp .0 m)))
 
   pub children-on : r ≡ true → Children nx count head n off work₀ work′ (p + 1)
@@ -231,7 +233,7 @@ module _ {nx : ℕ → ℕ} {count : ℕ} {head : ℕ → ℕ} {n off : ℕ} {wo
             dead = C .dead;
             within = C .within;
             lists = λ RD R T G.
-                gather-skip nx count head (Alive n RD) R p (C .some) (omega arith) (markAt work off) (C .lists RD R T G)
+                gather-skip nx count head (Live n RD) R p (C .some) (omega arith) (markAt work off) (C .lists RD R T G)
                 (λ a. a .2 (T .dead p (C .some) hp .1 (C .dead p .0 z)));
           })
 
@@ -249,7 +251,7 @@ module _ {nx : ℕ → ℕ} {count : ℕ} {head : ℕ → ℕ} {n off : ℕ} {wo
           }
 
   pub children-stop : r ≡ false
-      → ((RD R : List ℕ) → Told n RD work₀ → Gathered nx count head (Alive n RD) R 1 (markAt work₀ off) → Gathers nx count head (Alive n RD) n off R work′ false)
+      → ((RD R : List ℕ) → Told n RD work₀ → Gathered nx count head (Live n RD) R 1 (markAt work₀ off) → Gathers nx count head (Live n RD) n off R work′ false)
       × Within off count work₀ work′
   children-stop t =
       let k : getD work p 0 ≡ gone → ⊥ = λ z. false≢true (sym t ∙ D .none z .0) in
@@ -258,7 +260,7 @@ module _ {nx : ℕ → ℕ} {count : ℕ} {head : ℕ → ℕ} {n off : ℕ} {wo
 
 -- a table of no directories has no lists
 pub children-done : {nx : ℕ → ℕ} {count : ℕ} {head : ℕ → ℕ} {n off : ℕ} {work₀ work : List ℕ} {p : ℕ} → Children nx count head n off work₀ work p → n ≤ p → 1 ≤ n
-    → ((RD R : List ℕ) → Told n RD work₀ → Gathered nx count head (Alive n RD) R 1 (markAt work₀ off) → Gathers nx count head (Alive n RD) n off R work true)
+    → ((RD R : List ℕ) → Told n RD work₀ → Gathered nx count head (Live n RD) R 1 (markAt work₀ off) → Gathers nx count head (Live n RD) n off R work true)
     × Within off count work₀ work
 children-done {nx} {count} {head} {n} {off} {work₀} {work} {p} C h h1 =
     let e : p ≡ n = ⊎-elim (λ (k : p ≤ n). omega arith) (λ (k : p ≡ 1). omega arith) (C .most) in

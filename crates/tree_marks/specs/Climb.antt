@@ -6,7 +6,8 @@ use mathlib.Core.Bool.{Bool, true, false}
 use Prim.Native.Nat.{ℕ, _<_}
 use Rattle.links.specs.Links.{_∈_, Links}
 use Rattle.tree_marks.specs.Marks.{markOf, Within, Marked}
-use Rattle.tree_marks.specs.Gather.{Alive, Told}
+use Rattle.tree_table.specs.View.{Live, Reaches}
+use Rattle.tree_marks.specs.Gather.{Told}
 
 -- the list of marks from y on ends, and lies below count
 abbrev pub Tops : ℕ → List ℕ → ℕ → Type 0
@@ -17,24 +18,20 @@ pub record Flat (count y : ℕ) (work work′ : List ℕ) : Type 0 where
   pub marks : (ps : List ℕ) → Links (markOf work) y ps → Marked (markOf work) (markOf work′) 0 ps
   pub within : Within 0 count work work′
 
--- going up by u from y one comes to inode 1
-abbrev pub Up : (ℕ → ℕ) → ℕ → Type 0
-Up u y = (xs : List ℕ) × Links u y xs × (1 ∈ xs)
-
 -- each live directory's mark is its parent, which is live; or 0, and it comes to the root
 pub record Rising (u : ℕ → ℕ) (count : ℕ) (R work : List ℕ) : Type 0 where
-  pub at : (y : ℕ) → Alive count R y → ((markOf work y ≡ 0) × Up u y) ⊎ ((markOf work y ≡ u y) × Alive count R (u y))
+  pub at : (y : ℕ) → Live count R y → ((markOf work y ≡ 0) × Reaches u y) ⊎ ((markOf work y ≡ u y) × Live count R (u y))
 
 -- what is told of one directory: that it comes to the root, as the marks now know; or that it does not
 pub record Risen (count y : ℕ) (work work′ : List ℕ) (r : Bool) : Type 0 where
   pub good : r ≡ true → (u : ℕ → ℕ) (R : List ℕ) → Told count R work → Rising u count R work
-      → Told count R work′ × Rising u count R work′ × (Alive count R y → Up u y)
-  pub bad : r ≡ false → (u : ℕ → ℕ) (R : List ℕ) → u 1 ≡ 0 → Told count R work → Rising u count R work → Alive count R y × (Up u y → ⊥)
+      → Told count R work′ × Rising u count R work′ × (Live count R y → Reaches u y)
+  pub bad : r ≡ false → (u : ℕ → ℕ) (R : List ℕ) → u 1 ≡ 0 → Told count R work → Rising u count R work → Live count R y × (Reaches u y → ⊥)
   pub within : Within 0 count work work′
 
 -- what is told of all directories
 pub record AllRisen (count : ℕ) (work work′ : List ℕ) (r : Bool) : Type 0 where
   pub good : r ≡ true → (u : ℕ → ℕ) (R : List ℕ) → Told count R work → Rising u count R work
-      → Told count R work′ × ((y : ℕ) → Alive count R y → Up u y)
-  pub bad : r ≡ false → (u : ℕ → ℕ) (R : List ℕ) → u 1 ≡ 0 → Told count R work → Rising u count R work → ((y : ℕ) → Alive count R y → Up u y) → ⊥
+      → Told count R work′ × ((y : ℕ) → Live count R y → Reaches u y)
+  pub bad : r ≡ false → (u : ℕ → ℕ) (R : List ℕ) → u 1 ≡ 0 → Told count R work → Rising u count R work → ((y : ℕ) → Live count R y → Reaches u y) → ⊥
   pub within : Within 0 count work work′

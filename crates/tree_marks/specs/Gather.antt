@@ -7,11 +7,8 @@ use Prim.Native.Nat.{ℕ, _+_, _-_, _*_, _≤_, _<_}
 use lib.ListN.{length, getD}
 use Rattle.links.specs.Links.{_∈_, Links, Holds}
 use Rattle.words.specs.Word.{word}
+use Rattle.tree_table.specs.View.{Live}
 use Rattle.tree_marks.specs.Marks.{gone, markAt, Within, Listed}
-
--- from 1 below count and not removed
-abbrev pub Alive : ℕ → List ℕ → ℕ → Type 0
-Alive count R y = (0 < y) × (y < count) × (y ∈ R → ⊥)
 
 -- the wanted lists with numbers from 1 below i were gone along: their entries have their number as mark, the removed ones R have `gone`, all others 0
 pub record Gathered (nx : ℕ → ℕ) (count : ℕ) (head : ℕ → ℕ) (want : ℕ → Type 0) (R : List ℕ) (i : ℕ) (W : ℕ → ℕ) : Type 0 where
@@ -23,7 +20,7 @@ pub record Gathered (nx : ℕ → ℕ) (count : ℕ) (head : ℕ → ℕ) (want 
 -- what going along the wanted lists below n answers: all of them, gathered; or that they do not each hold exactly the entries that name them by f
 pub record Gathers (nx : ℕ → ℕ) (count : ℕ) (head : ℕ → ℕ) (want : ℕ → Type 0) (n off : ℕ) (R work′ : List ℕ) (r : Bool) : Type 0 where
   pub good : r ≡ true → Gathered nx count head want R n (markAt work′ off)
-  pub bad : r ≡ false → (f : ℕ → ℕ) → ((j : ℕ) → 0 < j → j < n → want j → Holds nx (head j) (λ y. Alive count R y × (f y ≡ j))) → ⊥
+  pub bad : r ≡ false → (f : ℕ → ℕ) → ((j : ℕ) → 0 < j → j < n → want j → Holds nx (head j) (λ y. Live count R y × (f y ≡ j))) → ⊥
 
 -- bucket j, counted from 1, starts at the hash word j - 1
 abbrev pub bucketAt : List ℕ → ℕ → ℕ

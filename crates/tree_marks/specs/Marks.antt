@@ -18,11 +18,6 @@ markAt work off y = getD work (off + y) 0
 abbrev pub markOf : List ℕ → ℕ → ℕ
 markOf work y = getD work y 0
 
--- a bool that tells whether P holds
-pub record Tells (P : Type 0) (r : Bool) : Type 0 where
-  pub yes : r ≡ true → P
-  pub only : P → r ≡ true
-
 -- only `count` places from `off` on have changed
 pub record Within (off count : ℕ) (work work′ : List ℕ) : Type 0 where
   pub size : length work′ ≡ length work

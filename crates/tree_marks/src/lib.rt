@@ -4,8 +4,10 @@ ghost use mathlib.Core.List.{List};
 ghost use Prim.Native.Nat.{ℕ, _+_, _-_, _*_, _≤_, _<_};
 ghost use lib.ListN.{length, getD};
 ghost use Rattle.tree_table.specs.Chain.{linkAt};
-ghost use Rattle.tree_marks.specs.Marks.{gone, markAt, markOf, Tells, Within, Marked, Listed};
-ghost use Rattle.tree_marks.specs.Gather.{Alive, Gathered, Gathers, Told, Dir, Named, Kept};
+ghost use Rattle.order.specs.Tells.{Tells};
+ghost use Rattle.tree_marks.specs.Marks.{gone, markAt, markOf, Within, Marked, Listed};
+ghost use Rattle.tree_table.specs.View.{Live};
+ghost use Rattle.tree_marks.specs.Gather.{Gathered, Gathers, Told, Dir, Named, Kept};
 ghost use Rattle.tree_marks.specs.Climb.{Tops, Flat, Risen, AllRisen};
 
 // Goes along a list and marks its entries. It stops at an entry that is not below count, or that is marked.
@@ -78,8 +80,8 @@ pub fn mark_children(
     requires { ⌜ (bound * 40 ≤ length (now dirs)) × (head + 4 ≤ 40) × (1 ≤ bound) × (bound ≤ 65536) × (bound ≤ length (now work))
         × (count * w ≤ length (now table)) × (24 ≤ w) × (off + count ≤ length (now work)) ⌝ }
     ensures { λ r. ⌜ ((RD R : List ℕ) → Told bound RD (now (work .entry))
-        → Gathered (linkAt (now (table .entry)) w 20) count (linkAt (now (dirs .entry)) 40 head) (Alive bound RD) R 1 (markAt (now (work .entry)) off)
-        → Gathers (linkAt (now (table .entry)) w 20) count (linkAt (now (dirs .entry)) 40 head) (Alive bound RD) bound off R (now (work .exit)) r)
+        → Gathered (linkAt (now (table .entry)) w 20) count (linkAt (now (dirs .entry)) 40 head) (Live bound RD) R 1 (markAt (now (work .entry)) off)
+        → Gathers (linkAt (now (table .entry)) w 20) count (linkAt (now (dirs .entry)) 40 head) (Live bound RD) bound off R (now (work .exit)) r)
         × Within off count (now (work .entry)) (now (work .exit)) ⌝ }
 {
     let mut p: u32 = 1;

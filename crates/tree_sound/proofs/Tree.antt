@@ -14,10 +14,10 @@ use Rattle.links.specs.Change.{pick, walk, upd}
 use Rattle.links.proofs.Laws.{by-eq, positive, walked, fewer, kept, one-list, first-in, distinct}
 use Rattle.links.proofs.Held.{same-or, upd-same, upd-other, holds-kept}
 use Rattle.tree_key.specs.Hash.{hashOf}
-use Rattle.tree_table.specs.View.{View, parent, place, Live, LiveIn, removedOf}
+use Rattle.tree_table.specs.View.{View, parent, place, Live, LiveIn, removedOf, Reaches}
 use Rattle.tree_table.specs.Steps.{taken}
 use Rattle.tree_table.proofs.Table.{Here, Sound, link, linked, unlink, unlinked, unlinked-next, other, take, rest, give, Space, Took, took, took-live, gave, gave-live, not-zero}
-use Rattle.tree_sound.specs.Sound.{up, Reaches}
+use Rattle.tree_sound.specs.Sound.{up}
 
 -- ---- going up by parents
 
@@ -49,14 +49,14 @@ module _ (u u′ : ℕ → ℕ) (x q : ℕ) (ex : u′ x ≡ q) (eo : (y : ℕ) 
 
 -- the two tables together, each with no loose entry; RD and RF are their removed lists
 pub record Tree (D F : View) (RD RF : List ℕ) : Type 0 where
-  pub dirs : Sound D (Live D RD) RD 0
-  pub files : Sound F (Live D RD) RF 0
+  pub dirs : Sound D (Live (D .count) RD) RD 0
+  pub files : Sound F (Live (D .count) RD) RF 0
   pub dir-root : D .root ≡ 1
   pub file-root : F .root ≡ 0
-  pub root-live : Live D RD 1
+  pub root-live : Live (D .count) RD 1
   pub root-key : D .key 1 ≡ 0 ∷ 0 ∷ 0 ∷ 0 ∷ 0 ∷ []
   pub root-next : D .next 1 ≡ 0
-  pub reach : (y : ℕ) → Live D RD y → Reaches D y
+  pub reach : (y : ℕ) → Live (D .count) RD y → Reaches (up D) y
 
 abbrev pub heads : View → (ℕ → ℕ) → View
 heads v head = record {
@@ -77,13 +77,13 @@ module _ (D F : View) (RD RF : List ℕ) (S : Tree D F RD RF) where
   root-up = ap parent (S .root-key)
 
   -- the directories above a live one are live
-  above-live : (y : ℕ) (xs : List ℕ) → Live D RD y → Links (up D) y xs → (z : ℕ) → z ∈ xs → Live D RD z
-  above-live y (a ∷ xs) ly l z (inl e) = subst (λ w. Live D RD w) (l .0 ∙ sym e) ly
+  above-live : (y : ℕ) (xs : List ℕ) → Live (D .count) RD y → Links (up D) y xs → (z : ℕ) → z ∈ xs → Live (D .count) RD z
+  above-live y (a ∷ xs) ly l z (inl e) = subst (λ w. Live (D .count) RD w) (l .0 ∙ sym e) ly
   above-live y (a ∷ xs) ly l z (inr m) =
       ⊎-elim
       (λ (e : a ≡ 1). absurd (none xs (subst (λ w. Links (up D) w xs) (ap (up D) e ∙ root-up) (l .2)) m))
       (λ (n : a ≢ 1).
-      let la : Live D RD a = subst (λ w. Live D RD w) (l .0) ly in
+      let la : Live (D .count) RD a = subst (λ w. Live (D .count) RD w) (l .0) ly in
       above-live (up D a) xs (S .dirs .parents a (la, not-zero (la .0)) (λ (e : a ≡ D .root). n (e ∙ S .dir-root))) (l .2) z m)
       (same-or a 1)
     where
@@ -92,14 +92,14 @@ module _ (D F : View) (RD RF : List ℕ) (S : Tree D F RD RF) where
 
   -- no live entry of the table v has a parent that is no live directory, but for the root
   -- ---- rename a file
-  pub renamed-file : (x : ℕ) (k : List ℕ) → Live F RF x → Live D RD (parent k) → 0 < F .buckets
-      → ((y : ℕ) → Live F RF y → y ≢ x → F .key y ≢ k)
+  pub renamed-file : (x : ℕ) (k : List ℕ) → Live (F .count) RF x → Live (D .count) RD (parent k) → 0 < F .buckets
+      → ((y : ℕ) → Live (F .count) RF y → y ≢ x → F .key y ≢ k)
       → Tree D (link (unlink F x) x k) RD RF
   renamed-file x k lx lp hb fresh = record {
     dirs = S .dirs;
     files =
-        linked (unlink F x) RF x k lx (Live D RD)
-        (unlinked F RF x lx (Live D RD) (S .files) (mod-lt (hashOf (F .key x)) hb)
+        linked (unlink F x) RF x k lx (Live (D .count) RD)
+        (unlinked F RF x lx (Live (D .count) RD) (S .files) (mod-lt (hashOf (F .key x)) hb)
         (S .files .parents x (lx, not-zero (lx .0)) (λ (e : x ≡ F .root). not-zero (lx .0) (e ∙ S .file-root))))
         (λ y h. fresh y (h .0) (h .1)) lp;
     dir-root = S .dir-root;
@@ -111,16 +111,16 @@ module _ (D F : View) (RD RF : List ℕ) (S : Tree D F RD RF) where
   }
 
   -- ---- rename a directory, to a parent that is not it or below it
-  pub renamed-dir : (x : ℕ) (k : List ℕ) → Live D RD x → x ≢ 1 → Live D RD (parent k) → 0 < D .buckets
-      → ((y : ℕ) → Live D RD y → y ≢ x → D .key y ≢ k)
+  pub renamed-dir : (x : ℕ) (k : List ℕ) → Live (D .count) RD x → x ≢ 1 → Live (D .count) RD (parent k) → 0 < D .buckets
+      → ((y : ℕ) → Live (D .count) RD y → y ≢ x → D .key y ≢ k)
       → ((qs : List ℕ) → Links (up D) (parent k) qs → x ∈ qs → ⊥)
       → Tree (link (unlink D x) x k) F RD RF
   renamed-dir x k lx n1 lp hb fresh above =
-      let d : Live D RD (parent (D .key x)) = S .dirs .parents x (lx, not-zero (lx .0)) (λ (e : x ≡ D .root). n1 (e ∙ S .dir-root)) in
+      let d : Live (D .count) RD (parent (D .key x)) = S .dirs .parents x (lx, not-zero (lx .0)) (λ (e : x ≡ D .root). n1 (e ∙ S .dir-root)) in
       record {
         dirs =
-            linked (unlink D x) RD x k lx (Live D RD)
-            (unlinked D RD x lx (Live D RD) (S .dirs) (mod-lt (hashOf (D .key x)) hb)
+            linked (unlink D x) RD x k lx (Live (D .count) RD)
+            (unlinked D RD x lx (Live (D .count) RD) (S .dirs) (mod-lt (hashOf (D .key x)) hb)
             d)
             (λ y h. fresh y (h .0) (h .1)) lp;
         files = S .files;
@@ -130,7 +130,7 @@ module _ (D F : View) (RD RF : List ℕ) (S : Tree D F RD RF) where
         root-key = upd-other (D .key) x k 1 (λ (e : 1 ≡ x). n1 (sym e)) ∙ S .root-key;
         root-next =
             upd-other (unlink D x .next) x (unlink D x .head (parent k)) 1 (λ (e : 1 ≡ x). n1 (sym e))
-            ∙ unlinked-next D RD x lx (Live D RD) (S .dirs) d 1 (λ (e : up D 1 ≡ up D x). not-zero (d .0) (sym e ∙ root-up))
+            ∙ unlinked-next D RD x lx (Live (D .count) RD) (S .dirs) d 1 (λ (e : up D 1 ≡ up D x). not-zero (d .0) (sym e ∙ root-up))
             ∙ S .root-next;
         reach = λ y ly.
             let r = S .reach y ly in
@@ -208,15 +208,15 @@ abbrev pub makeDirFiles : View → View → View
 makeDirFiles D F = heads F (upd (F .head) (taken D) 0)
 
 module _ (D F : View) (RD RF : List ℕ) (S : Tree D F RD RF) where
-  pub made-file : (k : List ℕ) → Space F → Live D RD (parent k) → ((y : ℕ) → Live F RF y → F .key y ≢ k)
+  pub made-file : (k : List ℕ) → Space F → Live (D .count) RD (parent k) → ((y : ℕ) → Live (F .count) RF y → F .key y ≢ k)
       → Tree D (makeFile F k) RD (rest RF)
   made-file k sp lp fresh =
-      let t : Took F RF (rest RF) (taken F) (take F .count) = took-live F (Live D RD) RF (S .files) in
+      let t : Took F RF (rest RF) (taken F) (take F .count) = took-live F (Live (D .count) RD) RF (S .files) in
       record {
         dirs = S .dirs;
         files =
-            linked (take F) (rest RF) (taken F) k (t .0) (Live D RD) (took F (Live D RD) RF (S .files) sp)
-            (λ y h. ⊎-elim (λ (e : y ≡ taken F). absurd (h .1 e)) (λ (w : (y ≢ taken F) × Live F RF y). fresh y (w .1)) (t .2 y .0 (h .0)))
+            linked (take F) (rest RF) (taken F) k (t .0) (Live (D .count) RD) (took F (Live (D .count) RD) RF (S .files) sp)
+            (λ y h. ⊎-elim (λ (e : y ≡ taken F). absurd (h .1 e)) (λ (w : (y ≢ taken F) × Live (F .count) RF y). fresh y (w .1)) (t .2 y .0 (h .0)))
             lp;
         dir-root = S .dir-root;
         file-root = S .file-root;
@@ -226,19 +226,19 @@ module _ (D F : View) (RD RF : List ℕ) (S : Tree D F RD RF) where
         reach = S .reach;
       }
 
-  pub made-dir : (k : List ℕ) → Space D → Live D RD (parent k) → ((y : ℕ) → Live D RD y → D .key y ≢ k)
+  pub made-dir : (k : List ℕ) → Space D → Live (D .count) RD (parent k) → ((y : ℕ) → Live (D .count) RD y → D .key y ≢ k)
       → Tree (makeDir D k) (makeDirFiles D F) (rest RD) RF
   made-dir k sp lp fresh = record {
     dirs =
-        linked (heads (take D) (upd (D .head) x 0)) (rest RD) x k (t .0) (Live (take D) (rest RD))
-        (more-dirs (take D) (Live D RD) (Live (take D) (rest RD)) (rest RD) x x (took D (Live D RD) RD (S .dirs) sp)
+        linked (heads (take D) (upd (D .head) x 0)) (rest RD) x k (t .0) (Live (take D .count) (rest RD))
+        (more-dirs (take D) (Live (D .count) RD) (Live (take D .count) (rest RD)) (rest RD) x x (took D (Live (D .count) RD) RD (S .dirs) sp)
         (λ p. t .2 p .0) lives (t .1)
         (λ y e h (q : parent (D .key y) ≡ x).
         not-zero (t .0 .0) (sym q ∙ ap (λ z. parent (D .key z)) (e ∙ S .dir-root) ∙ root-up D F RD RF S)))
-        (λ y h. ⊎-elim (λ (e : y ≡ x). absurd (h .1 e)) (λ (w : (y ≢ x) × Live D RD y). fresh y (w .1)) (t .2 y .0 (h .0)))
+        (λ y h. ⊎-elim (λ (e : y ≡ x). absurd (h .1 e)) (λ (w : (y ≢ x) × Live (D .count) RD y). fresh y (w .1)) (t .2 y .0 (h .0)))
         (lives (parent k) lp);
     files =
-        more-dirs F (Live D RD) (Live (take D) (rest RD)) RF 0 x (S .files) (λ p. t .2 p .0) lives (t .1)
+        more-dirs F (Live (D .count) RD) (Live (take D .count) (rest RD)) RF 0 x (S .files) (λ p. t .2 p .0) lives (t .1)
         (λ y e h _. not-zero (h .0 .0) (e ∙ S .file-root));
     dir-root = S .dir-root;
     file-root = S .file-root;
@@ -247,8 +247,8 @@ module _ (D F : View) (RD RF : List ℕ) (S : Tree D F RD RF) where
     root-next = upd-other (D .next) x (upd (D .head) x 0 (parent k)) 1 n1 ∙ S .root-next;
     reach = λ y ly.
         ⊎-elim
-        (λ (e : y ≡ x). subst (λ z. Reaches (makeDir D k) z) (sym e) (x-up (up D) (up (makeDir D k)) x (parent k) ux uo u1 (q .0) (q .1) (q .2) nx (t .0 .0)))
-        (λ (w : (y ≢ x) × Live D RD y).
+        (λ (e : y ≡ x). subst (λ z. Reaches (up (makeDir D k)) z) (sym e) (x-up (up D) (up (makeDir D k)) x (parent k) ux uo u1 (q .0) (q .1) (q .2) nx (t .0 .0)))
+        (λ (w : (y ≢ x) × Live (D .count) RD y).
         let r = S .reach y (w .1) in
         all-up (up D) (up (makeDir D k)) x (parent k) ux uo u1 (q .0) (q .1) (q .2) nx y (r .0) (r .1) (r .2))
         (t .2 y .0 ly);
@@ -258,15 +258,15 @@ module _ (D F : View) (RD RF : List ℕ) (S : Tree D F RD RF) where
       x = taken D
 
       t : Took D RD (rest RD) (taken D) (take D .count)
-      t = took-live D (Live D RD) RD (S .dirs)
+      t = took-live D (Live (D .count) RD) RD (S .dirs)
 
-      lives : (p : ℕ) → Live D RD p → Live (take D) (rest RD) p
-      lives p l = t .2 p .1 (inr ((λ (e : p ≡ x). t .1 (subst (λ z. Live D RD z) e l)), l))
+      lives : (p : ℕ) → Live (D .count) RD p → Live (take D .count) (rest RD) p
+      lives p l = t .2 p .1 (inr ((λ (e : p ≡ x). t .1 (subst (λ z. Live (D .count) RD z) e l)), l))
 
       n1 : 1 ≢ x
-      n1 e = t .1 (subst (λ z. Live D RD z) e (S .root-live))
+      n1 e = t .1 (subst (λ z. Live (D .count) RD z) e (S .root-live))
 
-      q : Reaches D (parent k)
+      q : Reaches (up D) (parent k)
       q = S .reach (parent k) lp
 
       nx : x ∈ q .0 → ⊥
@@ -292,12 +292,12 @@ abbrev pub deleteDirFiles : View → ℕ → View
 deleteDirFiles F x = heads F (upd (F .head) x (F .head 0))
 
 module _ (D F : View) (RD RF : List ℕ) (S : Tree D F RD RF) where
-  pub deleted-file : (x : ℕ) → Live F RF x → 0 < F .buckets → Tree D (deleteFile F x) RD (x ∷ RF)
+  pub deleted-file : (x : ℕ) → Live (F .count) RF x → 0 < F .buckets → Tree D (deleteFile F x) RD (x ∷ RF)
   deleted-file x lx hb = record {
     dirs = S .dirs;
     files =
-        gave (unlink F x) (Live D RD) RF x lx
-        (unlinked F RF x lx (Live D RD) (S .files) (mod-lt (hashOf (F .key x)) hb)
+        gave (unlink F x) (Live (D .count) RD) RF x lx
+        (unlinked F RF x lx (Live (D .count) RD) (S .files) (mod-lt (hashOf (F .key x)) hb)
         (S .files .parents x (lx, not-zero (lx .0)) (λ (e : x ≡ F .root). not-zero (lx .0) (e ∙ S .file-root))));
     dir-root = S .dir-root;
     file-root = S .file-root;
@@ -307,38 +307,38 @@ module _ (D F : View) (RD RF : List ℕ) (S : Tree D F RD RF) where
     reach = S .reach;
   }
 
-  module _ (x : ℕ) (lx : Live D RD x) (n1 : x ≢ 1) (hb : 0 < D .buckets) (no-dirs : D .head x ≡ 0) (no-files : F .head x ≡ 0) where
+  module _ (x : ℕ) (lx : Live (D .count) RD x) (n1 : x ≢ 1) (hb : 0 < D .buckets) (no-dirs : D .head x ≡ 0) (no-files : F .head x ≡ 0) where
     -- no directory names x as its parent
-    pub childless : (y : ℕ) → Live D RD y → up D y ≢ x
+    pub childless : (y : ℕ) → Live (D .count) RD y → up D y ≢ x
     childless y ly e =
         let H = S .dirs .child x lx in
         let l : H .0 ≡ [] = one-list (D .next) (D .head x) 0 (H .0) [] no-dirs (H .1) refl in
         subst (λ xs. y ∈ xs) l (H .2 y .1 ((ly, not-zero (ly .0)), e))
 
-    pub not-above : (y : ℕ) (xs : List ℕ) → Live D RD y → y ≢ x → Links (up D) y xs → x ∈ xs → ⊥
+    pub not-above : (y : ℕ) (xs : List ℕ) → Live (D .count) RD y → y ≢ x → Links (up D) y xs → x ∈ xs → ⊥
     not-above y (a ∷ xs) ly n l (inl e) = n (l .0 ∙ sym e)
     not-above y (a ∷ xs) ly n l (inr m) =
         not-above (up D a) xs
         (above-live D F RD RF S y (a ∷ xs) ly l (up D a) (inr (first-in (up D) (up D a) x xs (l .2) m)))
-        (childless a (subst (λ z. Live D RD z) (l .0) ly)) (l .2) m
+        (childless a (subst (λ z. Live (D .count) RD z) (l .0) ly)) (l .2) m
 
-    lives : (p : ℕ) → Live D (x ∷ RD) p → (p ≢ x) × Live D RD p
+    lives : (p : ℕ) → Live (D .count) (x ∷ RD) p → (p ≢ x) × Live (D .count) RD p
     lives p l = let r = gave-live D RD x p .0 l in (r .1, r .0)
 
-    back : (p : ℕ) → p ≢ x → Live D RD p → Live D (x ∷ RD) p
+    back : (p : ℕ) → p ≢ x → Live (D .count) RD p → Live (D .count) (x ∷ RD) p
     back p n l = gave-live D RD x p .1 (l, n)
 
     pub deleted-dir : Tree (deleteDir D x) (deleteDirFiles F x) (x ∷ RD) RF
     deleted-dir =
-        let d : Live D RD (up D x) = S .dirs .parents x (lx, not-zero (lx .0)) (λ (e : x ≡ D .root). n1 (e ∙ S .dir-root)) in
+        let d : Live (D .count) RD (up D x) = S .dirs .parents x (lx, not-zero (lx .0)) (λ (e : x ≡ D .root). n1 (e ∙ S .dir-root)) in
         record {
           dirs =
-              fewer-dirs (give (unlink D x) x) (Live D RD) (Live D (x ∷ RD)) (x ∷ RD) 0 x (upd (unlink D x .head) x (D .head 0))
-              (gave (unlink D x) (Live D RD) RD x lx (unlinked D RD x lx (Live D RD) (S .dirs) (mod-lt (hashOf (D .key x)) hb) d))
+              fewer-dirs (give (unlink D x) x) (Live (D .count) RD) (Live (D .count) (x ∷ RD)) (x ∷ RD) 0 x (upd (unlink D x .head) x (D .head 0))
+              (gave (unlink D x) (Live (D .count) RD) RD x lx (unlinked D RD x lx (Live (D .count) RD) (S .dirs) (mod-lt (hashOf (D .key x)) hb) d))
               lives back (λ p n. upd-other (unlink D x .head) x (D .head 0) p n) lx
               (upd-other (D .head) (up D x) _ x (λ (e : x ≡ up D x). childless x lx (sym e)) ∙ no-dirs);
           files =
-              fewer-dirs F (Live D RD) (Live D (x ∷ RD)) RF 0 x (upd (F .head) x (F .head 0)) (S .files)
+              fewer-dirs F (Live (D .count) RD) (Live (D .count) (x ∷ RD)) RF 0 x (upd (F .head) x (F .head 0)) (S .files)
               lives back (λ p n. upd-other (F .head) x (F .head 0) p n) lx no-files;
           dir-root = S .dir-root;
           file-root = S .file-root;
@@ -346,7 +346,7 @@ module _ (D F : View) (RD RF : List ℕ) (S : Tree D F RD RF) where
           root-key = upd-other (D .key) x (D .key 0) 1 (λ e. n1 (sym e)) ∙ S .root-key;
           root-next =
               upd-other (unlink D x .next) x (unlink D x .next 0) 1 (λ e. n1 (sym e))
-              ∙ unlinked-next D RD x lx (Live D RD) (S .dirs) d 1 (λ (e : up D 1 ≡ up D x). not-zero (d .0) (sym e ∙ root-up D F RD RF S))
+              ∙ unlinked-next D RD x lx (Live (D .count) RD) (S .dirs) d 1 (λ (e : up D 1 ≡ up D x). not-zero (d .0) (sym e ∙ root-up D F RD RF S))
               ∙ S .root-next;
           reach = λ y ly.
               let w = lives y ly in

@@ -4,7 +4,7 @@ use mathlib.Core.Path.{_≡_}
 use mathlib.Core.List.{List, [], _∷_}
 use Prim.Native.Nat.{ℕ, _≤_, _<_}
 use Rattle.links.specs.Links.{_∈_, Distinct, Links, Holds}
-use Rattle.tree_table.specs.View.{View, parent, place, removedOf, LiveIn}
+use Rattle.tree_table.specs.View.{View, parent, place, removedOf, LiveIn, Reaches}
 
 -- what is said of each table by itself
 pub record Table (v : View) : Type 0 where
@@ -26,24 +26,28 @@ pub record Table (v : View) : Type 0 where
 abbrev pub up : View → ℕ → ℕ
 up v y = parent (v .key y)
 
--- directory y reaches inode 1 by parents
-abbrev pub Reaches : View → ℕ → Type 0
-Reaches D y = (xs : List ℕ) × Links (up D) y xs × (1 ∈ xs)
+-- what is said of the entries of a table v below the directories D: v are the directories themselves, or the files. `root` is the one entry that has
+-- no parent: 1 among the directories, 0, which is no entry, among the files
+pub record Below (D v : View) (root : ℕ) : Type 0 where
+  pub table : Table v
+  -- every other live entry has a live parent directory
+  pub parents : (y : ℕ) → LiveIn v y → (y ≡ root → ⊥) → LiveIn D (up v y)
+  -- each directory's list ends and holds exactly the live entries that name it as parent, once each
+  pub lists : (p : ℕ) → LiveIn D p → Holds (v .next) (v .head p) (λ y. LiveIn v y × (up v y ≡ p))
 
-pub record Sound (D F : View) : Type 0 where
-  pub dirs : Table D
-  pub files : Table F
-  -- directories: count at least 2
+-- what is said of the directories, whatever the files
+pub record Dirs (D : View) : Type 0 where
+  pub below : Below D D 1
+  -- count at least 2
   pub count-two : 2 ≤ D .count
   -- root is live with a zero key and next 0
   pub root-live : LiveIn D 1
   pub root-key : D .key 1 ≡ 0 ∷ 0 ∷ 0 ∷ 0 ∷ 0 ∷ []
   pub root-next : D .next 1 ≡ 0
-  -- every other live entry has a live parent directory
-  pub dir-parents : (y : ℕ) → LiveIn D y → (y ≡ 1 → ⊥) → LiveIn D (up D y)
-  pub file-parents : (y : ℕ) → LiveIn F y → LiveIn D (up F y)
-  -- each directory's two lists end and hold exactly the live directories and files that name it as parent, once each
-  pub sub-dirs : (p : ℕ) → LiveIn D p → Holds (D .next) (D .head p) (λ y. LiveIn D y × (up D y ≡ p))
-  pub sub-files : (p : ℕ) → LiveIn D p → Holds (F .next) (F .head p) (λ y. LiveIn F y × (up F y ≡ p))
   -- every directory reaches inode 1 by parents
-  pub reach : (y : ℕ) → LiveIn D y → Reaches D y
+  pub reach : (y : ℕ) → LiveIn D y → Reaches (up D) y
+
+-- the two tables are sound
+pub record Sound (D F : View) : Type 0 where
+  pub dirs : Dirs D
+  pub files : Below D F 0

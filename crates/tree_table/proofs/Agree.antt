@@ -28,7 +28,7 @@ pub record Agree (v v′ : View) : Type 0 where
   pub key : (y : ℕ) → 0 < y → v′ .key y ≡ v .key y
 
 module _ (v v′ : View) (A : Agree v v′) (R : List ℕ) where
-  pub live-agree : (y : ℕ) → Live v R y ↔ Live v′ R y
+  pub live-agree : (y : ℕ) → Live (v .count) R y ↔ Live (v′ .count) R y
   live-agree y = (
     λ q. (q .0, subst (λ n. y < n) (sym (A .count)) (q .1), q .2),
     λ q. (q .0, subst (λ n. y < n) (A .count) (q .1), q .2),

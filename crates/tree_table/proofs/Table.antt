@@ -16,7 +16,7 @@ use Rattle.tree_table.specs.Steps.{taken, bucketBefore, childBefore}
 
 -- live, and not the one that is out of its lists
 abbrev pub Here : View → List ℕ → ℕ → ℕ → Type 0
-Here v R x y = Live v R y × (y ≢ x)
+Here v R x y = Live (v .count) R y × (y ≢ x)
 
 -- 01's rule of one table, with `Dir` the live directories, R the removed list, and x the one live entry that stands in no bucket and no child list; 0 for none
 pub record Sound (v : View) (Dir : ℕ → Type 0) (R : List ℕ) (x : ℕ) : Type 0 where
@@ -49,7 +49,7 @@ link v x k = record {
   key = upd (v .key) x k;
 }
 
-module _ (v : View) (R : List ℕ) (x : ℕ) (k : List ℕ) (lx : Live v R x) where
+module _ (v : View) (R : List ℕ) (x : ℕ) (k : List ℕ) (lx : Live (v .count) R x) where
   -- the lists of any part f of the key, headed by `head` and threaded through `next`
   link-list : (f : List ℕ → ℕ) (next head : ℕ → ℕ) (b : ℕ) → Holds next (head b) (λ y. Here v R x y × (f (v .key y) ≡ b))
       → Holds (upd next x (head (f k))) (upd head (f k) x b) (λ y. Here v R 0 y × (f (upd (v .key) x k y) ≡ b))
@@ -61,7 +61,7 @@ module _ (v : View) (R : List ℕ) (x : ℕ) (k : List ℕ) (lx : Live v R x) wh
       P′ : ℕ → Type 0
       P′ y = Here v R 0 y × (f (upd (v .key) x k y) ≡ b)
 
-      nz : (y : ℕ) → Live v R y → y ≢ 0
+      nz : (y : ℕ) → Live (v .count) R y → y ≢ 0
       nz y l e = let p : 0 < y = l .0 in omega arith
 
       same : (y : ℕ) → P y → upd next x (head (f k)) y ≡ next y
@@ -79,7 +79,7 @@ module _ (v : View) (R : List ℕ) (x : ℕ) (k : List ℕ) (lx : Live v R x) wh
           (upd-same head (f k) x b e) (upd-same next x (head (f k)) x refl ∙ ap head (sym e)) same
           (λ y q. ⊎-elim (λ (r : y ≡ x). inl r) (λ (n : y ≢ x). inr (down y n q)) (same-or y x))
           (λ y. ⊎-elim
-          (λ (r : y ≡ x). ((subst (λ z. Live v R z) (sym r) lx, nz y (subst (λ z. Live v R z) (sym r) lx)), ap f (upd-same (v .key) x k y r) ∙ sym e))
+          (λ (r : y ≡ x). ((subst (λ z. Live (v .count) R z) (sym r) lx, nz y (subst (λ z. Live (v .count) R z) (sym r) lx)), ap f (upd-same (v .key) x k y r) ∙ sym e))
           (up y))
           H
 
@@ -146,7 +146,7 @@ cut-other : (next : ℕ → ℕ) (p new y : ℕ) → (p ≢ 0 → y ≢ p) → c
 cut-other next p new y k =
     by-eq p 0 (λ t. pick t next (upd next p new) y ≡ next y) (λ _. refl) (λ n. upd-other next p new y (k n))
 
-module _ (v : View) (R : List ℕ) (x : ℕ) (lx : Live v R x) where
+module _ (v : View) (R : List ℕ) (x : ℕ) (lx : Live (v .count) R x) where
   -- the lists of any part f of the key
   module _ (f : List ℕ → ℕ) (next head : ℕ → ℕ) (H : Holds next (head (f (v .key x))) (λ y. Here v R 0 y × (f (v .key y) ≡ f (v .key x)))) where
     -- the walk with fuel count finds the entry before x
@@ -301,7 +301,7 @@ took-new v Dir S h =
     (omega arith) (omega arith) (S .removed) (λ y m. absurd m)
 
 -- x, which stands in no list, is given up, whatever becomes of its words but the collision field
-pub given-up : (v : View) (Dir : ℕ → Type 0) (R : List ℕ) (x : ℕ) → Live v R x → Sound v Dir R x → (next : ℕ → ℕ) (key : ℕ → List ℕ)
+pub given-up : (v : View) (Dir : ℕ → Type 0) (R : List ℕ) (x : ℕ) → Live (v .count) R x → Sound v Dir R x → (next : ℕ → ℕ) (key : ℕ → List ℕ)
     → ((y : ℕ) → y ≢ x → next y ≡ v .next y) → ((y : ℕ) → y ≢ x → key y ≡ v .key y)
     → Sound (other v (v .count) (upd (upd (v .coll) x (v .coll 0)) 0 x) next key) Dir (x ∷ R) 0
 given-up v Dir R x lx S next key en ek =
@@ -366,8 +366,8 @@ took v Dir (x ∷ R) S s =
 -- t is live with count c and removed list R′, and was not; the others are as they were
 abbrev pub Took : View → List ℕ → List ℕ → ℕ → ℕ → Type 0
 Took v R R′ t c =
-    ((0 < t) × (t < c) × (t ∈ R′ → ⊥)) × (Live v R t → ⊥)
-    × ((y : ℕ) → ((0 < y) × (y < c) × (y ∈ R′ → ⊥)) ↔ ((y ≡ t) ⊎ ((y ≢ t) × Live v R y)))
+    ((0 < t) × (t < c) × (t ∈ R′ → ⊥)) × (Live (v .count) R t → ⊥)
+    × ((y : ℕ) → ((0 < y) × (y < c) × (y ∈ R′ → ⊥)) ↔ ((y ≡ t) ⊎ ((y ≢ t) × Live (v .count) R y)))
 
 pub took-live : (v : View) (Dir : ℕ → Type 0) (R : List ℕ) → Sound v Dir R 0 → Took v R (rest R) (taken v) (take v .count)
 took-live v Dir [] S =
@@ -379,7 +379,7 @@ took-live v Dir [] S =
         λ q. ⊎-elim (λ (w : y ≡ v .count). inl w) (λ (w : y ≢ v .count). inr (w, (q .0, (let h : y < v .count + 1 = q .1 in omega arith), λ m. m))) (same-or y (v .count)),
         ⊎-elim
             (λ (w : y ≡ v .count). (let h : 1 ≤ v .count = S .count-one in omega arith, omega arith, λ m. m))
-            (λ (w : (y ≢ v .count) × Live v [] y). (w .1 .0, (let h : y < v .count = w .1 .1 in omega arith), λ m. m)),
+            (λ (w : (y ≢ v .count) × Live (v .count) [] y). (w .1 .0, (let h : y < v .count = w .1 .1 in omega arith), λ m. m)),
       ),
     ))
     (λ n. absurd (n (S .removed)))
@@ -394,16 +394,16 @@ took-live v Dir (x ∷ R) S =
         λ q. ⊎-elim (λ (w : y ≡ x). inl w) (λ (w : y ≢ x). inr (w, (q .0, q .1, ⊎-elim (λ (r : y ≡ x). w r) (λ (m : y ∈ R). q .2 m)))) (same-or y x),
         ⊎-elim
             (λ (w : y ≡ x). subst (λ z. (0 < z) × (z < v .count) × (z ∈ R → ⊥)) (sym w) (S .removed .1, S .removed-below x (inl refl), distinct (v .coll) (v .coll 0) (x ∷ R) (S .removed) .0))
-            (λ (w : (y ≢ x) × Live v (x ∷ R) y). (w .1 .0, w .1 .1, λ (m : y ∈ R). w .1 .2 (inr m))),
+            (λ (w : (y ≢ x) × Live (v .count) (x ∷ R) y). (w .1 .0, w .1 .1, λ (m : y ∈ R). w .1 .2 (inr m))),
       ),
     ))
 
-pub gave : (v : View) (Dir : ℕ → Type 0) (R : List ℕ) (x : ℕ) → Live v R x → Sound v Dir R x → Sound (give v x) Dir (x ∷ R) 0
+pub gave : (v : View) (Dir : ℕ → Type 0) (R : List ℕ) (x : ℕ) → Live (v .count) R x → Sound v Dir R x → Sound (give v x) Dir (x ∷ R) 0
 gave v Dir R x lx S =
     given-up v Dir R x lx S (upd (v .next) x (v .next 0)) (upd (v .key) x (v .key 0))
     (λ y n. upd-other (v .next) x (v .next 0) y n) (λ y n. upd-other (v .key) x (v .key 0) y n)
 
-pub gave-live : (v : View) (R : List ℕ) (x y : ℕ) → Live v (x ∷ R) y ↔ (Live v R y × (y ≢ x))
+pub gave-live : (v : View) (R : List ℕ) (x y : ℕ) → Live (v .count) (x ∷ R) y ↔ (Live (v .count) R y × (y ≢ x))
 gave-live v R x y = (
   λ q. ((q .0, q .1, λ (m : y ∈ R). q .2 (inr m)), λ (e : y ≡ x). q .2 (inl e)),
   λ q. (q .0 .0, q .0 .1, ⊎-elim (λ (e : y ≡ x). q .1 e) (λ (m : y ∈ R). q .0 .2 m)),

@@ -2,7 +2,7 @@
 use mathlib.Core.List.{List, [], _∷_}
 use Prim.Native.Nat.{ℕ, _/_, _%_, _<_}
 use lib.ListN.{length, getD}
-use Rattle.links.specs.Links.{_∈_}
+use Rattle.links.specs.Links.{_∈_, Links}
 use Rattle.links.specs.Change.{walk}
 use Rattle.tree_key.specs.Hash.{hashOf}
 use Rattle.tree_table.specs.Field.{field}
@@ -65,8 +65,8 @@ abbrev pub fileView : List ℕ → List ℕ → List ℕ → View
 fileView d fh f = viewOf (length fh / 4) (length f / 48) 0 (field 48 f) (hashAt fh) (λ p. field 40 d p 8)
 
 -- the inodes from 1 below count that are not in R, the removed ones
-abbrev pub Live : View → List ℕ → ℕ → Type 0
-Live v R y = (0 < y) × (y < v .count) × (y ∈ R → ⊥)
+abbrev pub Live : ℕ → List ℕ → ℕ → Type 0
+Live count R y = (0 < y) × (y < count) × (y ∈ R → ⊥)
 
 -- the removed entries, a bucket, and a directory's children, as far as count goes
 abbrev pub removedOf : View → List ℕ
@@ -80,4 +80,8 @@ childrenOf v p = walk (v .next) (v .count) (v .head p)
 
 -- the live entries of a table
 abbrev pub LiveIn : View → ℕ → Type 0
-LiveIn v y = Live v (removedOf v) y
+LiveIn v y = Live (v .count) (removedOf v) y
+
+-- going up by u, from y one comes to inode 1
+abbrev pub Reaches : (ℕ → ℕ) → ℕ → Type 0
+Reaches u y = (xs : List ℕ) × Links u y xs × (1 ∈ xs)

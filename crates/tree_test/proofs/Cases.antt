@@ -17,16 +17,16 @@ use Rattle.tree_table.specs.Field.{field}
 use Rattle.tree_table.specs.View.{dirView, fileView, removedOf}
 use Rattle.tree_sound.specs.Sound.{Sound}
 use Rattle.tree_sound.specs.Sizes.{rooms, HashMisfit, Misfit, Beyond, Outside}
-use Rattle.tree_marks.specs.Marks.{markAt, Within, Tells}
+use Rattle.order.specs.Tells.{Tells}
+use Rattle.tree_marks.specs.Marks.{markAt, Within}
 use Rattle.tree_marks.specs.Gather.{Told}
 use Rattle.tree_marks.proofs.Walks.{le-or-lt}
 use Rattle.tree_test.specs.Gate.{treeGate, openGate}
 use Rattle.tree_test.specs.Promise.{tested, testDone, GateOf, TreeGateOf, OpenGateOf}
 use Rattle.tree_test.specs.declared.Gated.{Gated}
 use Rattle.tree_test.specs.declared.Gated.the-variants.{Open, Refused}
-use Rattle.tree_test.specs.Halves.{Dirs, Files, DirsTested, FilesTested, Sized}
+use Rattle.tree_test.specs.Halves.{DirsTested, FilesTested, Sized}
 use Rattle.tree_test.specs.declared.Tested.{Tested}
-use Rattle.tree_test.proofs.FilesTest.{halves, half-dirs, half-files}
 
 pub told-true : {P : Type 0} → P → Tells P true
 told-true p = record { yes = λ _. p; only = λ _. refl }
@@ -77,11 +77,11 @@ module _ {dh d work w1 : List ℕ} {r1 : Bool} (A : DirsTested dh d work w1 r1) 
 
   pub dirs-count : r1 ≡ true → (1 ≤ field 40 d 0 1) × (field 40 d 0 1 ≤ length d / 40)
   dirs-count e =
-      let t = A .good e .0 .table in
+      let t = A .good e .0 .below .table in
       (t .count-one, let a = t .count-max in let b = t .max-room in omega arith)
 
   pub sound-dirs : (fh f : List ℕ) → r1 ≡ false → Tells (Sound (dirView dh d) (fileView d fh f)) false
-  sound-dirs fh f e = told-false (λ S. A .bad e (half-dirs (dirView dh d) (fileView d fh f) S))
+  sound-dirs fh f e = told-false (λ S. A .bad e (S .dirs))
 
   pub sound-files : (fh f : List ℕ) → r1 ≡ true → {r2 : Bool} → ((h : List ℕ) → Told (field 40 d 0 1) (removedOf (dirView h d)) w1 → FilesTested h d fh f r2)
       → Tells (Sound (dirView dh d) (fileView d fh f)) r2
@@ -89,8 +89,8 @@ module _ {dh d work w1 : List ℕ} {r1 : Bool} (A : DirsTested dh d work w1 r1) 
       let a = A .good e in
       let b = B dh (a .1) in
       record {
-        yes = λ t. halves (dirView dh d) (fileView d fh f) (a .0) (b .good t);
-        only = λ S. by r2 (λ q. b .bad q (half-files (dirView dh d) (fileView d fh f) S));
+        yes = λ t. record { dirs = a .0; files = b .good t };
+        only = λ S. by r2 (λ q. b .bad q (S .files));
       }
     where
       by : (r : Bool) → (r ≡ false → ⊥) → r ≡ true

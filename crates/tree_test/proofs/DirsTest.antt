@@ -16,18 +16,19 @@ use Rattle.tree_key.specs.Key.{keyOf, keyWords, sameKey}
 use Rattle.tree_key.specs.declared.SaveExtKey.{SaveExtKey}
 use Rattle.tree_key.proofs.Laws.{same-equal, equal-same}
 use Rattle.tree_table.specs.Field.{field}
-use Rattle.tree_table.specs.View.{View, keyAt, dirView, fileView, removedOf, LiveIn, parent}
+use Rattle.tree_table.specs.View.{View, keyAt, dirView, fileView, removedOf, LiveIn, parent, Live, Reaches}
 use Rattle.tree_table.specs.Chain.{linkAt}
 use Rattle.tree_table.proofs.Chain.{key-part}
-use Rattle.tree_sound.specs.Sound.{Table, up, Reaches}
-use Rattle.tree_marks.specs.Marks.{gone, markAt, markOf, Within, Tells}
-use Rattle.tree_marks.specs.Gather.{Alive, Gathered, Gathers, Told, Named}
-use Rattle.tree_marks.specs.Climb.{Up, Rising, AllRisen}
+use Rattle.tree_sound.specs.Sound.{Table, up}
+use Rattle.order.specs.Tells.{Tells}
+use Rattle.tree_marks.specs.Marks.{gone, markAt, markOf, Within}
+use Rattle.tree_marks.specs.Gather.{Gathered, Gathers, Told, Named}
+use Rattle.tree_marks.specs.Climb.{Rising, AllRisen}
 use Rattle.tree_marks.proofs.Walks.{within-refl, within-trans, within-more}
 use Rattle.tree_alone.specs.Stage.{Clean, Single}
 use Rattle.tree_alone.proofs.OneTable.{clean-gathered}
 use Rattle.tree_alone.proofs.Singles.{rooms-fit}
-use Rattle.tree_test.specs.Halves.{Dirs, Root, DirsTested}
+use Rattle.tree_test.specs.Halves.{Root, DirsTested}
 use Rattle.tree_test.proofs.Kids.{kids-mark, kids-lists, kids-parents, kids-named}
 
 -- ---- the root
@@ -71,7 +72,7 @@ module _ (dh d work : List ℕ) where
     pub dirs-table : r1 ≡ false → DirsTested dh d work w1 false
     dirs-table e = record {
       good = λ q. absurd (false≢true q);
-      bad = λ _ P. S .bad e 1 (λ p. field 40 d p 7) (P .table) (P .count-two);
+      bad = λ _ P. S .bad e 1 (λ p. field 40 d p 7) (P .below .table) (P .count-two);
       within = S .within;
     }
 
@@ -101,25 +102,25 @@ module _ (dh d work : List ℕ) where
         }
 
         module _ (e2 : r2 ≡ true) {w2 : List ℕ} {r3 : Bool}
-            (B : ((RD R : List ℕ) → Told count RD w1 → Gathered (linkAt d 40 20) count (linkAt d 40 24) (Alive count RD) R 1 (markAt w1 0)
-            → Gathers (linkAt d 40 20) count (linkAt d 40 24) (Alive count RD) count 0 R w2 r3) × Within 0 count w1 w2)
+            (B : ((RD R : List ℕ) → Told count RD w1 → Gathered (linkAt d 40 20) count (linkAt d 40 24) (Live count RD) R 1 (markAt w1 0)
+            → Gathers (linkAt d 40 20) count (linkAt d 40 24) (Live count RD) count 0 R w2 r3) × Within 0 count w1 w2)
             (low : count ≤ length d / 40) (few : count ≤ 65536) where
           root-up : up D 1 ≡ 0
           root-up = ap parent (Q .yes e2 .key)
 
-          lists : Gathers (linkAt d 40 20) count (linkAt d 40 24) (Alive count R) count 0 R w2 r3
-          lists = B .0 R R dirs-told (clean-gathered clean (linkAt d 40 20) (linkAt d 40 24) (Alive count R))
+          lists : Gathers (linkAt d 40 20) count (linkAt d 40 24) (Live count R) count 0 R w2 r3
+          lists = B .0 R R dirs-told (clean-gathered clean (linkAt d 40 20) (linkAt d 40 24) (Live count R))
 
           pub dirs-lists : r3 ≡ false → DirsTested dh d work w2 false
           unfolding field
           dirs-lists e = record {
             good = λ q. absurd (false≢true q);
-            bad = λ _ P. lists .bad e (up D) (λ j a b w. P .lists j w);
+            bad = λ _ P. lists .bad e (up D) (λ j a b w. P .below .lists j w);
             within = within-trans (S .within) (within-more (length d / 40) low (B .1));
           }
 
           module _ (e3 : r3 ≡ true) {r4 : Bool} (N : Tells ((y : ℕ) → 0 < y → y < count → Named 1 y (markAt w2 0 y) (linkAt d 40 0 y)) r4) where
-            G : Gathered (linkAt d 40 20) count (linkAt d 40 24) (Alive count R) R count (markAt w2 0)
+            G : Gathered (linkAt d 40 20) count (linkAt d 40 24) (Live count R) R count (markAt w2 0)
             G = lists .good e3
 
             pub dirs-parents : r4 ≡ false → DirsTested dh d work w2 false
@@ -127,7 +128,7 @@ module _ (dh d work : List ℕ) where
             dirs-parents e = record {
               good = λ q. absurd (false≢true q);
               bad = λ _ P.
-                  false≢true (sym e ∙ N .only (kids-named (linkAt d 40 20) (linkAt d 40 24) (up D) count count 1 R R (markAt w2 0) (omega arith) G (P .lists) (P .parents)
+                  false≢true (sym e ∙ N .only (kids-named (linkAt d 40 20) (linkAt d 40 24) (up D) count count 1 R R (markAt w2 0) (omega arith) G (P .below .lists) (P .below .parents)
                   (λ y a q. ap (up D) q ∙ root-up)));
               within = within-trans (S .within) (within-more (length d / 40) low (B .1));
             }
@@ -160,13 +161,15 @@ module _ (dh d work : List ℕ) where
                 good = λ e.
                     let a = A .good e (up D) R told rising in (
                       record {
-                        table = T;
+                        below = record {
+                          table = T;
+                          parents = parents;
+                          lists = kids-lists (linkAt d 40 20) (linkAt d 40 24) (up D) count count 1 R R (markAt w2 0) (omega arith) G (N .yes e4);
+                        };
                         count-two = two;
                         root-live = (omega arith, (let z = two in omega arith), λ m. Q .yes e2 .here (dirs-told .dead 1 (omega arith) (let z = two in omega arith) .0 m));
                         root-key = Q .yes e2 .key;
                         root-next = Q .yes e2 .next;
-                        parents = parents;
-                        lists = kids-lists (linkAt d 40 20) (linkAt d 40 24) (up D) count count 1 R R (markAt w2 0) (omega arith) G (N .yes e4);
                         reach = a .1;
                       },
                       a .0,
@@ -196,14 +199,14 @@ module _ {dh d work w1 : List ℕ} {r1 : Bool} {n : ℕ} (S : Single dh d 40 2 0
   )
 
   module _ {r2 : Bool} (Q : Tells (Root d (getD w1 1 0)) r2) (e2 : r2 ≡ true) (few : length d / 40 ≤ 65536) {w2 : List ℕ} {r3 : Bool}
-      (B : ((RD R : List ℕ) → Told n RD w1 → Gathered (linkAt d 40 20) n (linkAt d 40 24) (Alive n RD) R 1 (markAt w1 0)
-      → Gathers (linkAt d 40 20) n (linkAt d 40 24) (Alive n RD) n 0 R w2 r3) × Within 0 n w1 w2) where
+      (B : ((RD R : List ℕ) → Told n RD w1 → Gathered (linkAt d 40 20) n (linkAt d 40 24) (Live n RD) R 1 (markAt w1 0)
+      → Gathers (linkAt d 40 20) n (linkAt d 40 24) (Live n RD) n 0 R w2 r3) × Within 0 n w1 w2) where
     kids : ((RD R : List ℕ) → Told (field 40 d 0 1) RD w1
-        → Gathered (linkAt d 40 20) (field 40 d 0 1) (linkAt d 40 24) (Alive (field 40 d 0 1) RD) R 1 (markAt w1 0)
-        → Gathers (linkAt d 40 20) (field 40 d 0 1) (linkAt d 40 24) (Alive (field 40 d 0 1) RD) (field 40 d 0 1) 0 R w2 r3) × Within 0 (field 40 d 0 1) w1 w2
+        → Gathered (linkAt d 40 20) (field 40 d 0 1) (linkAt d 40 24) (Live (field 40 d 0 1) RD) R 1 (markAt w1 0)
+        → Gathers (linkAt d 40 20) (field 40 d 0 1) (linkAt d 40 24) (Live (field 40 d 0 1) RD) (field 40 d 0 1) 0 R w2 r3) × Within 0 (field 40 d 0 1) w1 w2
     kids =
-        subst (λ z. ((RD R : List ℕ) → Told z RD w1 → Gathered (linkAt d 40 20) z (linkAt d 40 24) (Alive z RD) R 1 (markAt w1 0)
-        → Gathers (linkAt d 40 20) z (linkAt d 40 24) (Alive z RD) z 0 R w2 r3) × Within 0 z w1 w2) count-is B
+        subst (λ z. ((RD R : List ℕ) → Told z RD w1 → Gathered (linkAt d 40 20) z (linkAt d 40 24) (Live z RD) R 1 (markAt w1 0)
+        → Gathers (linkAt d 40 20) z (linkAt d 40 24) (Live z RD) z 0 R w2 r3) × Within 0 z w1 w2) count-is B
 
     pub dirs-3 : r3 ≡ false → DirsTested dh d work w2 false
     dirs-3 e = dirs-lists dh d work S e1 r2 Q e2 kids (front .1) (let a = front .1 in omega arith) e

@@ -1,4 +1,4 @@
--- The parts of the files' test together, and the two halves.
+-- The parts of the files' test together.
 use mathlib.Core.Path.{_≡_, refl, sym, ap, _∙_, subst}
 use mathlib.Core.List.{List, [], _∷_}
 use mathlib.Core.Logic.{_⊎_, inl, inr, ⊎-elim, _≢_, _↔_}
@@ -8,15 +8,16 @@ use native.Mathlib.Omega.{arith}
 use lib.ListN.{length, getD}
 use Rattle.links.specs.Links.{_∈_, Links, Holds}
 use Rattle.tree_table.specs.Field.{field}
-use Rattle.tree_table.specs.View.{View, dirView, fileView, removedOf, LiveIn}
+use Rattle.tree_table.specs.View.{View, dirView, fileView, removedOf, LiveIn, Live}
 use Rattle.tree_table.specs.Chain.{linkAt}
-use Rattle.tree_sound.specs.Sound.{Table, up, Sound}
-use Rattle.tree_marks.specs.Marks.{gone, markAt, markOf, Within, Tells}
-use Rattle.tree_marks.specs.Gather.{Alive, Gathered, Gathers, Told, Named}
+use Rattle.tree_sound.specs.Sound.{Table, up}
+use Rattle.order.specs.Tells.{Tells}
+use Rattle.tree_marks.specs.Marks.{gone, markAt, markOf, Within}
+use Rattle.tree_marks.specs.Gather.{Gathered, Gathers, Told, Named}
 use Rattle.tree_alone.specs.Stage.{Clean, Single}
 use Rattle.tree_alone.proofs.OneTable.{clean-gathered}
 use Rattle.tree_alone.proofs.Singles.{rooms-fit}
-use Rattle.tree_test.specs.Halves.{Dirs, Files, DirsTested, FilesTested}
+use Rattle.tree_test.specs.Halves.{FilesTested}
 use Rattle.tree_test.proofs.Kids.{kids-lists, kids-parents, kids-named}
 
 -- what the directories' marks tell is told still, where only later places have changed
@@ -54,8 +55,8 @@ module _ (dh d fh f : List ℕ) (off : ℕ) (work : List ℕ) (tell : Told (fiel
     }
 
     module _ (e1 : r1 ≡ true) {w2 : List ℕ} {r2 : Bool}
-        (B : ((RD R : List ℕ) → Told dirCount RD w1 → Gathered (linkAt f 48 20) count (linkAt d 40 28) (Alive dirCount RD) R 1 (markAt w1 off)
-        → Gathers (linkAt f 48 20) count (linkAt d 40 28) (Alive dirCount RD) dirCount off R w2 r2) × Within off count w1 w2)
+        (B : ((RD R : List ℕ) → Told dirCount RD w1 → Gathered (linkAt f 48 20) count (linkAt d 40 28) (Live dirCount RD) R 1 (markAt w1 off)
+        → Gathers (linkAt f 48 20) count (linkAt d 40 28) (Live dirCount RD) dirCount off R w2 r2) × Within off count w1 w2)
         (few : dirCount ≤ 65536) where
       T : Table F
       T = S .good e1 0 (λ p. field 40 d p 8) .0
@@ -63,8 +64,8 @@ module _ (dh d fh f : List ℕ) (off : ℕ) (work : List ℕ) (tell : Told (fiel
       clean : Clean count R (markAt w1 off)
       clean = S .good e1 0 (λ p. field 40 d p 8) .2
 
-      lists : Gathers (linkAt f 48 20) count (linkAt d 40 28) (Alive dirCount RD) dirCount off R w2 r2
-      lists = B .0 RD R (told-within apart (S .within) tell) (clean-gathered clean (linkAt f 48 20) (linkAt d 40 28) (Alive dirCount RD))
+      lists : Gathers (linkAt f 48 20) count (linkAt d 40 28) (Live dirCount RD) dirCount off R w2 r2
+      lists = B .0 RD R (told-within apart (S .within) tell) (clean-gathered clean (linkAt f 48 20) (linkAt d 40 28) (Live dirCount RD))
 
       pub files-lists : r2 ≡ false → FilesTested dh d fh f false
       unfolding field
@@ -78,47 +79,13 @@ module _ (dh d fh f : List ℕ) (off : ℕ) (work : List ℕ) (tell : Told (fiel
       files-end e2 {r3} N = record {
         good = λ e. record {
           table = T;
-          parents = λ y al.
-              kids-parents (linkAt f 48 20) (linkAt d 40 28) (up F) count dirCount 0 RD R (markAt w2 off) (omega arith) (lists .good e2) (N .yes e) y al
-              (λ (q : y ≡ 0). let a : 0 < y = al .0 in omega arith);
+          parents = kids-parents (linkAt f 48 20) (linkAt d 40 28) (up F) count dirCount 0 RD R (markAt w2 off) (omega arith) (lists .good e2) (N .yes e);
           lists = kids-lists (linkAt f 48 20) (linkAt d 40 28) (up F) count dirCount 0 RD R (markAt w2 off) (omega arith) (lists .good e2) (N .yes e);
         };
         bad = λ e P.
             false≢true (sym e ∙ N .only (kids-named (linkAt f 48 20) (linkAt d 40 28) (up F) count dirCount 0 RD R (markAt w2 off) (omega arith) (lists .good e2)
-            (P .lists) (λ y al _. P .parents y al) (λ y a q. absurd (omega arith))));
+            (P .lists) (P .parents) (λ y a q. absurd (omega arith))));
       }
-
--- ---- the two halves are the whole
-
-pub halves : (D F : View) → Dirs D → Files D F → Sound D F
-halves D F A B = record {
-  dirs = A .table;
-  files = B .table;
-  count-two = A .count-two;
-  root-live = A .root-live;
-  root-key = A .root-key;
-  root-next = A .root-next;
-  dir-parents = A .parents;
-  file-parents = B .parents;
-  sub-dirs = A .lists;
-  sub-files = B .lists;
-  reach = A .reach;
-}
-
-pub half-dirs : (D F : View) → Sound D F → Dirs D
-half-dirs D F S = record {
-  table = S .dirs;
-  count-two = S .count-two;
-  root-live = S .root-live;
-  root-key = S .root-key;
-  root-next = S .root-next;
-  parents = S .dir-parents;
-  lists = S .sub-dirs;
-  reach = S .reach;
-}
-
-pub half-files : (D F : View) → Sound D F → Files D F
-half-files D F S = record { table = S .files; parents = S .file-parents; lists = S .sub-files }
 
 -- ---- the files' test, by the numbers that the code holds
 
@@ -140,17 +107,17 @@ module _ (d : List ℕ) {fh f : List ℕ} {off : ℕ} {work w1 : List ℕ} {r1 :
       (dirs-count, low, rooms-fit f 48 m low)
 
   module _ {w2 : List ℕ} {r2 : Bool}
-      (B : ((RD R : List ℕ) → Told n RD w1 → Gathered (linkAt f 48 20) m (linkAt d 40 28) (Alive n RD) R 1 (markAt w1 off)
-      → Gathers (linkAt f 48 20) m (linkAt d 40 28) (Alive n RD) n off R w2 r2) × Within off m w1 w2)
+      (B : ((RD R : List ℕ) → Told n RD w1 → Gathered (linkAt f 48 20) m (linkAt d 40 28) (Live n RD) R 1 (markAt w1 off)
+      → Gathers (linkAt f 48 20) m (linkAt d 40 28) (Live n RD) n off R w2 r2) × Within off m w1 w2)
       (apart : field 40 d 0 1 ≤ off) (few : off ≤ 65536) where
     kids : ((RD R : List ℕ) → Told (field 40 d 0 1) RD w1
-        → Gathered (linkAt f 48 20) (field 48 f 0 1) (linkAt d 40 28) (Alive (field 40 d 0 1) RD) R 1 (markAt w1 off)
-        → Gathers (linkAt f 48 20) (field 48 f 0 1) (linkAt d 40 28) (Alive (field 40 d 0 1) RD) (field 40 d 0 1) off R w2 r2) × Within off (field 48 f 0 1) w1 w2
+        → Gathered (linkAt f 48 20) (field 48 f 0 1) (linkAt d 40 28) (Live (field 40 d 0 1) RD) R 1 (markAt w1 off)
+        → Gathers (linkAt f 48 20) (field 48 f 0 1) (linkAt d 40 28) (Live (field 40 d 0 1) RD) (field 40 d 0 1) off R w2 r2) × Within off (field 48 f 0 1) w1 w2
     kids =
-        subst (λ z. ((RD R : List ℕ) → Told (field 40 d 0 1) RD w1 → Gathered (linkAt f 48 20) z (linkAt d 40 28) (Alive (field 40 d 0 1) RD) R 1 (markAt w1 off)
-        → Gathers (linkAt f 48 20) z (linkAt d 40 28) (Alive (field 40 d 0 1) RD) (field 40 d 0 1) off R w2 r2) × Within off z w1 w2) files-count
-        (subst (λ z. ((RD R : List ℕ) → Told z RD w1 → Gathered (linkAt f 48 20) m (linkAt d 40 28) (Alive z RD) R 1 (markAt w1 off)
-        → Gathers (linkAt f 48 20) m (linkAt d 40 28) (Alive z RD) z off R w2 r2) × Within off m w1 w2) dirs-count B)
+        subst (λ z. ((RD R : List ℕ) → Told (field 40 d 0 1) RD w1 → Gathered (linkAt f 48 20) z (linkAt d 40 28) (Live (field 40 d 0 1) RD) R 1 (markAt w1 off)
+        → Gathers (linkAt f 48 20) z (linkAt d 40 28) (Live (field 40 d 0 1) RD) (field 40 d 0 1) off R w2 r2) × Within off z w1 w2) files-count
+        (subst (λ z. ((RD R : List ℕ) → Told z RD w1 → Gathered (linkAt f 48 20) m (linkAt d 40 28) (Live z RD) R 1 (markAt w1 off)
+        → Gathers (linkAt f 48 20) m (linkAt d 40 28) (Live z RD) z off R w2 r2) × Within off m w1 w2) dirs-count B)
 
     module _ (dh : List ℕ) (tell : Told (field 40 d 0 1) (removedOf (dirView dh d)) work) where
       pub files-2 : r2 ≡ false → FilesTested dh d fh f false

@@ -4,29 +4,11 @@ use mathlib.Core.List.{List, [], _∷_}
 use mathlib.Core.Bool.{Bool, true, false}
 use Prim.Native.Nat.{ℕ, _/_, _≤_, _<_}
 use lib.ListN.{length}
-use Rattle.links.specs.Links.{Holds}
 use Rattle.tree_table.specs.Field.{field}
-use Rattle.tree_table.specs.View.{View, keyAt, dirView, fileView, removedOf, LiveIn}
-use Rattle.tree_sound.specs.Sound.{Table, up, Reaches}
+use Rattle.tree_table.specs.View.{keyAt, dirView, fileView, removedOf}
+use Rattle.tree_sound.specs.Sound.{Below, Dirs}
 use Rattle.tree_marks.specs.Marks.{gone, Within}
 use Rattle.tree_marks.specs.Gather.{Told}
-
--- the sentences of soundness about the directories alone
-pub record Dirs (D : View) : Type 0 where
-  pub table : Table D
-  pub count-two : 2 ≤ D .count
-  pub root-live : LiveIn D 1
-  pub root-key : D .key 1 ≡ 0 ∷ 0 ∷ 0 ∷ 0 ∷ 0 ∷ []
-  pub root-next : D .next 1 ≡ 0
-  pub parents : (y : ℕ) → LiveIn D y → (y ≡ 1 → ⊥) → LiveIn D (up D y)
-  pub lists : (p : ℕ) → LiveIn D p → Holds (D .next) (D .head p) (λ y. LiveIn D y × (up D y ≡ p))
-  pub reach : (y : ℕ) → LiveIn D y → Reaches D y
-
--- those about the files
-pub record Files (D F : View) : Type 0 where
-  pub table : Table F
-  pub parents : (y : ℕ) → LiveIn F y → LiveIn D (up F y)
-  pub lists : (p : ℕ) → LiveIn D p → Holds (F .next) (F .head p) (λ y. LiveIn F y × (up F y ≡ p))
 
 -- the root, by its mark and its entry
 pub record Root (d : List ℕ) (mark : ℕ) : Type 0 where
@@ -42,8 +24,8 @@ pub record DirsTested (dh d : List ℕ) (work work′ : List ℕ) (r : Bool) : T
 
 -- the test of the files below directories that passed it
 pub record FilesTested (dh d fh f : List ℕ) (r : Bool) : Type 0 where
-  pub good : r ≡ true → Files (dirView dh d) (fileView d fh f)
-  pub bad : r ≡ false → Files (dirView dh d) (fileView d fh f) → ⊥
+  pub good : r ≡ true → Below (dirView dh d) (fileView d fh f) 0
+  pub bad : r ≡ false → Below (dirView dh d) (fileView d fh f) 0 → ⊥
 
 -- what the test asks of the four lengths
 pub record Sized (dh d fh f : List ℕ) : Type 0 where

@@ -4,7 +4,8 @@ use Prim.Native.Nat.{ℕ, _+_, _-_, _≤_, _<_}
 use native.Mathlib.Omega.{arith}
 use borrow.Author.Needs.{needs}
 use lib.ListN.{length, getD}
-use Rattle.tree_marks.specs.Marks.{markAt, Tells}
+use Rattle.order.specs.Tells.{Tells}
+use Rattle.tree_marks.specs.Marks.{markAt}
 use Rattle.tree_marks.proofs.Gathering.{Checking, check-begin, check-on, check-stop, check-done}
 use Rattle.tree_alone.proofs.Entries.{mark-none, mark-some}
 use Rattle.tree_alone.proofs.all_marked.Statement.{statement}

@@ -6,7 +6,8 @@ use borrow.Author.Needs.{needs}
 use borrow.Author.Tests.{not-true, not-false}
 use lib.ListN.{length, getD, set}
 use Rattle.tree_table.specs.Chain.{linkAt}
-use Rattle.tree_marks.specs.Marks.{markAt, Tells}
+use Rattle.order.specs.Tells.{Tells}
+use Rattle.tree_marks.specs.Marks.{markAt}
 use Rattle.tree_marks.specs.Gather.{Named}
 use Rattle.tree_marks.proofs.Walks.{entry-in}
 use Rattle.tree_marks.proofs.Gathering.{Checking, check-begin, check-on, check-stop, check-done}
