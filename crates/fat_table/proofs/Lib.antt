@@ -9,5 +9,6 @@ pub mod Overwrites
 pub mod Resizes
 pub mod Counting
 pub mod Agreeing
+pub mod Kept
 pub mod Unchanged
 pub mod Decided
