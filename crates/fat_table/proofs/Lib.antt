@@ -12,3 +12,4 @@ pub mod Agreeing
 pub mod Kept
 pub mod Unchanged
 pub mod Decided
+pub mod Bounds
