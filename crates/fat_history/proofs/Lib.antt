@@ -6,3 +6,4 @@ pub mod Lies
 pub mod Theorems
 pub mod Places
 pub mod Apart
+pub mod Formats

@@ -2,3 +2,4 @@ pub mod Run
 pub mod Away
 pub mod OneChain
 pub mod KeptBy
+pub mod Formats
