@@ -7,3 +7,4 @@ pub mod Theorems
 pub mod Places
 pub mod Apart
 pub mod Formats
+pub mod Entries
