@@ -10,7 +10,7 @@ use Rattle.links.specs.Change.{walk}
 use Rattle.links.proofs.Laws.{one-list, walked, fewer}
 use Rattle.links.proofs.Held.{same-or}
 use Rattle.tree_table.specs.View.{View, parent, place, removedOf, bucketOf, childrenOf, LiveIn}
-use Rattle.tree_sound.specs.Sound.{Table, Sound, up}
+use Rattle.tree_sound.specs.Sound.{Table, Below, Dirs, up}
 
 -- the list xs from h, by `next`, ends by itself and holds exactly the y with P y
 pub record Uncut (next : ℕ → ℕ) (h : ℕ) (xs : List ℕ) (P : ℕ → Type 0) : Type 0 where
@@ -36,14 +36,11 @@ module _ (v : View) (T : Table v) where
   pub bucket-uncut : (b : ℕ) → b < v .buckets → Uncut (v .coll) (v .hash b) (bucketOf v b) (λ y. LiveIn v y × (place v (v .key y) ≡ b))
   bucket-uncut b h = live-uncut (v .coll) (v .hash b) (λ y. place v (v .key y) ≡ b) (T .bucket b h)
 
-module _ (D F : View) (S : Sound D F) where
-  -- a directory's child directories, and its child files
-  pub dirs-uncut : (p : ℕ) → LiveIn D p → Uncut (D .next) (D .head p) (childrenOf D p) (λ y. LiveIn D y × (up D y ≡ p))
-  dirs-uncut p l = live-uncut D (S .dirs) (D .next) (D .head p) (λ y. up D y ≡ p) (S .sub-dirs p l)
+-- a directory's children in the table v, the directories' or the files'
+pub children-uncut : (D v : View) (root p : ℕ) → Below D v root → LiveIn D p → Uncut (v .next) (v .head p) (childrenOf v p) (λ y. LiveIn v y × (up v y ≡ p))
+children-uncut D v root p B l = live-uncut v (B .table) (v .next) (v .head p) (λ y. up v y ≡ p) (B .lists p l)
 
-  pub files-uncut : (p : ℕ) → LiveIn D p → Uncut (F .next) (F .head p) (childrenOf F p) (λ y. LiveIn F y × (up F y ≡ p))
-  files-uncut p l = live-uncut F (S .files) (F .next) (F .head p) (λ y. up F y ≡ p) (S .sub-files p l)
-
+module _ (D : View) (S : Dirs D) where
   -- the directories above a live one are below count
   above-low : (y : ℕ) (xs : List ℕ) → LiveIn D y → Links (up D) y xs → (z : ℕ) → z ∈ xs → z < D .count
   above-low y (a ∷ xs) ly l z (inl e) = let q : y ≡ a = l .0 in let b : y < D .count = ly .1 in subst (λ n. n < D .count) (q ∙ sym e) b
@@ -53,13 +50,13 @@ module _ (D F : View) (S : Sound D F) where
       let u : up D a ≡ 0 = ap (up D) e ∙ ap parent (S .root-key) in
       let n : xs ≡ [] = one-list (up D) (up D a) 0 xs [] u (l .2) refl in
       absurd (subst (λ zs. z ∈ zs) n m))
-      (λ (e : a ≢ 1). above-low (up D a) xs (S .dir-parents a (subst (λ w. LiveIn D w) (l .0) ly) e) (l .2) z m)
+      (λ (e : a ≢ 1). above-low (up D a) xs (S .below .parents a (subst (λ w. LiveIn D w) (l .0) ly) e) (l .2) z m)
       (same-or a 1)
 
   -- the way up is the list that a walk of as many steps as there are entries finds
   pub way-up : (y : ℕ) → LiveIn D y → (xs : List ℕ) → Links (up D) y xs → walk (up D) (D .count) y ≡ xs
   way-up y ly xs l =
-      let q : length xs < D .count = fewer (up D) (D .count) y xs (S .dirs .count-one) l (above-low y xs ly l) in
+      let q : length xs < D .count = fewer (up D) (D .count) y xs (S .below .table .count-one) l (above-low y xs ly l) in
       walked (up D) (D .count) y xs l (omega arith)
 
   -- the directories above a live one, by parents: the walk ends behind the root, and the root is in it
