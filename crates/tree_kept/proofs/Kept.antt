@@ -19,7 +19,7 @@ use Rattle.tree_sound.proofs.Tree.{Tree}
 use Rattle.tree_sound.proofs.Equal.{tree-of, sound-of}
 use Rattle.tree_promises.specs.Tables.{Tables, dirs, files, Has, HasOther, above}
 use Rattle.tree_promises.specs.Steps.{madeDir, madeFile, deletedDir, deletedFile, renamedDir, renamedFile, carriedDir, carriedFile}
-use Rattle.tree_kept.proofs.Above.{way-up}
+use Rattle.tree_sound.proofs.Bounds.{way-up}
 use Rattle.tree_kept.proofs.Files.{Fine, deleted-file-kept, deleted-file-removed, deleted-file-count, deleted-file-maximum, renamed-file-kept}
 use Rattle.tree_kept.proofs.MakeFile.{carried-file-kept, made-file-kept}
 use Rattle.tree_kept.proofs.Dirs.{renamed-dir-kept, carried-dir-kept}
@@ -75,7 +75,7 @@ module _ (s : Tables) (Q : Fine (s .dirHash) (s .dirTable) (s .fileHash) (s .fil
 
   -- the way up from p is the list that `above` walks: so what is not in it is not above p
   not-above : (x p : ℕ) → LiveIn (dirs s) p → (x ∈ above (dirs s) p → ⊥) → (qs : List ℕ) → Links (up (dirs s)) p qs → x ∈ qs → ⊥
-  not-above x p lp free qs l m = free (subst (λ zs. x ∈ zs) (sym (way-up (dirs s) (files s) S p lp qs l)) m)
+  not-above x p lp free qs l m = free (subst (λ zs. x ∈ zs) (sym (way-up (dirs s) (S .dirs) p lp qs l)) m)
 
   pub kept-rename-dir : (x p : ℕ) (name : List ℕ) → Bytes name → LiveIn (dirs s) x → (x ≡ 1 → ⊥) → LiveIn (dirs s) p → (x ∈ above (dirs s) p → ⊥)
       → (HasOther (dirs s) x (nameKey p name) → ⊥) → Sound (dirs (renamedDir s x p name)) (files (renamedDir s x p name))

@@ -1,6 +1,5 @@
 pub mod Tables
 pub mod Loose
-pub mod Above
 pub mod Files
 pub mod MakeFile
 pub mod Dirs
