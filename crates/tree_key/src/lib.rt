@@ -1,4 +1,4 @@
-// Keys and their hash, and the two kinds of entries: what save_ext_common.rs has, and the hash of tree_promises.rs.
+// Keys and their hash, and the two kinds of entries: what save_ext_common.rs has, and the hash of fs_meta.rs.
 ghost use mathlib.Core.Path.{_≡_};
 ghost use mathlib.Core.List.{[], _∷_};
 ghost use Prim.Native.Nat.{_+_, _%_, _≤_, _<_};

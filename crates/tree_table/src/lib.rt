@@ -1,4 +1,4 @@
-// One entry table at any width: the walks and steps of tree_promises.rs's MetaTable. Entries are counted from 0, and `w` is the entry's width in bytes.
+// One entry table at any width: the walks and steps of fs_meta.rs's MetaTable. Entries are counted from 0, and `w` is the entry's width in bytes.
 ghost use mathlib.Core.Path.{_≡_};
 ghost use mathlib.Core.List.{[], _∷_, _++_};
 ghost use Prim.Native.Nat.{_+_, _-_, _*_, _/_, _%_, _≤_, _<_};
