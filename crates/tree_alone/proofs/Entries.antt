@@ -5,8 +5,8 @@ use mathlib.Core.Logic.{_⊎_, inl, inr, ⊎-elim, _≢_}
 use mathlib.Core.Bool.{Bool, true, false, false≢true}
 use Prim.Native.Nat.{ℕ, _+_, _-_, _*_, _%_, _≤_, _<_}
 use native.Mathlib.Omega.{arith}
-use lib.Dec.{eqb}
-use borrow.Author.Tests.{eqb-true, eq-eqb}
+use lib.Dec.{eqb, ltb}
+use borrow.Author.Tests.{eqb-true, eq-eqb, lt-ltb, le-ltb}
 use lib.ListN.{length, take, drop}
 use Rattle.links.specs.Links.{_∈_, Links}
 use Rattle.links.specs.Change.{pick}
@@ -22,12 +22,14 @@ use Rattle.tree_table.specs.Chain.{linkAt, listAt, Ends, seekIn}
 use Rattle.tree_table.specs.declared.Hit.{Hit}
 use Rattle.tree_table.proofs.Chain.{key-part, goes, stops, list-is, ends}
 use Rattle.order.specs.Tells.{Tells}
-use Rattle.tree_marks.specs.Marks.{gone, markAt, Listed, Within}
-use Rattle.tree_marks.proofs.Walks.{entry-in, within-trans}
-use Rattle.tree_marks.proofs.Gathering.{Checking, check-on, gathers-more, gathers-stop}
-use Rattle.tree_marks.specs.Gather.{Gathered, any, bucketAt}
-use Rattle.tree_alone.specs.Entries.{Apart, Fits, AllFit}
-use Rattle.tree_alone.specs.Stage.{Filing, Filed}
+use Rattle.tree_marks.specs.inner.Marks.{gone, markAt, ListMarked, ListCounted, Within}
+use Rattle.tree_marks.proofs.Walks.{entry-in, within-refl, within-trans, le-or-lt}
+use Rattle.tree_marks.proofs.Gathering.{Checking, check-begin, check-on, gathers-more, gathers-stop}
+use Rattle.tree_marks.specs.inner.Gather.{Gathered, any, bucketAt}
+use Rattle.tree_apart.specs.inner.Apart.{Apart, far}
+use Rattle.tree_apart.proofs.Differing.{far-yes, far-no}
+use Rattle.tree_alone.specs.inner.Entries.{Fits, AllFit}
+use Rattle.tree_alone.specs.inner.Stage.{BucketFiled, BucketsFiled, BucketCounted, BucketsCounted}
 
 -- a search that finds nothing met no entry with the key
 pub seek-none : (key : ℕ → List ℕ) (k xs : List ℕ) (n : ℕ) → ((y : ℕ) → y ∈ xs → 0 < y) → seekIn key k xs n .inode ≡ 0 → (z : ℕ) → z ∈ xs → key z ≡ k → ⊥
@@ -47,32 +49,40 @@ seek-nothing key k (y ∷ ys) n none = go (sameKey (key y) k) refl (seek-nothing
     go true s r = absurd (none y (inl refl) (same-equal (key y) k s))
     go false s r = r
 
-module _ (t : List ℕ) (w buckets y mark : ℕ) where
-  pub fits-gone : mark ≡ gone → Tells (Fits t w buckets y mark) true
+module _ (t : List ℕ) (w buckets : ℕ) (long : Bool) (y mark : ℕ) where
+  pub fits-gone : mark ≡ gone → Tells (Fits t w buckets long y mark) true
   fits-gone e = record { yes = λ _. inl e; only = λ _. refl }
 
   module _ (n : mark ≡ gone → ⊥) (h : ℕ) (eh : h ≡ hashOf (keyAt (field w t) y) % buckets) where
-    pub fits-not : (mark ≡ h + 1 → ⊥) → Tells (Fits t w buckets y mark) false
+    pub fits-not : (mark ≡ h + 1 → ⊥) → Tells (Fits t w buckets long y mark) false
     fits-not d = record {
       yes = λ e. absurd (false≢true e);
       only = λ p. absurd (⊎-elim n
-          (λ (q : (mark ≡ hashOf (keyAt (field w t) y) % buckets + 1) × Apart t w y). d (q .0 ∙ ap (λ z. z + 1) (sym eh))) p);
+          (λ (q : (mark ≡ hashOf (keyAt (field w t) y) % buckets + 1) × (long ≡ false → Apart t w y)). d (q .0 ∙ ap (λ z. z + 1) (sym eh))) p);
     }
 
-    pub fits-apart : mark ≡ h + 1 → (k : List ℕ) → k ≡ keyAt (field w t) y → (first : ℕ) → first ≡ linkAt t w (w - 4) y → Ends t w (w - 4) first
-        → (hit : Hit) → hit ≡ seekIn (keyAt (field w t)) k (listAt t w (w - 4) first) 0 → Tells (Fits t w buckets y mark) (eqb (hit .inode) 0)
-    fits-apart em k ek first ef E hit ehit = record {
+    pub fits-long : mark ≡ h + 1 → long ≡ true → Tells (Fits t w buckets long y mark) true
+    fits-long em el = record { yes = λ _. inr (em ∙ ap (λ z. z + 1) eh, λ f. absurd (false≢true (sym f ∙ el))); only = λ _. refl }
+
+    pub fits-apart : mark ≡ h + 1 → long ≡ false → (k : List ℕ) → k ≡ keyAt (field w t) y → (first : ℕ) → first ≡ linkAt t w (w - 4) y → Ends t w (w - 4) first
+        → (hit : Hit) → hit ≡ seekIn (keyAt (field w t)) k (listAt t w (w - 4) first) 0 → Tells (Fits t w buckets long y mark) (eqb (hit .inode) 0)
+    fits-apart em el k ek first ef E hit ehit = record {
       yes = λ e. inr (
         em ∙ ap (λ z. z + 1) eh,
-        λ z m q.
+        λ _ z m q.
             seek-none (keyAt (field w t)) k (listAt t w (w - 4) first) 0 (positive (linkAt t w (w - 4)) first (listAt t w (w - 4) first) (E .links))
             (ap (λ u. u .inode) (sym ehit) ∙ eqb-true (hit .inode) 0 e) z (subst (λ u. z ∈ listAt t w (w - 4) u) (sym ef) m) (q ∙ sym ek),
       );
       only = λ p.
           eq-eqb (hit .inode) 0 (ap (λ u. u .inode) ehit
           ∙ seek-nothing (keyAt (field w t)) k (listAt t w (w - 4) first) 0 (λ z m q.
-          ⊎-elim n (λ (r : (mark ≡ hashOf (keyAt (field w t) y) % buckets + 1) × Apart t w y). r .1 z (subst (λ u. z ∈ listAt t w (w - 4) u) ef m) (q ∙ ek)) p));
+          ⊎-elim n (λ (r : (mark ≡ hashOf (keyAt (field w t) y) % buckets + 1) × (long ≡ false → Apart t w y)). r .1 el z (subst (λ u. z ∈ listAt t w (w - 4) u) ef m) (q ∙ ek)) p));
     }
+
+-- what the code found with the bool that it holds for `far`
+pub all-fit-far : (t : List ℕ) (w buckets first mark : ℕ) {long b : Bool} → long ≡ far t w first
+    → Tells ((y : ℕ) → y ∈ listAt t w (w - 4) first → Fits t w buckets long y mark) b → Tells (AllFit t w buckets first mark) b
+all-fit-far t w buckets first mark {long} {b} e T = subst (λ z. Tells ((y : ℕ) → y ∈ listAt t w (w - 4) first → Fits t w buckets z y mark) b) e T
 
 -- the key that the code reads from the entry's own part
 pub read-key : (t : List ℕ) (w : ℕ) {y i : ℕ} {k : SaveExtKey} → i ≡ y → 24 ≤ w → keyWords k ≡ keyOf (take (i * w + w - i * w) (drop (i * w) t)) → keyWords k ≡ keyAt (field w t) y
@@ -123,94 +133,156 @@ pub mark-some : {m : ℕ} → m ≢ 0 → Tells (0 < m) true
 mark-some {m} n = record { yes = λ _. ⊎-elim (λ (e : m ≡ 0). absurd (n e)) (λ (k : m ≢ 0). omega arith) (same-or m 0); only = λ _. refl }
 
 -- an entry that fits has a mark
-fits-mark : (t : List ℕ) (w buckets y mark : ℕ) → Fits t w buckets y mark → 0 < mark
-fits-mark t w buckets y mark p =
+fits-mark : (t : List ℕ) (w buckets : ℕ) (long : Bool) (y mark : ℕ) → Fits t w buckets long y mark → 0 < mark
+fits-mark t w buckets long y mark p =
     ⊎-elim (λ (g : mark ≡ gone). omega arith)
-    (λ (q : (mark ≡ hashOf (keyAt (field w t) y) % buckets + 1) × Apart t w y). let e : mark ≡ hashOf (keyAt (field w t) y) % buckets + 1 = q .0 in omega arith) p
+    (λ (q : (mark ≡ hashOf (keyAt (field w t) y) % buckets + 1) × (long ≡ false → Apart t w y)). let e : mark ≡ hashOf (keyAt (field w t) y) % buckets + 1 = q .0 in omega arith) p
 
 -- every entry fits, if every bucket's do and every entry has a mark
 pub entries-by : (h t : List ℕ) (w count buckets : ℕ) (W : ℕ → ℕ)
     → ((j : ℕ) → 0 < j → j < buckets + 1 → (y : ℕ) → W y ≡ j → y ∈ listAt t w (w - 4) (bucketAt h j))
     → ((y : ℕ) → (W y ≡ 0) ⊎ ((W y ≡ gone) ⊎ ((0 < W y) × (W y < buckets + 1) × any (W y))))
     → ((j : ℕ) → 0 < j → j < buckets + 1 → AllFit t w buckets (bucketAt h j) j)
-    → (a : Bool) → Tells ((y : ℕ) → 0 < y → y < count → 0 < W y) a → Tells ((y : ℕ) → 0 < y → y < count → Fits t w buckets y (W y)) a
+    → (a : Bool) → Tells ((y : ℕ) → 0 < y → y < count → 0 < W y) a → Tells ((y : ℕ) → 0 < y → y < count → Fits t w buckets (far t w (bucketAt h (W y))) y (W y)) a
 entries-by h t w count buckets W marks only fit a A = record {
   yes = λ q y p l.
       ⊎-elim (λ (z : W y ≡ 0). absurd (let k : 0 < W y = A .yes q y p l in omega arith))
       (⊎-elim (λ (g : W y ≡ gone). inl g)
       (λ (k : (0 < W y) × (W y < buckets + 1) × any (W y)). fit (W y) (k .0) (k .1) y (marks (W y) (k .0) (k .1) y refl)))
       (only y);
-  only = λ all. A .only (λ y p l. fits-mark t w buckets y (W y) (all y p l));
+  only = λ all. A .only (λ y p l. fits-mark t w buckets (far t w (bucketAt h (W y))) y (W y) (all y p l));
 }
 
 -- ---- one bucket: the walk that marks it, then its entries
 
 -- the list that the code compares
-pub filing-ends : {t : List ℕ} {w count first i off : ℕ} {work work′ : List ℕ} {r : Bool} → Listed (linkAt t w (w - 4)) count first i off work work′ r
+pub filing-ends : {t : List ℕ} {w count first i off : ℕ} {work work′ : List ℕ} {r : Bool} → ListMarked (linkAt t w (w - 4)) count first i off work work′ r
     → r ≡ true → 1 ≤ count → count ≤ 65536 → count * w ≤ length t → Ends t w (w - 4) first
 filing-ends {t} {w} {count} {first} A e h1 hc hl =
     let a = A .good e in
     let s : length (a .0) < count = fewer (linkAt t w (w - 4)) count first (a .0) (omega arith) (a .1) (λ y m. a .2 y m .0) in
     ends t w (w - 4) first (a .0) (a .1) (omega arith) (λ z m. entry-in w z count (length t) (a .2 z m .0) hl)
 
-module _ {t : List ℕ} {w count buckets first i off : ℕ} {work work′ : List ℕ} {r : Bool} (A : Listed (linkAt t w (w - 4)) count first i off work work′ r) where
-  pub filing-stop : r ≡ false → Filing t w count buckets first i off work work′ false
+module _ {t : List ℕ} {w count buckets first i off : ℕ} {work work′ : List ℕ} {r : Bool} (A : ListMarked (linkAt t w (w - 4)) count first i off work work′ r) where
+  pub filing-stop : r ≡ false → BucketFiled t w count buckets first i off work work′ false
   filing-stop e = record {
     good = λ q. absurd (false≢true q);
     bad = λ _ xs l f _. A .bad e xs l f;
     within = A .within;
   }
 
-  pub filing-done : r ≡ true → {b : Bool} → Tells (AllFit t w buckets first i) b → Filing t w count buckets first i off work work′ b
+  pub filing-done : r ≡ true → {b : Bool} → Tells (AllFit t w buckets first i) b → BucketFiled t w count buckets first i off work work′ b
   filing-done e T = record {
     good = λ q. (A .good e, T .yes q);
     bad = λ q xs l f all. absurd (false≢true (sym q ∙ T .only all));
     within = A .within;
   }
 
+-- ---- the same with the bucket's length
+
+some : (n : ℕ) → 0 < n → ltb 0 n ≡ true
+some n p = lt-ltb 0 n p
+
+module _ (t : List ℕ) (w first : ℕ) {count i off : ℕ} {work work′ : List ℕ} {n : ℕ} (A : ListCounted (linkAt t w (w - 4)) count first i off work work′ n)
+    (p : 0 < n) (h1 : 1 ≤ count) (hc : count ≤ 65536) (hl : count * w ≤ length t) where
+  pub counted-ends : Ends t w (w - 4) first
+  counted-ends = filing-ends (A .listed) (some n p) h1 hc hl
+
+  pub counted-size : n ≡ length (listAt t w (w - 4) first) + 1
+  counted-size = A .size p (listAt t w (w - 4) first) (counted-ends .links)
+
+  pub counted-far : ltb 17 n ≡ far t w first
+  counted-far =
+      let e : n ≡ length (listAt t w (w - 4) first) + 1 = counted-size in
+      ⊎-elim (λ (k : n ≤ 17). le-ltb 17 n k ∙ far-no t w first (omega arith)) (λ (k : 17 < n). lt-ltb 17 n k ∙ far-yes t w first (omega arith)) (le-or-lt n 17)
+
+module _ {t : List ℕ} {w count buckets first i off : ℕ} {work work′ : List ℕ} {n : ℕ} (A : ListCounted (linkAt t w (w - 4)) count first i off work work′ n) where
+  pub counted-stop : n ≡ 0 → BucketCounted t w count buckets first i off work work′ 0
+  counted-stop e = record { filed = filing-stop (A .listed) (ap (ltb 0) e); longer = λ p. absurd (omega arith) }
+
+  module _ (p : 0 < n) {b : Bool} (T : Tells (AllFit t w buckets first i) b) where
+    pub counted-no : b ≡ false → BucketCounted t w count buckets first i off work work′ 0
+    counted-no e = record {
+      filed = subst (λ z. BucketFiled t w count buckets first i off work work′ z) e (filing-done (A .listed) (some n p) T);
+      longer = λ q. absurd (omega arith);
+    }
+
+    pub counted-yes : 1 ≤ count → count ≤ 65536 → count * w ≤ length t → b ≡ true → BucketCounted t w count buckets first i off work work′ n
+    counted-yes h1 hc hl e = record {
+      filed = subst (λ z. BucketFiled t w count buckets first i off work work′ z) (e ∙ sym (some n p)) (filing-done (A .listed) (some n p) T);
+      longer = λ _. (let k : n ≡ length (listAt t w (w - 4) first) + 1 = counted-size t w first A p h1 hc hl in omega arith);
+    }
+
 -- ---- the buckets one after the other
 
-pub record Filling (h t : List ℕ) (w count buckets off : ℕ) (work₀ work : List ℕ) (i : ℕ) : Type 0 where
+pub record Filling (h t : List ℕ) (w count buckets off : ℕ) (work₀ work : List ℕ) (longest i : ℕ) : Type 0 where
   pub most : i ≤ buckets + 1
   pub size : length work ≡ length work₀
   pub lists : (R : List ℕ) → Gathered (linkAt t w (w - 4)) count (bucketAt h) any R 1 (markAt work₀ off) → Gathered (linkAt t w (w - 4)) count (bucketAt h) any R i (markAt work off)
   pub fit : Checking (λ j. AllFit t w buckets (bucketAt h j) j) i
+  pub one : 0 < longest
+  pub long : (j : ℕ) → 0 < j → j < i → length (listAt t w (w - 4) (bucketAt h j)) < longest
   pub within : Within off count work₀ work
 
-module _ {h t : List ℕ} {w count buckets off : ℕ} {work₀ work work′ : List ℕ} {i first : ℕ} {r : Bool} (C : Filling h t w count buckets off work₀ work i) (hi : i ≤ buckets) (hm : buckets ≤ 65536)
-    (e : first ≡ bucketAt h i) (F : Filing t w count buckets first i off work work′ r) where
-  pub filling-on : r ≡ true → Filling h t w count buckets off work₀ work′ (i + 1)
-  filling-on q = record {
+pub filling-begin : (h t : List ℕ) (w count buckets off : ℕ) (work : List ℕ) → Filling h t w count buckets off work work 1 1
+filling-begin h t w count buckets off work = record {
+  most = omega arith;
+  size = refl;
+  lists = λ R G. G;
+  fit = check-begin _;
+  one = omega arith;
+  long = λ j p l. absurd (omega arith);
+  within = within-refl off count work;
+}
+
+module _ {h t : List ℕ} {w count buckets off : ℕ} {work₀ work work′ : List ℕ} {longest i first n : ℕ} (C : Filling h t w count buckets off work₀ work longest i) (hi : i ≤ buckets) (hm : buckets ≤ 65536)
+    (e : first ≡ bucketAt h i) (B : BucketCounted t w count buckets first i off work work′ n) where
+  filed : BucketFiled t w count buckets first i off work work′ (ltb 0 n)
+  filed = B .filed
+
+  pub filling-on : 0 < n → {m : ℕ} → longest ≤ m → n ≤ m → Filling h t w count buckets off work₀ work′ m (i + 1)
+  filling-on p {m} a b = record {
     most = omega arith;
-    size = F .within .size ∙ C .size;
+    size = filed .within .size ∙ C .size;
     lists = λ R G. gathers-more (buckets + 1) (C .fit .some) (omega arith) (omega arith) e tt listed (C .lists R G) refl;
-    fit = check-on (C .fit) (record { yes = λ _. subst (λ z. AllFit t w buckets z i) e (F .good q .1); only = λ _. refl }) refl;
-    within = within-trans (C .within) (F .within);
+    fit = check-on (C .fit) (record { yes = λ _. subst (λ z. AllFit t w buckets z i) e (filed .good (some n p) .1); only = λ _. refl }) refl;
+    one = (let o : 0 < longest = C .one in omega arith);
+    long = λ j q l.
+        ⊎-elim
+        (λ (k : j ≡ i).
+        let s : length (listAt t w (w - 4) first) < n = B .longer p in
+        subst (λ z. length (listAt t w (w - 4) (bucketAt h z)) < m) (sym k) (subst (λ z. length (listAt t w (w - 4) z) < m) e (omega arith)))
+        (λ (k : j ≢ i). let s : length (listAt t w (w - 4) (bucketAt h j)) < longest = C .long j q (omega arith) in omega arith)
+        (same-or j i);
+    within = within-trans (C .within) (filed .within);
   }
     where
-      listed : Listed (linkAt t w (w - 4)) count first i off work work′ true
-      listed = record { good = λ _. F .good q .0; bad = λ z. absurd (false≢true (sym z)); within = F .within }
+      listed : ListMarked (linkAt t w (w - 4)) count first i off work work′ true
+      listed = record { good = λ _. filed .good (some n p) .0; bad = λ z. absurd (false≢true (sym z)); within = filed .within }
 
-  pub filling-stop : r ≡ false → ((R : List ℕ) → Gathered (linkAt t w (w - 4)) count (bucketAt h) any R 1 (markAt work₀ off) → Filed h t w count buckets off R work′ false) × Within off count work₀ work′
-  filling-stop q = (
-    λ R G. record {
+  pub filling-stop : n ≡ 0 → BucketsCounted h t w count buckets off work₀ work′ 0
+  filling-stop q = record {
+    filed = λ R G. record {
       good = λ z. absurd (false≢true z);
       bad = λ _ f right all.
           gathers-stop (buckets + 1) (C .fit .some) (omega arith) (omega arith) e tt (listed (all i (C .fit .some) (omega arith))) (C .lists R G) refl .bad refl f right;
-    },
-    within-trans (C .within) (F .within),
-  )
+    };
+    longest = λ p. absurd (omega arith);
+    within = within-trans (C .within) (filed .within);
+  }
     where
-      listed : AllFit t w buckets (bucketAt h i) i → Listed (linkAt t w (w - 4)) count first i off work work′ false
-      listed all = record { good = λ z. absurd (false≢true z); bad = λ _ xs l f. F .bad q xs l f (subst (λ z. AllFit t w buckets z i) (sym e) all); within = F .within }
+      listed : AllFit t w buckets (bucketAt h i) i → ListMarked (linkAt t w (w - 4)) count first i off work work′ false
+      listed all = record { good = λ z. absurd (false≢true z); bad = λ _ xs l f. filed .bad (ap (ltb 0) q) xs l f (subst (λ z. AllFit t w buckets z i) (sym e) all); within = filed .within }
 
-pub filling-done : {h t : List ℕ} {w count buckets off : ℕ} {work₀ work : List ℕ} {i : ℕ} → Filling h t w count buckets off work₀ work i → buckets < i
-    → ((R : List ℕ) → Gathered (linkAt t w (w - 4)) count (bucketAt h) any R 1 (markAt work₀ off) → Filed h t w count buckets off R work true) × Within off count work₀ work
-filling-done {h} {t} {w} {count} {buckets} {off} {work₀} {work} {i} C l =
-    let e : i ≡ buckets + 1 = let m : i ≤ buckets + 1 = C .most in omega arith in (
-      λ R G. record {
+pub filling-done : {h t : List ℕ} {w count buckets off : ℕ} {work₀ work : List ℕ} {longest i : ℕ} → Filling h t w count buckets off work₀ work longest i → buckets < i
+    → BucketsCounted h t w count buckets off work₀ work longest
+filling-done {h} {t} {w} {count} {buckets} {off} {work₀} {work} {longest} {i} C l =
+    let e : i ≡ buckets + 1 = let m : i ≤ buckets + 1 = C .most in omega arith in
+    record {
+      filed = λ R G. record {
         good = λ _. (subst (λ z. Gathered (linkAt t w (w - 4)) count (bucketAt h) any R z (markAt work off)) e (C .lists R G), λ j a b. C .fit .right j a (omega arith));
-        bad = λ q. absurd (false≢true (sym q));
-      },
-      C .within,
-    )
+        bad = λ q. absurd (false≢true (sym q ∙ some longest (C .one)));
+      };
+      longest = λ _ j a b. C .long j a (omega arith);
+      within = C .within;
+    }

@@ -14,12 +14,12 @@ use Rattle.links.proofs.Held.{same-or, holds-kept}
 use Rattle.tree_key.specs.Hash.{hashOf}
 use Rattle.tree_table.specs.View.{View, place, removedOf, Live, LiveIn}
 use Rattle.order.specs.Tells.{Tells}
-use Rattle.tree_marks.specs.Marks.{gone, markAt, Free, Marked, Listed, Within}
-use Rattle.tree_marks.specs.Gather.{Gathered, Gathers, any, Kept}
+use Rattle.tree_marks.specs.inner.Marks.{gone, markAt, Unmarked, Marked, ListMarked, Within}
+use Rattle.tree_marks.specs.inner.Gather.{Gathered, Gathers, any, GoneKept}
 use Rattle.tree_marks.proofs.Walks.{le-or-lt}
 use Rattle.tree_marks.proofs.Gathering.{in-or, gathered, gathered-ok}
 use Rattle.tree_sound.specs.Sound.{Table}
-use Rattle.tree_alone.specs.Stage.{Clean}
+use Rattle.tree_alone.specs.inner.Stage.{OnlyGone}
 
 -- of two entries of a list, one is the other or stands behind it
 order : (next : ℕ → ℕ) (h : ℕ) (xs : List ℕ) → Links next h xs → (y z : ℕ) → y ∈ xs → z ∈ xs
@@ -38,7 +38,7 @@ removed-is v R l b h =
 -- ---- the removed entries
 
 module _ (v : View) (h : ℕ → ℕ) (W W′ : ℕ → ℕ) (zero-marks : (y : ℕ) → W y ≡ 0) where
-  pub removed-marks : (xs : List ℕ) → Links (v .coll) (v .coll 0) xs → Free (v .count) W xs → Marked W W′ gone xs → Gathered (v .coll) (v .count) h any xs 1 W′
+  pub removed-marks : (xs : List ℕ) → Links (v .coll) (v .coll 0) xs → Unmarked (v .count) W xs → Marked W W′ gone xs → Gathered (v .coll) (v .count) h any xs 1 W′
   removed-marks xs l f M = record {
     removed = λ y. (
       λ m. M .marked y m,
@@ -53,7 +53,7 @@ module _ (v : View) (h : ℕ → ℕ) (W W′ : ℕ → ℕ) (zero-marks : (y : 
   }
 
   -- the removed list of a sound table is free
-  pub removed-free : Table v → Free (v .count) W (removedOf v)
+  pub removed-free : Table v → Unmarked (v .count) W (removedOf v)
   removed-free T y m = (T .removed-below y m, zero-marks y)
 
 -- ---- the buckets: list j starts at h j, and is bucket j - 1
@@ -130,8 +130,8 @@ module _ (v : View) (hb : 0 < v .buckets) (hm : v .buckets ≤ 65536) (h : ℕ �
 
 -- ---- the marks that stay
 
-pub clean-of : {count off : ℕ} {work work′ : List ℕ} (nx head : ℕ → ℕ) (R : List ℕ) (n : ℕ) → Gathered nx count head any R n (markAt work off) → Kept off count work work′
-    → ((y : ℕ) → count ≤ y → markAt work′ off y ≡ markAt work off y) → Clean count R (markAt work′ off)
+pub clean-of : {count off : ℕ} {work work′ : List ℕ} (nx head : ℕ → ℕ) (R : List ℕ) (n : ℕ) → Gathered nx count head any R n (markAt work off) → GoneKept off count work work′
+    → ((y : ℕ) → count ≤ y → markAt work′ off y ≡ markAt work off y) → OnlyGone count R (markAt work′ off)
 clean-of {count} {off} {work} {work′} nx head R n G K out = record {
   removed = λ y. (
     λ m. let e = G .removed y .0 m in K .dead y (G .below y (not-zero y e) .1) e,
@@ -158,7 +158,7 @@ clean-of {count} {off} {work} {work′} nx head R n G K out = record {
     lt-or-le : (a b : ℕ) → (a < b) ⊎ (b ≤ a)
     lt-or-le a b = ⊎-elim (λ (k : b ≤ a). inr k) (λ (k : a < b). inl k) (le-or-lt b a)
 
-pub clean-gathered : {count : ℕ} {R : List ℕ} {W : ℕ → ℕ} → Clean count R W → (nx head : ℕ → ℕ) (want : ℕ → Type 0) → Gathered nx count head want R 1 W
+pub clean-gathered : {count : ℕ} {R : List ℕ} {W : ℕ → ℕ} → OnlyGone count R W → (nx head : ℕ → ℕ) (want : ℕ → Type 0) → Gathered nx count head want R 1 W
 clean-gathered C nx head want = record {
   removed = C .removed;
   list = λ j a b. absurd (omega arith);

@@ -7,19 +7,41 @@ use Prim.Native.Nat.{ℕ, zero, suc, _+_, _-_, _*_, _/_, _%_, _≤_, _<_}
 use native.Mathlib.Omega.{arith}
 use native.Mathlib.Nat.{mul-le-mul-right, div-mul-le-self}
 use lib.ListN.{length, getD}
-use lib.Dec.{leb}
-use borrow.Author.Tests.{leb-true, le-leb}
+use lib.Dec.{leb, ltb}
+use borrow.Author.Tests.{leb-true, le-leb, lt-ltb}
 use Rattle.words.specs.Word.{word}
 use Rattle.tree_table.specs.Field.{field}
 use Rattle.tree_table.specs.View.{View, removedOf}
 use Rattle.tree_table.specs.Chain.{linkAt}
+use Rattle.links.specs.Links.{_∈_, Links}
+use Rattle.links.proofs.Laws.{one-list, positive}
 use Rattle.order.specs.Tells.{Tells}
-use Rattle.tree_marks.specs.Marks.{markAt, Within}
-use Rattle.tree_marks.specs.Gather.{Gathered, bucketAt, any, Kept}
+use Rattle.tree_marks.specs.inner.Marks.{gone, markAt, Within}
+use Rattle.tree_marks.proofs.Gathering.{in-or}
+use Rattle.tree_apart.specs.inner.Apart.{Bounded, FarApart, Swept, Sifted}
+use Rattle.tree_marks.specs.inner.Gather.{Gathered, bucketAt, any, GoneKept}
 use Rattle.tree_marks.proofs.Walks.{within-refl, within-trans, within-more}
 use Rattle.tree_sound.specs.Sound.{Table}
-use Rattle.tree_alone.specs.Stage.{Clean, alone, Front, Sorted, Single}
+use Rattle.tree_alone.specs.inner.Stage.{OnlyGone, aloneView, FrontFits, TableSorted, TableCounted, TableTested}
 use Rattle.tree_alone.proofs.OneTable.{clean-of}
+
+-- the removed list of a sound table, as the code walks it
+removed-links : (h t : List ℕ) (w root : ℕ) (head : ℕ → ℕ) → Table (aloneView h t w root head) → Links (linkAt t w (w - 4)) (linkAt t w (w - 4) 0) (removedOf (aloneView h t w root head))
+unfolding field
+removed-links h t w root head T = T .removed
+
+-- marks swept and set anew are those of the removed entries
+clean-swept : (h t : List ℕ) (w root : ℕ) (head : ℕ → ℕ) {R : List ℕ} {W : ℕ → ℕ} → Table (aloneView h t w root head) → Swept t w (field w t 0 1) R W
+    → OnlyGone (field w t 0 1) (removedOf (aloneView h t w root head)) W
+clean-swept h t w root head {R} {W} T S =
+    subst (λ l. OnlyGone (field w t 0 1) l W)
+    (one-list (linkAt t w (w - 4)) (linkAt t w (w - 4) 0) (linkAt t w (w - 4) 0) R (removedOf (aloneView h t w root head)) refl (S .links) (removed-links h t w root head T))
+    (record {
+      removed = λ y. (S .dead y, λ (e : W y ≡ gone). ⊎-elim (λ (m : y ∈ R). m) (λ (m : y ∈ R → ⊥). absurd (let z : W y ≡ 0 = S .others y m in omega arith)) (in-or y R));
+      below = λ y n.
+          ⊎-elim (λ (m : y ∈ R). (positive (linkAt t w (w - 4)) (linkAt t w (w - 4) 0) R (S .links) y m, S .below y m)) (λ (m : y ∈ R → ⊥). absurd (n (S .others y m))) (in-or y R);
+      only = λ y. ⊎-elim (λ (m : y ∈ R). inr (S .dead y m)) (λ (m : y ∈ R → ⊥). inl (S .others y m)) (in-or y R);
+    })
 
 -- the numbers at a table's front
 abbrev pub Numbers : ℕ → ℕ → ℕ → ℕ → Type 0
@@ -47,7 +69,7 @@ module _ (h t : List ℕ) (w least off : ℕ) (work : List ℕ) {count maximum :
   unfolding field
   maximum-is = em
 
-  numbers : (root : ℕ) (head : ℕ → ℕ) → Table (alone h t w root head) → least ≤ field w t 0 1 → Numbers count maximum (length t / w) least
+  numbers : (root : ℕ) (head : ℕ → ℕ) → Table (aloneView h t w root head) → least ≤ field w t 0 1 → Numbers count maximum (length t / w) least
   numbers root head T l = (
     subst (λ z. z ≤ length t / w) (sym maximum-is) (T .max-room),
     subst (λ z. 1 ≤ z) (sym count-is) (T .count-one),
@@ -55,41 +77,75 @@ module _ (h t : List ℕ) (w least off : ℕ) (work : List ℕ) {count maximum :
     subst (λ z. least ≤ z) (sym count-is) l,
   )
 
-  pub single-front : r1 ≡ false → Single h t w least off work work false
+  pub single-front : r1 ≡ false → TableTested h t w least off work work false
   single-front e = record {
     good = λ q. absurd (false≢true q);
     bad = λ _ root head T l. false≢true (sym e ∙ N .only (numbers root head T l));
     within = within-refl off (length t / w) work;
   }
 
-  module _ (e1 : r1 ≡ true) {w1 : List ℕ} {r2 : Bool} (S : Sorted h t w off work w1 r2) where
+  module _ (e1 : r1 ≡ true) {w1 : List ℕ} {n : ℕ} (C : TableCounted h t w off work w1 n) where
+    S : TableSorted h t w off work w1 (ltb 0 n)
+    S = C .sorted
+
+    some : 0 < n → ltb 0 n ≡ true
+    some p = lt-ltb 0 n p
+
     low : field w t 0 1 ≤ length t / w
     low =
         let n = N .yes e1 in
         let a : count ≤ maximum = n .2 in let b : maximum ≤ length t / w = n .0 in let k : count ≡ field w t 0 1 = count-is in omega arith
 
-    pub single-lists : r2 ≡ false → Single h t w least off work w1 false
+    pub single-lists : n ≡ 0 → TableTested h t w least off work w1 false
     single-lists e = record {
       good = λ q. absurd (false≢true q);
-      bad = λ _ root head T l. S .bad e root head T;
+      bad = λ _ root head T l. S .bad (ap (ltb 0) e) root head T;
       within = within-more (length t / w) low (S .within);
     }
 
-    pub single-good : r2 ≡ true → {w2 : List ℕ} → Kept off count w1 w2 → Single h t w least off work w2 true
-    single-good e {w2} K = record {
+    front : (root : ℕ) (head : ℕ → ℕ) → FrontFits (aloneView h t w root head)
+    front root head =
+        let n = N .yes e1 in record {
+          max-room = subst (λ z. z ≤ length t / w) maximum-is (n .0);
+          count-one = subst (λ z. 1 ≤ z) count-is (n .1);
+          count-max = subst (λ z. z ≤ field w t 0 2) count-is (subst (λ z. count ≤ z) maximum-is (n .2));
+        }
+
+    pub single-good : 0 < n → n ≤ 17 → {w2 : List ℕ} → GoneKept off count w1 w2 → TableTested h t w least off work w2 true
+    single-good p s17 {w2} K = record {
       good = λ _ root head.
           let n = N .yes e1 in
-          let F : Front (alone h t w root head) = record {
-            max-room = subst (λ z. z ≤ length t / w) maximum-is (n .0);
-            count-one = subst (λ z. 1 ≤ z) count-is (n .1);
-            count-max = subst (λ z. z ≤ field w t 0 2) count-is (subst (λ z. count ≤ z) maximum-is (n .2));
-          } in
-          let s = S .good e root head F in
-          let K′ : Kept off (field w t 0 1) w1 w2 = subst (λ z. Kept off z w1 w2) count-is K in (
+          let s = S .good (some p) (record { right = λ j a b f. absurd (false≢true (sym (C .near p s17 .near j a b) ∙ f)) }) root head (front root head) in
+          let K′ : GoneKept off (field w t 0 1) w1 w2 = subst (λ z. GoneKept off z w1 w2) count-is K in (
             s .0,
             subst (λ z. least ≤ z) count-is (n .3),
-            clean-of (linkAt t w (w - 4)) (bucketAt h) (removedOf (alone h t w root head)) (length h / 4 + 1) (s .1) K′ (λ y b. K′ .within .behind (off + y) (omega arith)),
+            clean-of (linkAt t w (w - 4)) (bucketAt h) (removedOf (aloneView h t w root head)) (length h / 4 + 1) (s .1) K′ (λ y b. K′ .within .behind (off + y) (omega arith)),
           );
       bad = λ q. absurd (false≢true (sym q));
       within = within-trans (within-more (length t / w) low (S .within)) (within-more (length t / w) low (subst (λ z. Within off z w1 w2) count-is (K .within)));
+    }
+
+    -- the buckets, by the count that the code holds
+    pub single-bounded : 0 < n → Bounded h t w count
+    single-bounded p = subst (λ z. Bounded h t w z) (sym count-is) (S .bounded (some p))
+
+    -- no mark beyond count
+    pub single-beyond : ((y : ℕ) → markAt work off y ≡ 0) → (y : ℕ) → count ≤ y → markAt w1 off y ≡ 0
+    single-beyond zeros y l = S .within .behind (off + y) (omega (arith, count-is)) ∙ zeros y
+
+    -- the long buckets were sorted, and the removed entries marked anew
+    pub single-far : 0 < n → {w2 : List ℕ} {r3 : Bool} → Sifted h t w count off w1 w2 r3 → TableTested h t w least off work w2 r3
+    single-far p {w2} {r3} G = record {
+      good = λ q root head.
+          let n = N .yes e1 in
+          let g = G .good q in
+          let s = S .good (some p) (g .0) root head (front root head) in (
+            s .0,
+            subst (λ z. least ≤ z) count-is (n .3),
+            clean-swept h t w root head (s .0) (subst (λ z. Swept t w z (g .1 .0) (markAt w2 off)) count-is (g .1 .1)),
+          );
+      bad = λ q root head T l.
+          G .bad q (S .apart (some p) root head T) (removedOf (aloneView h t w root head)) (removed-links h t w root head T)
+          (λ y m. subst (λ z. y < z) (sym count-is) (T .removed-below y m));
+      within = within-trans (within-more (length t / w) low (S .within)) (within-more (length t / w) low (subst (λ z. Within off z w1 w2) count-is (G .within)));
     }

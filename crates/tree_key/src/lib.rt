@@ -152,15 +152,15 @@ impl SaveExtDirEntry {
 
     pub const INFO: usize = 20;
 
-    pub const NEXT: usize = 20;
+    pub const NEXT: usize = SaveExtDirEntry::INFO;
 
-    pub const SUB_DIR: usize = 24;
+    pub const SUB_DIR: usize = SaveExtDirEntry::INFO + 4;
 
-    pub const SUB_FILE: usize = 28;
+    pub const SUB_FILE: usize = SaveExtDirEntry::INFO + 8;
 
-    pub const CARRIED: usize = 32;
+    pub const CARRIED: usize = SaveExtDirEntry::INFO + 12;
 
-    pub const COLLISION: usize = 36;
+    pub const COLLISION: usize = SaveExtDirEntry::INFO + 16;
 
     pub fn new(key: SaveExtKey, info: SaveExtDir, collision: u32) -> Self
         ensures { λ r. ⌜ (r .key ≡ key) × (r .info ≡ info) × (r .collision ≡ collision) ⌝ }
@@ -185,11 +185,11 @@ impl SaveExtFileEntry {
 
     pub const INFO: usize = 20;
 
-    pub const NEXT: usize = 20;
+    pub const NEXT: usize = SaveExtFileEntry::INFO;
 
-    pub const CARRIED: usize = 24;
+    pub const CARRIED: usize = SaveExtFileEntry::INFO + 4;
 
-    pub const COLLISION: usize = 44;
+    pub const COLLISION: usize = SaveExtFileEntry::INFO + 24;
 
     pub fn new(key: SaveExtKey, info: SaveExtFile, collision: u32) -> Self
         ensures { λ r. ⌜ (r .key ≡ key) × (r .info ≡ info) × (r .collision ≡ collision) ⌝ }

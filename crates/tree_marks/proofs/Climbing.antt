@@ -12,10 +12,10 @@ use Rattle.links.proofs.Laws.{one-list, fewer}
 use Rattle.links.proofs.Held.{same-or}
 use Rattle.links.proofs.Way.{Way, way-on, way-end, way-new, way-part, in-left, in-right}
 use Rattle.order.specs.Tells.{Tells}
-use Rattle.tree_marks.specs.Marks.{gone, markOf, Within, Marked}
+use Rattle.tree_marks.specs.inner.Marks.{gone, markOf, Within, Marked}
 use Rattle.tree_table.specs.View.{Live, Reaches}
-use Rattle.tree_marks.specs.Gather.{Told}
-use Rattle.tree_marks.specs.Climb.{Tops, Flat, Rising, Risen, AllRisen}
+use Rattle.tree_marks.specs.inner.Gather.{GoneMarked}
+use Rattle.tree_marks.specs.inner.Climb.{Tops, Flat, Rising, Risen, AllRisen}
 use Rattle.tree_marks.proofs.Walks.{in-snoc, within-refl, within-trans}
 use Rattle.tree_marks.proofs.Gathering.{in-or}
 
@@ -237,7 +237,7 @@ module _ (u : ℕ → ℕ) (count : ℕ) (R work : List ℕ) (S : Rising u count
         (in-or z ps);
   }
 
-  pub told-flat : Told count R work → (work′ : List ℕ) (y : ℕ) (ps : List ℕ) → Live count R y → Links (markOf work) y ps → Marked (markOf work) (markOf work′) 0 ps → Told count R work′
+  pub told-flat : GoneMarked count R work → (work′ : List ℕ) (y : ℕ) (ps : List ℕ) → Live count R y → Links (markOf work) y ps → Marked (markOf work) (markOf work′) 0 ps → GoneMarked count R work′
   told-flat T work′ y ps al l M = record {
     dead = λ p a b.
         ⊎-elim
@@ -252,7 +252,7 @@ module _ (u : ℕ → ℕ) (count : ℕ) (R work : List ℕ) (S : Rising u count
 
 -- ---- rises
 
-pub alive-of : {count : ℕ} {R work : List ℕ} {y i m : ℕ} → Told count R work → 0 < y → y < count → i ≡ y → m ≡ getD work i 0 → (m ≡ gone → ⊥) → Live count R y
+pub alive-of : {count : ℕ} {R work : List ℕ} {y i m : ℕ} → GoneMarked count R work → 0 < y → y < count → i ≡ y → m ≡ getD work i 0 → (m ≡ gone → ⊥) → Live count R y
 alive-of {count} {R} {work} {y} {i} {m} T a b ei em n = (a, b, λ k. n (em ∙ ap (markOf work) ei ∙ T .dead y a b .0 k))
 
 pub rises-gone : {count y : ℕ} {work : List ℕ} (i m : ℕ) → 0 < y → y < count → i ≡ y → m ≡ getD work i 0 → m ≡ gone → Risen count y work work true
@@ -291,8 +291,8 @@ rises-up {count} {y} {work} {work′} {r} i m a b ei em n C t F = record {
 
 pub record Reaching (count : ℕ) (work₀ work : List ℕ) (y : ℕ) : Type 0 where
   pub some : 0 < y
-  pub known : (u : ℕ → ℕ) (R : List ℕ) → Told count R work₀ → Rising u count R work₀
-      → Told count R work × Rising u count R work × ((z : ℕ) → z < y → Live count R z → Reaches u z)
+  pub known : (u : ℕ → ℕ) (R : List ℕ) → GoneMarked count R work₀ → Rising u count R work₀
+      → GoneMarked count R work × Rising u count R work × ((z : ℕ) → z < y → Live count R z → Reaches u z)
   pub within : Within 0 count work₀ work
 
 pub reach-begin : (count : ℕ) (work : List ℕ) → Reaching count work work 1

@@ -12,10 +12,10 @@ use Rattle.links.specs.Links.{_∈_, Links, Holds}
 use Rattle.links.proofs.Laws.{one-list, positive}
 use Rattle.links.proofs.Held.{same-or}
 use Rattle.order.specs.Tells.{Tells}
-use Rattle.tree_marks.specs.Marks.{gone, markAt, Free, Marked, Listed, Within}
+use Rattle.tree_marks.specs.inner.Marks.{gone, markAt, Unmarked, Marked, ListMarked, Within}
 use Rattle.tree_marks.proofs.Walks.{le-or-lt, within-refl, within-trans, within-set, mark-same, mark-other}
 use Rattle.tree_table.specs.View.{Live}
-use Rattle.tree_marks.specs.Gather.{Gathered, Gathers, any, Told, Dir, Kept, Named}
+use Rattle.tree_marks.specs.inner.Gather.{Gathered, Gathers, any, GoneMarked, DirMarked, GoneKept, ParentMarked}
 
 pub in-or : (y : ℕ) (xs : List ℕ) → (y ∈ xs) ⊎ (y ∈ xs → ⊥)
 in-or y [] = inr (λ h. h)
@@ -27,7 +27,7 @@ in-or y (a ∷ xs) =
 module _ (nx : ℕ → ℕ) (count : ℕ) (head : ℕ → ℕ) (want : ℕ → Type 0) (R : List ℕ) where
   module _ (i : ℕ) (hi : 0 < i) (hg : i < gone) (W : ℕ → ℕ) (G : Gathered nx count head want R i W) where
     -- one more list
-    pub gather : want i → (W′ : ℕ → ℕ) (xs : List ℕ) → Links nx (head i) xs → Free count W xs → Marked W W′ i xs → Gathered nx count head want R (i + 1) W′
+    pub gather : want i → (W′ : ℕ → ℕ) (xs : List ℕ) → Links nx (head i) xs → Unmarked count W xs → Marked W W′ i xs → Gathered nx count head want R (i + 1) W′
     gather wi W′ xs l f M = record {
       removed = λ y. (
         λ h. let e : W y ≡ gone = G .removed y .0 h in M .others y (λ (m : y ∈ xs). let z : W y ≡ 0 = f y m .1 in omega arith) ∙ e,
@@ -97,7 +97,7 @@ module _ (nx : ℕ → ℕ) (count : ℕ) (head : ℕ → ℕ) (want : ℕ → T
 
     -- if the lists are right, the next one is free: a walk that finds it is not shows that they are not
     pub gather-free : (f : ℕ → ℕ) → ((j : ℕ) → 0 < j → j ≤ i → want j → Holds nx (head j) (λ y. Live count R y × (f y ≡ j)))
-        → (wi : want i) → (H : Holds nx (head i) (λ y. Live count R y × (f y ≡ i))) → Free count W (H .0)
+        → (wi : want i) → (H : Holds nx (head i) (λ y. Live count R y × (f y ≡ i))) → Unmarked count W (H .0)
     gather-free f right wi H y m =
         let q = H .2 y .0 m in (
           q .0 .1,
@@ -153,7 +153,7 @@ module _ (nx : ℕ → ℕ) (count : ℕ) (head : ℕ → ℕ) (want : ℕ → T
 -- ---- the loops over numbered lists: buckets and child lists
 
 module _ {nx : ℕ → ℕ} {count : ℕ} {head : ℕ → ℕ} {want : ℕ → Type 0} {R work work′ : List ℕ} {i first off : ℕ} {r : Bool} (n : ℕ) (h0 : 0 < i) (hn : i < n) (hm : n ≤ gone)
-    (e : first ≡ head i) (w : want i) (A : Listed nx count first i off work work′ r) (G : Gathered nx count head want R i (markAt work off)) where
+    (e : first ≡ head i) (w : want i) (A : ListMarked nx count first i off work work′ r) (G : Gathered nx count head want R i (markAt work off)) where
   pub gathers-more : r ≡ true → Gathered nx count head want R (i + 1) (markAt work′ off)
   gathers-more t =
       let a = A .good t in
@@ -176,7 +176,7 @@ gathers-done {nx} {count} {head} {want} {R} {work} {i} {off} n e G = record {
 }
 
 -- no removed entry's mark goes, and none comes
-pub gone-kept : {nx : ℕ → ℕ} {count first m off : ℕ} {work work′ : List ℕ} {r : Bool} → m < gone → Listed nx count first m off work work′ r → r ≡ true
+pub gone-kept : {nx : ℕ → ℕ} {count first m off : ℕ} {work work′ : List ℕ} {r : Bool} → m < gone → ListMarked nx count first m off work work′ r → r ≡ true
     → (j : ℕ) → (getD work′ j 0 ≡ gone) ↔ (getD work j 0 ≡ gone)
 gone-kept {nx} {count} {first} {m} {off} {work} {work′} {r} hm A t j = ⊎-elim at outside (le-or-lt off j)
   where
@@ -197,7 +197,7 @@ gone-kept {nx} {count} {first} {m} {off} {work} {work′} {r} hm A t j = ⊎-eli
     at : off ≤ j → (getD work′ j 0 ≡ gone) ↔ (getD work j 0 ≡ gone)
     at h = let e : off + (j - off) ≡ j = omega arith in subst (λ z. (getD work′ z 0 ≡ gone) ↔ (getD work z 0 ≡ gone)) e (here (j - off))
 
-pub told-kept : {count : ℕ} {R work work′ : List ℕ} → ((j : ℕ) → (getD work′ j 0 ≡ gone) ↔ (getD work j 0 ≡ gone)) → Told count R work → Told count R work′
+pub told-kept : {count : ℕ} {R work work′ : List ℕ} → ((j : ℕ) → (getD work′ j 0 ≡ gone) ↔ (getD work j 0 ≡ gone)) → GoneMarked count R work → GoneMarked count R work′
 told-kept k T = record { dead = λ p a b. (λ m. k p .1 (T .dead p a b .0 m), λ e. T .dead p a b .1 (k p .0 e)) }
 
 -- the loop of mark_children, before directory p
@@ -205,7 +205,7 @@ pub record Children (nx : ℕ → ℕ) (count : ℕ) (head : ℕ → ℕ) (n off
   pub some : 0 < p
   pub most : (p ≤ n) ⊎ (p ≡ 1)
   pub dead : (j : ℕ) → (getD work j 0 ≡ gone) ↔ (getD work₀ j 0 ≡ gone)
-  pub lists : (RD R : List ℕ) → Told n RD work₀ → Gathered nx count head (Live n RD) R 1 (markAt work₀ off) → Gathered nx count head (Live n RD) R p (markAt work off)
+  pub lists : (RD R : List ℕ) → GoneMarked n RD work₀ → Gathered nx count head (Live n RD) R 1 (markAt work₀ off) → Gathered nx count head (Live n RD) R p (markAt work off)
   pub within : Within off count work₀ work
 
 pub children-begin : (nx : ℕ → ℕ) (count : ℕ) (head : ℕ → ℕ) (n off : ℕ) (work : List ℕ) → Children nx count head n off work work 1
@@ -218,8 +218,8 @@ children-begin nx count head n off work = record {
 }
 
 module _ {nx : ℕ → ℕ} {count : ℕ} {head : ℕ → ℕ} {n off : ℕ} {work₀ work work′ : List ℕ} {p : ℕ} {r : Bool} (C : Children nx count head n off work₀ work p) (hp : p < n) (hm : n ≤ 65536)
-    (D : Dir nx count head p off work work′ r) where
-  alive : (RD : List ℕ) → Told n RD work₀ → (getD work p 0 ≡ gone → ⊥) → Live n RD p
+    (D : DirMarked nx count head p off work work′ r) where
+  alive : (RD : List ℕ) → GoneMarked n RD work₀ → (getD work p 0 ≡ gone → ⊥) → Live n RD p
   alive RD T k = (C .some, hp, λ m. k (C .dead p .1 (T .dead p (C .some) hp .0 m)))
 
   pub children-on : r ≡ true → Children nx count head n off work₀ work′ (p + 1)
@@ -251,7 +251,7 @@ module _ {nx : ℕ → ℕ} {count : ℕ} {head : ℕ → ℕ} {n off : ℕ} {wo
           }
 
   pub children-stop : r ≡ false
-      → ((RD R : List ℕ) → Told n RD work₀ → Gathered nx count head (Live n RD) R 1 (markAt work₀ off) → Gathers nx count head (Live n RD) n off R work′ false)
+      → ((RD R : List ℕ) → GoneMarked n RD work₀ → Gathered nx count head (Live n RD) R 1 (markAt work₀ off) → Gathers nx count head (Live n RD) n off R work′ false)
       × Within off count work₀ work′
   children-stop t =
       let k : getD work p 0 ≡ gone → ⊥ = λ z. false≢true (sym t ∙ D .none z .0) in
@@ -260,7 +260,7 @@ module _ {nx : ℕ → ℕ} {count : ℕ} {head : ℕ → ℕ} {n off : ℕ} {wo
 
 -- a table of no directories has no lists
 pub children-done : {nx : ℕ → ℕ} {count : ℕ} {head : ℕ → ℕ} {n off : ℕ} {work₀ work : List ℕ} {p : ℕ} → Children nx count head n off work₀ work p → n ≤ p → 1 ≤ n
-    → ((RD R : List ℕ) → Told n RD work₀ → Gathered nx count head (Live n RD) R 1 (markAt work₀ off) → Gathers nx count head (Live n RD) n off R work true)
+    → ((RD R : List ℕ) → GoneMarked n RD work₀ → Gathered nx count head (Live n RD) R 1 (markAt work₀ off) → Gathers nx count head (Live n RD) n off R work true)
     × Within off count work₀ work
 children-done {nx} {count} {head} {n} {off} {work₀} {work} {p} C h h1 =
     let e : p ≡ n = ⊎-elim (λ (k : p ≤ n). omega arith) (λ (k : p ≡ 1). omega arith) (C .most) in
@@ -268,17 +268,17 @@ children-done {nx} {count} {head} {n} {off} {work₀} {work} {p} C h h1 =
 
 -- ---- mark_dir
 
-pub dir-none : {head : ℕ → ℕ} {p : ℕ} {work : List ℕ} (nx : ℕ → ℕ) (count : ℕ) (off : ℕ) {i : ℕ} → i ≡ p → getD work i 0 ≡ gone → Dir nx count head p off work work true
+pub dir-none : {head : ℕ → ℕ} {p : ℕ} {work : List ℕ} (nx : ℕ → ℕ) (count : ℕ) (off : ℕ) {i : ℕ} → i ≡ p → getD work i 0 ≡ gone → DirMarked nx count head p off work work true
 dir-none {head} {p} {work} nx count off {i} e z = record {
   none = λ _. (refl, refl);
   some = λ k. absurd (k (subst (λ y. getD work y 0 ≡ gone) e z));
 }
 
 pub dir-some : {nx : ℕ → ℕ} {count : ℕ} {head : ℕ → ℕ} {p off i first : ℕ} {work work′ : List ℕ} {r : Bool} → i ≡ p → (getD work i 0 ≡ gone → ⊥) → first ≡ head i
-    → Listed nx count first p off work work′ r → Dir nx count head p off work work′ r
+    → ListMarked nx count first p off work work′ r → DirMarked nx count head p off work work′ r
 dir-some {nx} {count} {head} {p} {off} {i} {first} {work} {work′} {r} e k f L = record {
   none = λ z. absurd (k (subst (λ y. getD work y 0 ≡ gone) (sym e) z));
-  some = λ _. subst (λ y. Listed nx count y p off work work′ r) (f ∙ ap head e) L;
+  some = λ _. subst (λ y. ListMarked nx count y p off work work′ r) (f ∙ ap head e) L;
 }
 
 -- ---- the loop of keep_gone, before place y
@@ -317,24 +317,24 @@ keep-on {off} {count} {work₀} {work} {y} i m K ei hc hl M = record {
     at : (z : ℕ) → z ≡ i → markAt (set work (off + i) m) off z ≡ m
     at z e = ap (markAt (set work (off + i) m) off) e ∙ mark-same work off i m (omega arith)
 
-pub keep-done : {off count : ℕ} {work₀ work : List ℕ} {y : ℕ} → Keeping off count work₀ work y → count ≤ y → Kept off count work₀ work
+pub keep-done : {off count : ℕ} {work₀ work : List ℕ} {y : ℕ} → Keeping off count work₀ work y → count ≤ y → GoneKept off count work₀ work
 keep-done K h = record { dead = λ z l. K .dead z (omega arith); others = λ z l. K .others z (omega arith); within = K .within }
 
 -- ---- named, and the loop of check_parents
 
-pub named-gone : (root y mark parent : ℕ) → mark ≡ gone → Tells (Named root y mark parent) true
+pub named-gone : (root y mark parent : ℕ) → mark ≡ gone → Tells (ParentMarked root y mark parent) true
 named-gone root y mark parent e = record { yes = λ _. inl e; only = λ _. refl }
 
-pub named-other : (root y mark parent : ℕ) → (mark ≡ gone → ⊥) → (mark ≡ parent → ⊥) → Tells (Named root y mark parent) false
+pub named-other : (root y mark parent : ℕ) → (mark ≡ gone → ⊥) → (mark ≡ parent → ⊥) → Tells (ParentMarked root y mark parent) false
 named-other root y mark parent g n = record {
   yes = λ e. absurd (false≢true e);
   only = λ p. absurd (⊎-elim g (λ (q : (mark ≡ parent) × ((0 < mark) ⊎ (y ≡ root))). n (q .0)) p);
 }
 
-pub named-some : (root y mark parent : ℕ) → mark ≡ parent → (mark ≡ 0 → ⊥) → Tells (Named root y mark parent) true
+pub named-some : (root y mark parent : ℕ) → mark ≡ parent → (mark ≡ 0 → ⊥) → Tells (ParentMarked root y mark parent) true
 named-some root y mark parent e n = record { yes = λ _. inr (e, inl (omega arith)); only = λ _. refl }
 
-pub named-root : (root y mark parent : ℕ) (r : Bool) → mark ≡ parent → mark ≡ 0 → r ≡ eqb y root → Tells (Named root y mark parent) r
+pub named-root : (root y mark parent : ℕ) (r : Bool) → mark ≡ parent → mark ≡ 0 → r ≡ eqb y root → Tells (ParentMarked root y mark parent) r
 named-root root y mark parent r e z t = record {
   yes = λ q. inr (e, inr (eqb-true y root (sym t ∙ q)));
   only = λ p. t ∙ eq-eqb y root (⊎-elim (λ (g : mark ≡ gone). absurd (omega arith))

@@ -7,13 +7,16 @@ use Prim.Native.Nat.{ℕ, zero, suc, _+_, _-_, _*_, _≤_, _<_}
 use native.Mathlib.Omega.{arith}
 use native.Mathlib.Nat.{mul-le-mul-right, suc-mul}
 use native.Mathlib.Decide.{decLt}
-use lib.ListN.{length, getD, set, length-set}
+use lib.Dec.{ltb}
+use lib.ListN.{length, getD, set, length-set, length-append}
 use lib.Seq.{getD-set-same, getD-set-other}
 use Rattle.links.specs.Links.{_∈_, Links}
 use Rattle.links.proofs.Held.{same-or}
+use Rattle.links.proofs.Laws.{one-list}
+use borrow.Author.Tests.{lt-ltb}
 use Rattle.links.proofs.Way.{Way, way-on, way-end, way-new, in-left, in-right}
 use Rattle.tree_table.specs.Chain.{linkAt}
-use Rattle.tree_marks.specs.Marks.{gone, markAt, Within, Free, Marked, Listed}
+use Rattle.tree_marks.specs.inner.Marks.{gone, markAt, Within, Unmarked, Marked, ListMarked, ListCounted}
 
 pub in-snoc : (y x : ℕ) (ps : List ℕ) → y ∈ (ps ++ x ∷ []) → (y ∈ ps) ⊎ (y ≡ x)
 in-snoc y x [] (inl e) = inr e
@@ -75,7 +78,7 @@ mark-other work off x m y n = getD-set-other work (off + x) (off + y) m 0 (λ (e
 
 pub record Walked (nx : ℕ → ℕ) (count first m : ℕ) (W W′ : ℕ → ℕ) (x : ℕ) (ps : List ℕ) : Type 0 where
   pub way : Way nx first ps x
-  pub free : Free count W ps
+  pub free : Unmarked count W ps
   pub marks : Marked W W′ m ps
 
 module _ (nx : ℕ → ℕ) (count first m : ℕ) (hm : 0 < m) (W W′ : ℕ → ℕ) (x : ℕ) (ps : List ℕ) (S : Walked nx count first m W W′ x ps) (hx : 0 < x) where
@@ -101,7 +104,7 @@ module _ (nx : ℕ → ℕ) (count first m : ℕ) (hm : 0 < m) (W W′ : ℕ →
     }
 
   -- an entry that is marked already, or past the end: there is no list
-  pub walk-stuck : (count ≤ x) ⊎ (W′ x ≢ 0) → (xs : List ℕ) → Links nx first xs → Free count W xs → ⊥
+  pub walk-stuck : (count ≤ x) ⊎ (W′ x ≢ 0) → (xs : List ℕ) → Links nx first xs → Unmarked count W xs → ⊥
   walk-stuck h xs l f =
       let r = way-new nx first ps x xs (S .way) l hx in
       let g = f x (r .0) in
@@ -136,7 +139,7 @@ going-on {nx} {count} {first} {m} {off} {work₀} {work} {x} i y G hm hi hc hz h
     }
 
 pub going-past : {nx : ℕ → ℕ} {count first m off : ℕ} {work₀ work : List ℕ} {x : ℕ} → Going nx count first m off work₀ work x
-    → 0 < m → (x ≡ 0 → ⊥) → count ≤ x → Listed nx count first m off work₀ work false
+    → 0 < m → (x ≡ 0 → ⊥) → count ≤ x → ListMarked nx count first m off work₀ work false
 going-past {nx} {count} {first} {m} {off} {work₀} {work} {x} G hm hx h = record {
   good = λ e. absurd (false≢true e);
   bad = λ _. walk-stuck nx count first m hm (markAt work₀ off) (markAt work off) x (G .ps) (G .walked) (omega arith) (inl h);
@@ -144,19 +147,65 @@ going-past {nx} {count} {first} {m} {off} {work₀} {work} {x} G hm hx h = recor
 }
 
 pub going-met : {nx : ℕ → ℕ} {count first m off : ℕ} {work₀ work : List ℕ} {x : ℕ} (i : ℕ) → Going nx count first m off work₀ work x
-    → 0 < m → (x ≡ 0 → ⊥) → i ≡ x → (getD work (off + i) 0 ≡ 0 → ⊥) → Listed nx count first m off work₀ work false
+    → 0 < m → (x ≡ 0 → ⊥) → i ≡ x → (getD work (off + i) 0 ≡ 0 → ⊥) → ListMarked nx count first m off work₀ work false
 going-met {nx} {count} {first} {m} {off} {work₀} {work} {x} i G hm hx ei h = record {
   good = λ e. absurd (false≢true e);
   bad = λ _. walk-stuck nx count first m hm (markAt work₀ off) (markAt work off) x (G .ps) (G .walked) (omega arith) (inr (subst (λ z. markAt work off z ≢ 0) ei h));
   within = G .within;
 }
 
-pub going-end : {nx : ℕ → ℕ} {count first m off : ℕ} {work₀ work : List ℕ} {x : ℕ} → Going nx count first m off work₀ work x → x ≡ 0 → Listed nx count first m off work₀ work true
+pub going-end : {nx : ℕ → ℕ} {count first m off : ℕ} {work₀ work : List ℕ} {x : ℕ} → Going nx count first m off work₀ work x → x ≡ 0 → ListMarked nx count first m off work₀ work true
 going-end {nx} {count} {first} {m} {off} {work₀} {work} {x} G e = record {
   good = λ _. (G .ps, way-end nx first (G .ps) (subst (λ z. Way nx first (G .ps) z) e (G .walked .way)), G .walked .free, G .walked .marks);
   bad = λ q. absurd (false≢true (sym q));
   within = G .within;
 }
+
+-- ---- the same with the number of entries, one more than those passed
+
+zeros-few : (l : List ℕ) → zeros l ≤ length l
+zeros-few [] = omega arith
+zeros-few (zero ∷ xs) = let r : zeros xs ≤ length xs = zeros-few xs in omega arith
+zeros-few (suc x ∷ xs) = let r : zeros xs ≤ length xs = zeros-few xs in omega arith
+
+pub record Counting (nx : ℕ → ℕ) (count first m off : ℕ) (work₀ work : List ℕ) (x n : ℕ) : Type 0 where
+  pub going : Going nx count first m off work₀ work x
+  pub size : n ≡ length (going .ps) + 1
+  -- each entry that was passed took one of the places that held 0
+  pub room : n + zeros work ≤ length work₀ + 1
+
+pub counting-begin : (nx : ℕ → ℕ) (count first m off : ℕ) (work : List ℕ) → Counting nx count first m off work work first 1
+unfolding going-begin
+counting-begin nx count first m off work = record { going = going-begin nx count first m off work; size = refl; room = (let z : zeros work ≤ length work = zeros-few work in omega arith) }
+
+pub counting-on : {nx : ℕ → ℕ} {count first m off : ℕ} {work₀ work : List ℕ} {x n : ℕ} (i y : ℕ) → Counting nx count first m off work₀ work x n
+    → 0 < m → 0 < i → i < count → getD work (off + i) 0 ≡ 0 → off + count ≤ length work → i ≡ x → y ≡ nx i
+    → Counting nx count first m off work₀ (set work (off + i) m) y (n + 1)
+unfolding going-on
+counting-on {nx} {count} {first} {m} {off} {work₀} {work} {x} {n} i y C hm hi hc hz hl ei ey = record {
+  going = going-on i y (C .going) hm hi hc hz hl ei ey;
+  size = (let s : n ≡ length (C .going .ps) + 1 = C .size in omega (arith, length-append (C .going .ps) (i ∷ [])));
+  room = (let z : zeros (set work (off + i) m) < zeros work = zeros-set work (off + i) m (omega arith) hz hm in let r : n + zeros work ≤ length work₀ + 1 = C .room in omega arith);
+}
+
+pub counting-past : {nx : ℕ → ℕ} {count first m off : ℕ} {work₀ work : List ℕ} {x n : ℕ} → Counting nx count first m off work₀ work x n
+    → 0 < m → (x ≡ 0 → ⊥) → count ≤ x → ListCounted nx count first m off work₀ work 0
+counting-past C hm hx h = record { listed = going-past (C .going) hm hx h; size = λ p. absurd (omega arith) }
+
+pub counting-met : {nx : ℕ → ℕ} {count first m off : ℕ} {work₀ work : List ℕ} {x n : ℕ} (i : ℕ) → Counting nx count first m off work₀ work x n
+    → 0 < m → (x ≡ 0 → ⊥) → i ≡ x → (getD work (off + i) 0 ≡ 0 → ⊥) → ListCounted nx count first m off work₀ work 0
+counting-met i C hm hx ei h = record { listed = going-met i (C .going) hm hx ei h; size = λ p. absurd (omega arith) }
+
+pub counting-end : {nx : ℕ → ℕ} {count first m off : ℕ} {work₀ work : List ℕ} {x n : ℕ} → Counting nx count first m off work₀ work x n → x ≡ 0 → ListCounted nx count first m off work₀ work n
+counting-end {nx} {count} {first} {m} {off} {work₀} {work} {x} {n} C e =
+    let s : n ≡ length (C .going .ps) + 1 = C .size in
+    let t : ltb 0 n ≡ true = lt-ltb 0 n (omega arith) in
+    record {
+      listed = subst (λ b. ListMarked nx count first m off work₀ work b) (sym t) (going-end (C .going) e);
+      size = λ _ xs l.
+          let q : xs ≡ C .going .ps = one-list nx first first xs (C .going .ps) refl l (way-end nx first (C .going .ps) (subst (λ z. Way nx first (C .going .ps) z) e (C .going .walked .way))) in
+          omega (arith, ap length q);
+    }
 
 pub entry-in : (w x count n : ℕ) → x < count → count * w ≤ n → x * w + w ≤ n
 entry-in w x count n h k = let m : suc x * w ≤ count * w = mul-le-mul-right w h in omega (arith, suc-mul x w)

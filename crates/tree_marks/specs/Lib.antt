@@ -1,3 +1,1 @@
-pub mod Marks
-pub mod Gather
-pub mod Climb
+pub mod inner

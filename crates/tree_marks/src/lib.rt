@@ -4,13 +4,45 @@ ghost use mathlib.Core.List.{List};
 ghost use Prim.Native.Nat.{ℕ, _+_, _-_, _*_, _≤_, _<_};
 ghost use lib.ListN.{length, getD};
 ghost use Rattle.tree_table.specs.Chain.{linkAt};
+ghost use Rattle.tree_table.specs.Field.{start, next};
 ghost use Rattle.order.specs.Tells.{Tells};
-ghost use Rattle.tree_marks.specs.Marks.{gone, markAt, markOf, Within, Marked, Listed};
+ghost use Rattle.tree_marks.specs.inner.Marks.{gone, markAt, markOf, Within, Marked, ListMarked, ListCounted};
 ghost use Rattle.tree_table.specs.View.{Live};
-ghost use Rattle.tree_marks.specs.Gather.{Gathered, Gathers, Told, Dir, Named, Kept};
-ghost use Rattle.tree_marks.specs.Climb.{Tops, Flat, Risen, AllRisen};
+ghost use Rattle.tree_marks.specs.inner.Gather.{Gathered, Gathers, GoneMarked, DirMarked, ParentMarked, GoneKept};
+ghost use Rattle.tree_marks.specs.inner.Climb.{Tops, Flat, Risen, AllRisen};
 
-// Goes along a list and marks its entries. It stops at an entry that is not below count, or that is marked.
+// Goes along a list and marks its entries. It answers one more than their number; 0 where it comes to an entry that is not below count, or that is marked.
+pub fn mark_counted(
+    table: &[u8],
+    w: usize,
+    link: usize,
+    count: u32,
+    first: u32,
+    work: &mut [u32],
+    off: usize,
+    m: u32,
+) -> usize
+    requires { ⌜ (count * w ≤ length (now table)) × (link + 4 ≤ w) × (off + count ≤ length (now work)) × (0 < m) ⌝ }
+    ensures { λ r. ⌜ ListCounted (linkAt (now (table .entry)) w link) count first m off (now (work .entry)) (now (work .exit)) r ⌝ }
+{
+    let mut x = first;
+    let mut answer: usize = 1;
+    while x != 0 {
+        if x >= count {
+            return 0;
+        }
+        let i = tree_table::index(x);
+        if work[off + i] != 0 {
+            return 0;
+        }
+        work[off + i] = m;
+        answer += 1;
+        x = words::get_u32(table, i * w + link);
+    }
+    answer
+}
+
+// The same where the number is not asked for.
 pub fn mark_list(
     table: &[u8],
     w: usize,
@@ -22,21 +54,9 @@ pub fn mark_list(
     m: u32,
 ) -> bool
     requires { ⌜ (count * w ≤ length (now table)) × (link + 4 ≤ w) × (off + count ≤ length (now work)) × (0 < m) ⌝ }
-    ensures { λ r. ⌜ Listed (linkAt (now (table .entry)) w link) count first m off (now (work .entry)) (now (work .exit)) r ⌝ }
+    ensures { λ r. ⌜ ListMarked (linkAt (now (table .entry)) w link) count first m off (now (work .entry)) (now (work .exit)) r ⌝ }
 {
-    let mut x = first;
-    while x != 0 {
-        if x >= count {
-            return false;
-        }
-        let i = tree_table::index(x);
-        if work[off + i] != 0 {
-            return false;
-        }
-        work[off + i] = m;
-        x = words::get_u32(table, i * w + link);
-    }
-    true
+    0 < mark_counted(table, w, link, count, first, work, off, m)
 }
 
 // The mark of a removed entry.
@@ -55,17 +75,26 @@ fn mark_dir(
 ) -> bool
     requires { ⌜ (p * 40 + 40 ≤ length (now dirs)) × (head + 4 ≤ 40) × (0 < p) × (p < length (now work))
         × (count * w ≤ length (now table)) × (24 ≤ w) × (off + count ≤ length (now work)) ⌝ }
-    ensures { λ r. ⌜ Dir (linkAt (now (table .entry)) w 20) count (linkAt (now (dirs .entry)) 40 head) p off (now (work .entry)) (now (work .exit)) r ⌝ }
+    ensures { λ r. ⌜ DirMarked (linkAt (now (table .entry)) w (start w next)) count (linkAt (now (dirs .entry)) 40 head) p off (now (work .entry)) (now (work .exit)) r ⌝ }
 {
     let i = tree_table::index(p);
     if work[i] == GONE {
         return true;
     }
-    let first = words::get_u32(dirs, i * 40 + head);
-    mark_list(table, w, 20, count, first, work, off, p)
+    let first = words::get_u32(dirs, i * tree_key::SaveExtDirEntry::WIDTH + head);
+    mark_list(
+        table,
+        w,
+        tree_key::SaveExtDirEntry::NEXT,
+        count,
+        first,
+        work,
+        off,
+        p,
+    )
 }
 
-// Goes along the child list of each live directory. The list starts at the word at `head` in the directory's entry and goes on by the word at 20 in
+// Goes along the child list of each live directory. The list starts at the word at `head` in the directory's entry and goes on by the next field of
 // the entries of the table. The marks of the directories begin at 0.
 pub fn mark_children(
     dirs: &[u8],
@@ -79,9 +108,9 @@ pub fn mark_children(
 ) -> bool
     requires { ⌜ (bound * 40 ≤ length (now dirs)) × (head + 4 ≤ 40) × (1 ≤ bound) × (bound ≤ 65536) × (bound ≤ length (now work))
         × (count * w ≤ length (now table)) × (24 ≤ w) × (off + count ≤ length (now work)) ⌝ }
-    ensures { λ r. ⌜ ((RD R : List ℕ) → Told bound RD (now (work .entry))
-        → Gathered (linkAt (now (table .entry)) w 20) count (linkAt (now (dirs .entry)) 40 head) (Live bound RD) R 1 (markAt (now (work .entry)) off)
-        → Gathers (linkAt (now (table .entry)) w 20) count (linkAt (now (dirs .entry)) 40 head) (Live bound RD) bound off R (now (work .exit)) r)
+    ensures { λ r. ⌜ ((RD R : List ℕ) → GoneMarked bound RD (now (work .entry))
+        → Gathered (linkAt (now (table .entry)) w (start w next)) count (linkAt (now (dirs .entry)) 40 head) (Live bound RD) R 1 (markAt (now (work .entry)) off)
+        → Gathers (linkAt (now (table .entry)) w (start w next)) count (linkAt (now (dirs .entry)) 40 head) (Live bound RD) bound off R (now (work .exit)) r)
         × Within off count (now (work .entry)) (now (work .exit)) ⌝ }
 {
     let mut p: u32 = 1;
@@ -104,7 +133,7 @@ fn kept(mark: u32) -> u32
 // Takes away every mark but those of the removed entries.
 pub fn keep_gone(work: &mut [u32], off: usize, count: u32)
     requires { ⌜ off + count ≤ length (now work) ⌝ }
-    ensures { λ _. ⌜ Kept off count (now (work .entry)) (now (work .exit)) ⌝ }
+    ensures { λ _. ⌜ GoneKept off count (now (work .entry)) (now (work .exit)) ⌝ }
 {
     let mut y: u32 = 0;
     while y < count {
@@ -117,7 +146,7 @@ pub fn keep_gone(work: &mut [u32], off: usize, count: u32)
 
 // Whether an entry's mark is that of a removed one, or the parent that the entry names. Only the root's may be 0.
 fn named(root: u32, y: u32, mark: u32, parent: u32) -> bool
-    ensures { λ r. ⌜ Tells (Named root y mark parent) r ⌝ }
+    ensures { λ r. ⌜ Tells (ParentMarked root y mark parent) r ⌝ }
 {
     if mark == GONE {
         return true;
@@ -144,7 +173,7 @@ pub fn check_parents(
     off: usize,
 ) -> bool
     requires { ⌜ (count * w ≤ length (now table)) × (4 ≤ w) × (off + count ≤ length (now work)) ⌝ }
-    ensures { λ r. ⌜ Tells ((y : ℕ) → 0 < y → y < count → Named root y (markAt (now (work .entry)) off y) (linkAt (now (table .entry)) w 0 y)) r ⌝ }
+    ensures { λ r. ⌜ Tells ((y : ℕ) → 0 < y → y < count → ParentMarked root y (markAt (now (work .entry)) off y) (linkAt (now (table .entry)) w 0 y)) r ⌝ }
 {
     let mut y: u32 = 1;
     while y < count {

@@ -1,7 +1,8 @@
 -- A table of entries of any width, as words: what stands in a field of an entry, and the bytes after some writes.
 use mathlib.Core.List.{List, [], _∷_}
 use Prim.Native.Nat.{ℕ, zero, suc, _+_, _-_, _*_}
-use Rattle.words.specs.Word.{word, putWord}
+use Rattle.words.specs.Word.{putWord}
+use Rattle.tree_table.specs.Chain.{linkAt}
 
 -- where field f of an entry of w bytes starts. Field 0 is the collision field, which stands last; the others follow in their order:
 -- 1 to 5 the key, 6 next, and of a directory 7 sub_dir, 8 sub_file, 9 padding, of a file 7 to 11 the carried bytes.
@@ -10,9 +11,16 @@ abbrev pub start : ℕ → ℕ → ℕ
 start w zero = w - 4
 start w (suc f) = 4 * f
 
+-- the two fields that lists go along
+abbrev pub collision : ℕ
+collision = 0
+
+abbrev pub next : ℕ
+next = 6
+
 -- field f of entry x in the table t of width w
 unfoldable pub field : ℕ → List ℕ → ℕ → ℕ → ℕ
-field w t x f = word t (x * w + start w f)
+field w t x f = linkAt t w (start w f) x
 
 -- a write: its entry, its field, its value
 pub record Write : Type 0 where

@@ -8,10 +8,18 @@ ghost use Rattle.words.specs.Word.{word, putWord};
 ghost use Rattle.links.specs.Links.{_∈_};
 ghost use Rattle.links.specs.Change.{pick, before};
 ghost use Rattle.tree_key.specs.Key.{keyWords};
-ghost use Rattle.tree_table.specs.Field.{field, write, wrote};
+ghost use Rattle.tree_table.specs.Field.{start, collision, field, write, wrote};
 ghost use Rattle.tree_table.specs.View.{keyAt, hashAt};
 ghost use Rattle.tree_table.specs.Steps.{takeWrites, enterWrites, cutWrites, headWrites, copyWrites, giveWrites};
 ghost use Rattle.tree_table.specs.Chain.{linkAt, listAt, Ends, member, seekIn};
+
+// The bytes of a link. The collision field is the last of an entry, whichever its type: it stands this many bytes before the entry's end.
+pub const LINK: usize = tree_key::SaveExtDirEntry::WIDTH - tree_key::SaveExtDirEntry::COLLISION;
+
+// Where the count and the maximum stand in entry 0.
+pub const COUNT: usize = 0;
+
+pub const MAXIMUM: usize = 4;
 
 // An inode as an index.
 pub fn index(x: u32) -> usize
@@ -93,8 +101,8 @@ pub struct Hit {
 
 // Goes along a bucket from its first entry; each entry's own part of the table is handed to the key comparison.
 pub fn get(table: &[u8], w: usize, first: u32, key: tree_key::SaveExtKey) -> Hit
-    requires { ⌜ Ends (now table) w (w - 4) first × (24 ≤ w) ⌝ }
-    ensures { λ r. ⌜ r ≡ seekIn (keyAt (field w (now (table .entry)))) (keyWords key) (listAt (now (table .entry)) w (w - 4) first) 0 ⌝ }
+    requires { ⌜ Ends (now table) w (start w collision) first × (24 ≤ w) ⌝ }
+    ensures { λ r. ⌜ r ≡ seekIn (keyAt (field w (now (table .entry)))) (keyWords key) (listAt (now (table .entry)) w (start w collision) first) 0 ⌝ }
 {
     let mut x = first;
     let mut n: u32 = 0;
@@ -108,7 +116,7 @@ pub fn get(table: &[u8], w: usize, first: u32, key: tree_key::SaveExtKey) -> Hit
                 compared: n,
             };
         }
-        x = link_of(table, w, w - 4, x);
+        x = link_of(table, w, w - LINK, x);
     }
     Hit {
         inode: 0,
@@ -146,14 +154,14 @@ pub fn take(table: &mut [u8], w: usize) -> u32
     ensures { λ r. ⌜ (r ≡ pick (eqb (field w (now (table .entry)) 0 0) 0) (field w (now (table .entry)) 0 1) (field w (now (table .entry)) 0 0))
         × (now (table .exit) ≡ wrote w (now (table .entry)) (takeWrites (eqb (field w (now (table .entry)) 0 0) 0) (field w (now (table .entry))))) ⌝ }
 {
-    let first = link_of(table, w, w - 4, 0);
+    let first = link_of(table, w, w - LINK, 0);
     if first == 0 {
-        let n = link_of(table, w, 0, 0);
-        put_link(table, w, 0, 0, n + 1);
+        let n = link_of(table, w, COUNT, 0);
+        put_link(table, w, COUNT, 0, n + 1);
         return n;
     }
-    let next = link_of(table, w, w - 4, first);
-    put_link(table, w, w - 4, 0, next);
+    let next = link_of(table, w, w - LINK, first);
+    put_link(table, w, w - LINK, 0, next);
     first
 }
 
@@ -175,8 +183,8 @@ pub fn enter(table: &mut [u8], w: usize, x: u32, key: tree_key::SaveExtKey, next
     ensures { λ _. ⌜ now (table .exit) ≡ wrote w (now (table .entry)) (enterWrites x (key .parent) (key .name0) (key .name1) (key .name2) (key .name3) next first) ⌝ }
 {
     put_key(table, w, x, key);
-    put_link(table, w, 20, x, next);
-    put_link(table, w, w - 4, x, first);
+    put_link(table, w, tree_key::SaveExtDirEntry::NEXT, x, next);
+    put_link(table, w, w - LINK, x, first);
 }
 
 // Takes an entry out of its bucket b: what follows it is written to the entry p before it, or to the hash where there is none.
@@ -188,7 +196,7 @@ pub fn cut_bucket(hash: &mut [u8], table: &mut [u8], w: usize, b: usize, p: u32,
     if p == 0 {
         put_hash(hash, b, new);
     } else {
-        put_link(table, w, w - 4, p, new);
+        put_link(table, w, w - LINK, p, new);
     }
 }
 
@@ -211,8 +219,8 @@ pub fn give(table: &mut [u8], w: usize, x: u32)
     requires { ⌜ (x * w + w ≤ length (now table)) × (4 ≤ w) × (0 < x) ⌝ }
     ensures { λ _. ⌜ now (table .exit) ≡ wrote w (now (table .entry)) (giveWrites w (field w (now (table .entry))) x) ⌝ }
 {
-    let first = link_of(table, w, w - 4, 0);
+    let first = link_of(table, w, w - LINK, 0);
     copy_entry(table, w, x);
-    put_link(table, w, w - 4, x, first);
-    put_link(table, w, w - 4, 0, x);
+    put_link(table, w, w - LINK, x, first);
+    put_link(table, w, w - LINK, 0, x);
 }

@@ -18,14 +18,14 @@ use Rattle.tree_table.specs.View.{dirView, fileView, removedOf}
 use Rattle.tree_sound.specs.Sound.{Sound}
 use Rattle.tree_sound.specs.Sizes.{rooms, HashMisfit, Misfit, Beyond, Outside}
 use Rattle.order.specs.Tells.{Tells}
-use Rattle.tree_marks.specs.Marks.{markAt, Within}
-use Rattle.tree_marks.specs.Gather.{Told}
+use Rattle.tree_marks.specs.inner.Marks.{markAt, Within}
+use Rattle.tree_marks.specs.inner.Gather.{GoneMarked}
 use Rattle.tree_marks.proofs.Walks.{le-or-lt}
 use Rattle.tree_test.specs.Gate.{treeGate, openGate}
 use Rattle.tree_test.specs.Promise.{tested, testDone, GateOf, TreeGateOf, OpenGateOf}
 use Rattle.tree_test.specs.declared.Gated.{Gated}
 use Rattle.tree_test.specs.declared.Gated.the-variants.{Open, Refused}
-use Rattle.tree_test.specs.Halves.{DirsTested, FilesTested, Sized}
+use Rattle.tree_test.specs.inner.Halves.{DirsTested, FilesTested, Sized}
 use Rattle.tree_test.specs.declared.Tested.{Tested}
 
 pub told-true : {P : Type 0} → P → Tells P true
@@ -83,7 +83,7 @@ module _ {dh d work w1 : List ℕ} {r1 : Bool} (A : DirsTested dh d work w1 r1) 
   pub sound-dirs : (fh f : List ℕ) → r1 ≡ false → Tells (Sound (dirView dh d) (fileView d fh f)) false
   sound-dirs fh f e = told-false (λ S. A .bad e (S .dirs))
 
-  pub sound-files : (fh f : List ℕ) → r1 ≡ true → {r2 : Bool} → ((h : List ℕ) → Told (field 40 d 0 1) (removedOf (dirView h d)) w1 → FilesTested h d fh f r2)
+  pub sound-files : (fh f : List ℕ) → r1 ≡ true → {r2 : Bool} → ((h : List ℕ) → GoneMarked (field 40 d 0 1) (removedOf (dirView h d)) w1 → FilesTested h d fh f r2)
       → Tells (Sound (dirView dh d) (fileView d fh f)) r2
   sound-files fh f e {r2} B =
       let a = A .good e in

@@ -21,30 +21,30 @@ use Rattle.tree_table.specs.Chain.{linkAt}
 use Rattle.tree_table.proofs.Chain.{key-part}
 use Rattle.tree_sound.specs.Sound.{Table, up}
 use Rattle.order.specs.Tells.{Tells}
-use Rattle.tree_marks.specs.Marks.{gone, markAt, markOf, Within}
-use Rattle.tree_marks.specs.Gather.{Gathered, Gathers, Told, Named}
-use Rattle.tree_marks.specs.Climb.{Rising, AllRisen}
+use Rattle.tree_marks.specs.inner.Marks.{gone, markAt, markOf, Within}
+use Rattle.tree_marks.specs.inner.Gather.{Gathered, Gathers, GoneMarked, ParentMarked}
+use Rattle.tree_marks.specs.inner.Climb.{Rising, AllRisen}
 use Rattle.tree_marks.proofs.Walks.{within-refl, within-trans, within-more}
-use Rattle.tree_alone.specs.Stage.{Clean, Single}
+use Rattle.tree_alone.specs.inner.Stage.{OnlyGone, TableTested}
 use Rattle.tree_alone.proofs.OneTable.{clean-gathered}
 use Rattle.tree_alone.proofs.Singles.{rooms-fit}
-use Rattle.tree_test.specs.Halves.{Root, DirsTested}
+use Rattle.tree_test.specs.inner.Halves.{RootFits, DirsTested}
 use Rattle.tree_test.proofs.Kids.{kids-mark, kids-lists, kids-parents, kids-named}
 
 -- ---- the root
 
 module _ (d : List ℕ) (mark : ℕ) where
-  pub root-gone : mark ≡ gone → Tells (Root d mark) false
+  pub root-gone : mark ≡ gone → Tells (RootFits d mark) false
   root-gone e = record { yes = λ q. absurd (false≢true q); only = λ p. absurd (p .here e) }
 
   module _ (n : mark ≡ gone → ⊥) (r : Bool) (k : SaveExtKey) (ek : keyWords k ≡ 0 ∷ 0 ∷ 0 ∷ 0 ∷ 0 ∷ []) (e : r ≡ sameKey (keyAt (field 40 d) 1) (keyWords k)) where
-    pub root-named : r ≡ false → Tells (Root d mark) false
+    pub root-named : r ≡ false → Tells (RootFits d mark) false
     root-named f = record {
       yes = λ q. absurd (false≢true q);
       only = λ p. absurd (false≢true (sym f ∙ e ∙ equal-same (keyAt (field 40 d) 1) (keyWords k) (p .key ∙ sym ek)));
     }
 
-    pub root-last : r ≡ true → (next : ℕ) → next ≡ field 40 d 1 6 → Tells (Root d mark) (eqb next 0)
+    pub root-last : r ≡ true → (next : ℕ) → next ≡ field 40 d 1 6 → Tells (RootFits d mark) (eqb next 0)
     root-last t next en = record {
       yes = λ q. record { here = n; key = same-equal (keyAt (field 40 d) 1) (keyWords k) (sym e ∙ t) ∙ ek; next = sym en ∙ eqb-true next 0 q };
       only = λ p. eq-eqb next 0 (en ∙ p .next);
@@ -55,7 +55,7 @@ module _ (d : List ℕ) (mark : ℕ) where
 at-zero : (work : List ℕ) (y : ℕ) → markAt work 0 y ≡ markOf work y
 at-zero work y = ap (λ z. getD work z 0) (zero-add y)
 
-pub told-clean : (count : ℕ) (R work : List ℕ) → ((y : ℕ) → y ∈ R ↔ (markAt work 0 y ≡ gone)) → Told count R work
+pub told-clean : (count : ℕ) (R work : List ℕ) → ((y : ℕ) → y ∈ R ↔ (markAt work 0 y ≡ gone)) → GoneMarked count R work
 told-clean count R work h = record { dead = λ p a b. (λ m. sym (at-zero work p) ∙ h p .0 m, λ e. h p .1 (at-zero work p ∙ e)) }
 
 module _ (dh d work : List ℕ) where
@@ -68,7 +68,7 @@ module _ (dh d work : List ℕ) where
   abbrev R : List ℕ
   R = removedOf (dirView dh d)
 
-  module _ {w1 : List ℕ} {r1 : Bool} (S : Single dh d 40 2 0 work w1 r1) where
+  module _ {w1 : List ℕ} {r1 : Bool} (S : TableTested dh d 40 2 0 work w1 r1) where
     pub dirs-table : r1 ≡ false → DirsTested dh d work w1 false
     dirs-table e = record {
       good = λ q. absurd (false≢true q);
@@ -83,13 +83,13 @@ module _ (dh d work : List ℕ) where
       two : 2 ≤ count
       two = S .good e1 1 (λ p. field 40 d p 7) .1
 
-      clean : Clean count R (markAt w1 0)
+      clean : OnlyGone count R (markAt w1 0)
       clean = S .good e1 1 (λ p. field 40 d p 7) .2
 
-      pub dirs-told : Told count R w1
+      pub dirs-told : GoneMarked count R w1
       dirs-told = told-clean count R w1 (clean .removed)
 
-      module _ (r2 : Bool) (Q : Tells (Root d (getD w1 1 0)) r2) where
+      module _ (r2 : Bool) (Q : Tells (RootFits d (getD w1 1 0)) r2) where
         pub dirs-root : r2 ≡ false → DirsTested dh d work w1 false
         dirs-root e = record {
           good = λ q. absurd (false≢true q);
@@ -102,7 +102,7 @@ module _ (dh d work : List ℕ) where
         }
 
         module _ (e2 : r2 ≡ true) {w2 : List ℕ} {r3 : Bool}
-            (B : ((RD R : List ℕ) → Told count RD w1 → Gathered (linkAt d 40 20) count (linkAt d 40 24) (Live count RD) R 1 (markAt w1 0)
+            (B : ((RD R : List ℕ) → GoneMarked count RD w1 → Gathered (linkAt d 40 20) count (linkAt d 40 24) (Live count RD) R 1 (markAt w1 0)
             → Gathers (linkAt d 40 20) count (linkAt d 40 24) (Live count RD) count 0 R w2 r3) × Within 0 count w1 w2)
             (low : count ≤ length d / 40) (few : count ≤ 65536) where
           root-up : up D 1 ≡ 0
@@ -119,7 +119,7 @@ module _ (dh d work : List ℕ) where
             within = within-trans (S .within) (within-more (length d / 40) low (B .1));
           }
 
-          module _ (e3 : r3 ≡ true) {r4 : Bool} (N : Tells ((y : ℕ) → 0 < y → y < count → Named 1 y (markAt w2 0 y) (linkAt d 40 0 y)) r4) where
+          module _ (e3 : r3 ≡ true) {r4 : Bool} (N : Tells ((y : ℕ) → 0 < y → y < count → ParentMarked 1 y (markAt w2 0 y) (linkAt d 40 0 y)) r4) where
             G : Gathered (linkAt d 40 20) count (linkAt d 40 24) (Live count R) R count (markAt w2 0)
             G = lists .good e3
 
@@ -152,7 +152,7 @@ module _ (dh d work : List ℕ) where
                     (same-or y 1);
               }
 
-              told : Told count R w2
+              told : GoneMarked count R w2
               told = told-clean count R w2 (G .removed)
 
               pub dirs-end : {w3 : List ℕ} {r5 : Bool} → AllRisen count w2 w3 r5 → DirsTested dh d work w3 r5
@@ -181,7 +181,7 @@ module _ (dh d work : List ℕ) where
 
 -- ---- the same, by the numbers that the code holds
 
-module _ {dh d work w1 : List ℕ} {r1 : Bool} {n : ℕ} (S : Single dh d 40 2 0 work w1 r1) (e1 : r1 ≡ true) (en : n ≡ linkAt d 40 0 0) where
+module _ {dh d work w1 : List ℕ} {r1 : Bool} {n : ℕ} (S : TableTested dh d 40 2 0 work w1 r1) (e1 : r1 ≡ true) (en : n ≡ linkAt d 40 0 0) where
   count-is : n ≡ field 40 d 0 1
   unfolding field
   count-is = en
@@ -198,22 +198,22 @@ module _ {dh d work w1 : List ℕ} {r1 : Bool} {n : ℕ} (S : Single dh d 40 2 0
     rooms-fit d 40 n (subst (λ z. z ≤ length d / 40) (sym count-is) (front .1)),
   )
 
-  module _ {r2 : Bool} (Q : Tells (Root d (getD w1 1 0)) r2) (e2 : r2 ≡ true) (few : length d / 40 ≤ 65536) {w2 : List ℕ} {r3 : Bool}
-      (B : ((RD R : List ℕ) → Told n RD w1 → Gathered (linkAt d 40 20) n (linkAt d 40 24) (Live n RD) R 1 (markAt w1 0)
+  module _ {r2 : Bool} (Q : Tells (RootFits d (getD w1 1 0)) r2) (e2 : r2 ≡ true) (few : length d / 40 ≤ 65536) {w2 : List ℕ} {r3 : Bool}
+      (B : ((RD R : List ℕ) → GoneMarked n RD w1 → Gathered (linkAt d 40 20) n (linkAt d 40 24) (Live n RD) R 1 (markAt w1 0)
       → Gathers (linkAt d 40 20) n (linkAt d 40 24) (Live n RD) n 0 R w2 r3) × Within 0 n w1 w2) where
-    kids : ((RD R : List ℕ) → Told (field 40 d 0 1) RD w1
+    kids : ((RD R : List ℕ) → GoneMarked (field 40 d 0 1) RD w1
         → Gathered (linkAt d 40 20) (field 40 d 0 1) (linkAt d 40 24) (Live (field 40 d 0 1) RD) R 1 (markAt w1 0)
         → Gathers (linkAt d 40 20) (field 40 d 0 1) (linkAt d 40 24) (Live (field 40 d 0 1) RD) (field 40 d 0 1) 0 R w2 r3) × Within 0 (field 40 d 0 1) w1 w2
     kids =
-        subst (λ z. ((RD R : List ℕ) → Told z RD w1 → Gathered (linkAt d 40 20) z (linkAt d 40 24) (Live z RD) R 1 (markAt w1 0)
+        subst (λ z. ((RD R : List ℕ) → GoneMarked z RD w1 → Gathered (linkAt d 40 20) z (linkAt d 40 24) (Live z RD) R 1 (markAt w1 0)
         → Gathers (linkAt d 40 20) z (linkAt d 40 24) (Live z RD) z 0 R w2 r3) × Within 0 z w1 w2) count-is B
 
     pub dirs-3 : r3 ≡ false → DirsTested dh d work w2 false
     dirs-3 e = dirs-lists dh d work S e1 r2 Q e2 kids (front .1) (let a = front .1 in omega arith) e
 
-    module _ (e3 : r3 ≡ true) {r4 : Bool} (N : Tells ((y : ℕ) → 0 < y → y < n → Named 1 y (markAt w2 0 y) (linkAt d 40 0 y)) r4) where
-      named : Tells ((y : ℕ) → 0 < y → y < field 40 d 0 1 → Named 1 y (markAt w2 0 y) (linkAt d 40 0 y)) r4
-      named = subst (λ z. Tells ((y : ℕ) → 0 < y → y < z → Named 1 y (markAt w2 0 y) (linkAt d 40 0 y)) r4) count-is N
+    module _ (e3 : r3 ≡ true) {r4 : Bool} (N : Tells ((y : ℕ) → 0 < y → y < n → ParentMarked 1 y (markAt w2 0 y) (linkAt d 40 0 y)) r4) where
+      named : Tells ((y : ℕ) → 0 < y → y < field 40 d 0 1 → ParentMarked 1 y (markAt w2 0 y) (linkAt d 40 0 y)) r4
+      named = subst (λ z. Tells ((y : ℕ) → 0 < y → y < z → ParentMarked 1 y (markAt w2 0 y) (linkAt d 40 0 y)) r4) count-is N
 
       pub dirs-4 : r4 ≡ false → DirsTested dh d work w2 false
       dirs-4 e = dirs-parents dh d work S e1 r2 Q e2 kids (front .1) (let a = front .1 in omega arith) e3 named e

@@ -12,23 +12,23 @@ use Rattle.tree_table.specs.View.{View, dirView, fileView, removedOf, LiveIn, L
 use Rattle.tree_table.specs.Chain.{linkAt}
 use Rattle.tree_sound.specs.Sound.{Table, up}
 use Rattle.order.specs.Tells.{Tells}
-use Rattle.tree_marks.specs.Marks.{gone, markAt, markOf, Within}
-use Rattle.tree_marks.specs.Gather.{Gathered, Gathers, Told, Named}
-use Rattle.tree_alone.specs.Stage.{Clean, Single}
+use Rattle.tree_marks.specs.inner.Marks.{gone, markAt, markOf, Within}
+use Rattle.tree_marks.specs.inner.Gather.{Gathered, Gathers, GoneMarked, ParentMarked}
+use Rattle.tree_alone.specs.inner.Stage.{OnlyGone, TableTested}
 use Rattle.tree_alone.proofs.OneTable.{clean-gathered}
 use Rattle.tree_alone.proofs.Singles.{rooms-fit}
-use Rattle.tree_test.specs.Halves.{FilesTested}
+use Rattle.tree_test.specs.inner.Halves.{FilesTested}
 use Rattle.tree_test.proofs.Kids.{kids-lists, kids-parents, kids-named}
 
 -- what the directories' marks tell is told still, where only later places have changed
-pub told-within : {count off room : ℕ} {R work work′ : List ℕ} → count ≤ off → Within off room work work′ → Told count R work → Told count R work′
+pub told-within : {count off room : ℕ} {R work work′ : List ℕ} → count ≤ off → Within off room work work′ → GoneMarked count R work → GoneMarked count R work′
 told-within {count} {off} {room} {R} {work} {work′} h W T = record {
   dead = λ p a b.
       let e : getD work′ p 0 ≡ getD work p 0 = W .before p (omega arith) in
       (λ m. e ∙ T .dead p a b .0 m, λ q. T .dead p a b .1 (sym e ∙ q));
 }
 
-module _ (dh d fh f : List ℕ) (off : ℕ) (work : List ℕ) (tell : Told (field 40 d 0 1) (removedOf (dirView dh d)) work) (apart : field 40 d 0 1 ≤ off) where
+module _ (dh d fh f : List ℕ) (off : ℕ) (work : List ℕ) (tell : GoneMarked (field 40 d 0 1) (removedOf (dirView dh d)) work) (apart : field 40 d 0 1 ≤ off) where
   abbrev D : View
   D = dirView dh d
 
@@ -47,7 +47,7 @@ module _ (dh d fh f : List ℕ) (off : ℕ) (work : List ℕ) (tell : Told (fiel
   abbrev R : List ℕ
   R = removedOf (fileView d fh f)
 
-  module _ {w1 : List ℕ} {r1 : Bool} (S : Single fh f 48 1 off work w1 r1) where
+  module _ {w1 : List ℕ} {r1 : Bool} (S : TableTested fh f 48 1 off work w1 r1) where
     pub files-table : r1 ≡ false → FilesTested dh d fh f false
     files-table e = record {
       good = λ q. absurd (false≢true q);
@@ -55,13 +55,13 @@ module _ (dh d fh f : List ℕ) (off : ℕ) (work : List ℕ) (tell : Told (fiel
     }
 
     module _ (e1 : r1 ≡ true) {w2 : List ℕ} {r2 : Bool}
-        (B : ((RD R : List ℕ) → Told dirCount RD w1 → Gathered (linkAt f 48 20) count (linkAt d 40 28) (Live dirCount RD) R 1 (markAt w1 off)
+        (B : ((RD R : List ℕ) → GoneMarked dirCount RD w1 → Gathered (linkAt f 48 20) count (linkAt d 40 28) (Live dirCount RD) R 1 (markAt w1 off)
         → Gathers (linkAt f 48 20) count (linkAt d 40 28) (Live dirCount RD) dirCount off R w2 r2) × Within off count w1 w2)
         (few : dirCount ≤ 65536) where
       T : Table F
       T = S .good e1 0 (λ p. field 40 d p 8) .0
 
-      clean : Clean count R (markAt w1 off)
+      clean : OnlyGone count R (markAt w1 off)
       clean = S .good e1 0 (λ p. field 40 d p 8) .2
 
       lists : Gathers (linkAt f 48 20) count (linkAt d 40 28) (Live dirCount RD) dirCount off R w2 r2
@@ -74,7 +74,7 @@ module _ (dh d fh f : List ℕ) (off : ℕ) (work : List ℕ) (tell : Told (fiel
         bad = λ _ P. lists .bad e (up F) (λ j a b w. P .lists j w);
       }
 
-      pub files-end : r2 ≡ true → {r3 : Bool} → Tells ((y : ℕ) → 0 < y → y < count → Named 0 y (markAt w2 off y) (linkAt f 48 0 y)) r3 → FilesTested dh d fh f r3
+      pub files-end : r2 ≡ true → {r3 : Bool} → Tells ((y : ℕ) → 0 < y → y < count → ParentMarked 0 y (markAt w2 off y) (linkAt f 48 0 y)) r3 → FilesTested dh d fh f r3
       unfolding field
       files-end e2 {r3} N = record {
         good = λ e. record {
@@ -89,7 +89,7 @@ module _ (dh d fh f : List ℕ) (off : ℕ) (work : List ℕ) (tell : Told (fiel
 
 -- ---- the files' test, by the numbers that the code holds
 
-module _ (d : List ℕ) {fh f : List ℕ} {off : ℕ} {work w1 : List ℕ} {r1 : Bool} {n m : ℕ} (S : Single fh f 48 1 off work w1 r1) (e1 : r1 ≡ true)
+module _ (d : List ℕ) {fh f : List ℕ} {off : ℕ} {work w1 : List ℕ} {r1 : Bool} {n m : ℕ} (S : TableTested fh f 48 1 off work w1 r1) (e1 : r1 ≡ true)
     (en : n ≡ linkAt d 40 0 0) (em : m ≡ linkAt f 48 0 0) where
   dirs-count : n ≡ field 40 d 0 1
   unfolding field
@@ -107,23 +107,23 @@ module _ (d : List ℕ) {fh f : List ℕ} {off : ℕ} {work w1 : List ℕ} {r1 :
       (dirs-count, low, rooms-fit f 48 m low)
 
   module _ {w2 : List ℕ} {r2 : Bool}
-      (B : ((RD R : List ℕ) → Told n RD w1 → Gathered (linkAt f 48 20) m (linkAt d 40 28) (Live n RD) R 1 (markAt w1 off)
+      (B : ((RD R : List ℕ) → GoneMarked n RD w1 → Gathered (linkAt f 48 20) m (linkAt d 40 28) (Live n RD) R 1 (markAt w1 off)
       → Gathers (linkAt f 48 20) m (linkAt d 40 28) (Live n RD) n off R w2 r2) × Within off m w1 w2)
       (apart : field 40 d 0 1 ≤ off) (few : off ≤ 65536) where
-    kids : ((RD R : List ℕ) → Told (field 40 d 0 1) RD w1
+    kids : ((RD R : List ℕ) → GoneMarked (field 40 d 0 1) RD w1
         → Gathered (linkAt f 48 20) (field 48 f 0 1) (linkAt d 40 28) (Live (field 40 d 0 1) RD) R 1 (markAt w1 off)
         → Gathers (linkAt f 48 20) (field 48 f 0 1) (linkAt d 40 28) (Live (field 40 d 0 1) RD) (field 40 d 0 1) off R w2 r2) × Within off (field 48 f 0 1) w1 w2
     kids =
-        subst (λ z. ((RD R : List ℕ) → Told (field 40 d 0 1) RD w1 → Gathered (linkAt f 48 20) z (linkAt d 40 28) (Live (field 40 d 0 1) RD) R 1 (markAt w1 off)
+        subst (λ z. ((RD R : List ℕ) → GoneMarked (field 40 d 0 1) RD w1 → Gathered (linkAt f 48 20) z (linkAt d 40 28) (Live (field 40 d 0 1) RD) R 1 (markAt w1 off)
         → Gathers (linkAt f 48 20) z (linkAt d 40 28) (Live (field 40 d 0 1) RD) (field 40 d 0 1) off R w2 r2) × Within off z w1 w2) files-count
-        (subst (λ z. ((RD R : List ℕ) → Told z RD w1 → Gathered (linkAt f 48 20) m (linkAt d 40 28) (Live z RD) R 1 (markAt w1 off)
+        (subst (λ z. ((RD R : List ℕ) → GoneMarked z RD w1 → Gathered (linkAt f 48 20) m (linkAt d 40 28) (Live z RD) R 1 (markAt w1 off)
         → Gathers (linkAt f 48 20) m (linkAt d 40 28) (Live z RD) z off R w2 r2) × Within off m w1 w2) dirs-count B)
 
-    module _ (dh : List ℕ) (tell : Told (field 40 d 0 1) (removedOf (dirView dh d)) work) where
+    module _ (dh : List ℕ) (tell : GoneMarked (field 40 d 0 1) (removedOf (dirView dh d)) work) where
       pub files-2 : r2 ≡ false → FilesTested dh d fh f false
       files-2 e = files-lists dh d fh f off work tell apart S e1 kids (omega arith) e
 
-      pub files-3 : r2 ≡ true → {r3 : Bool} → Tells ((y : ℕ) → 0 < y → y < m → Named 0 y (markAt w2 off y) (linkAt f 48 0 y)) r3 → FilesTested dh d fh f r3
+      pub files-3 : r2 ≡ true → {r3 : Bool} → Tells ((y : ℕ) → 0 < y → y < m → ParentMarked 0 y (markAt w2 off y) (linkAt f 48 0 y)) r3 → FilesTested dh d fh f r3
       files-3 e {r3} N =
           files-end dh d fh f off work tell apart S e1 kids (omega arith) e
-          (subst (λ z. Tells ((y : ℕ) → 0 < y → y < z → Named 0 y (markAt w2 off y) (linkAt f 48 0 y)) r3) files-count N)
+          (subst (λ z. Tells ((y : ℕ) → 0 < y → y < z → ParentMarked 0 y (markAt w2 off y) (linkAt f 48 0 y)) r3) files-count N)

@@ -7,14 +7,14 @@ use native.Mathlib.Omega.{arith}
 use Rattle.links.specs.Links.{_∈_, Links, Holds}
 use Rattle.links.proofs.Laws.{one-list}
 use Rattle.links.proofs.Held.{same-or}
-use Rattle.tree_marks.specs.Marks.{gone}
+use Rattle.tree_marks.specs.inner.Marks.{gone}
 use Rattle.tree_table.specs.View.{Live}
-use Rattle.tree_marks.specs.Gather.{Gathered, Named}
+use Rattle.tree_marks.specs.inner.Gather.{Gathered, ParentMarked}
 use Rattle.tree_marks.proofs.Gathering.{in-or, gathered}
 
 -- f is the parent that an entry names; n and RD are the count and the removed entries of the directories
 module _ (nx head f : ℕ → ℕ) (count n root : ℕ) (RD R : List ℕ) (W : ℕ → ℕ) (hn : n ≤ gone) (G : Gathered nx count head (Live n RD) R n W) where
-  module _ (N : (y : ℕ) → 0 < y → y < count → Named root y (W y) (f y)) where
+  module _ (N : (y : ℕ) → 0 < y → y < count → ParentMarked root y (W y) (f y)) where
     marks : (y : ℕ) → 0 < y → y < count → (W y ≡ gone) ⊎ (W y ≡ f y)
     marks y a b = ⊎-elim (λ (g : W y ≡ gone). inl g) (λ (q : (W y ≡ f y) × ((0 < W y) ⊎ (y ≡ root))). inr (q .0)) (N y a b)
 
@@ -41,7 +41,7 @@ module _ (nx head f : ℕ → ℕ) (count n root : ℕ) (RD R : List ℕ) (W : �
   -- the reverse: right lists and live parents leave no other marks
   pub kids-named : ((p : ℕ) → Live n RD p → Holds nx (head p) (λ y. Live count R y × (f y ≡ p)))
       → ((y : ℕ) → Live count R y → (y ≡ root → ⊥) → Live n RD (f y))
-      → ((y : ℕ) → 0 < y → y ≡ root → f y ≡ 0) → (y : ℕ) → 0 < y → y < count → Named root y (W y) (f y)
+      → ((y : ℕ) → 0 < y → y ≡ root → f y ≡ 0) → (y : ℕ) → 0 < y → y < count → ParentMarked root y (W y) (f y)
   kids-named lists parents none y a b =
       ⊎-elim (λ (m : y ∈ R). inl (G .removed y .0 m))
       (λ (m : y ∈ R → ⊥).

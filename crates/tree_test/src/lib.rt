@@ -6,8 +6,8 @@ ghost use Prim.Native.Nat.{ℕ, _+_, _-_, _*_, _/_, _≤_, _<_};
 ghost use Rattle.tree_table.specs.Field.{field};
 ghost use Rattle.tree_table.specs.View.{dirView, fileView, removedOf};
 ghost use Rattle.order.specs.Tells.{Tells};
-ghost use Rattle.tree_marks.specs.Marks.{markAt};
-ghost use Rattle.tree_marks.specs.Gather.{Told};
+ghost use Rattle.tree_marks.specs.inner.Marks.{markAt};
+ghost use Rattle.tree_marks.specs.inner.Gather.{GoneMarked};
 ghost use lib.ListN.{length, getD, replicate};
 ghost use Rattle.order.specs.First.{First};
 ghost use Rattle.order.specs.Gate.{cleared};
@@ -15,7 +15,7 @@ ghost use Rattle.tree_sound.specs.Sizes.{rooms, HashMisfit, Misfit, Beyond, Out
 ghost use Rattle.tree_sound.specs.Sound.{Sound};
 ghost use Rattle.tree_test.specs.Gate.{treeGate};
 ghost use Rattle.tree_test.specs.Promise.{tested, testDone, TreeGateOf, OpenGateOf};
-ghost use Rattle.tree_test.specs.Halves.{Root, DirsTested, FilesTested, Sized};
+ghost use Rattle.tree_test.specs.inner.Halves.{RootFits, DirsTested, FilesTested, Sized};
 
 // The test's answer: Done for sound tables.
 pub struct Tested {
@@ -28,28 +28,27 @@ pub enum Gated {
     Refused { answer: Answer },
 }
 
-// Where the count stands in entry 0, where an entry's next field stands, and where a directory's lists start.
-const COUNT: usize = 0;
+// The widths of the two entry types.
+const DIR: usize = tree_key::SaveExtDirEntry::WIDTH;
 
-const NEXT: usize = 20;
+const FILE: usize = tree_key::SaveExtFileEntry::WIDTH;
 
-const SUB_DIR: usize = 24;
-
-const SUB_FILE: usize = 28;
+// Where the root's entry ends, which is entry 1.
+const AFTER_ROOT: usize = DIR + DIR;
 
 // Whether the root is there, with a zero key and no next.
 fn root_fits(table: &[u8], mark: u32) -> bool
     requires { ⌜ 80 ≤ length (now table) ⌝ }
-    ensures { λ r. ⌜ Tells (Root (now (table .entry)) mark) r ⌝ }
+    ensures { λ r. ⌜ Tells (RootFits (now (table .entry)) mark) r ⌝ }
 {
     if mark == tree_marks::GONE {
         return false;
     }
     let key = tree_key::SaveExtKey::new_root();
-    if !tree_key::has_key(&table[40..80], key) {
+    if !tree_key::has_key(&table[DIR..AFTER_ROOT], key) {
         return false;
     }
-    tree_table::link_of(table, 40, NEXT, 1) == 0
+    tree_table::link_of(table, DIR, tree_key::SaveExtDirEntry::NEXT, 1) == 0
 }
 
 // The test of the directories: their table, the root, the child lists among them, the parents that they name, and that each reaches the root. The
@@ -59,17 +58,26 @@ fn test_dirs(hash: &[u8], table: &[u8], work: &mut [u32]) -> bool
         × (length (now table) / 40 ≤ length (now work)) × ((y : ℕ) → markAt (now work) 0 y ≡ 0) ⌝ }
     ensures { λ r. ⌜ DirsTested (now (hash .entry)) (now (table .entry)) (now (work .entry)) (now (work .exit)) r ⌝ }
 {
-    if !tree_alone::test_table(hash, table, 40, 2, work, 0) {
+    if !tree_alone::test_table(hash, table, DIR, 2, work, 0) {
         return false;
     }
-    let count = tree_table::link_of(table, 40, COUNT, 0);
+    let count = tree_table::link_of(table, DIR, tree_table::COUNT, 0);
     if !root_fits(table, work[1]) {
         return false;
     }
-    if !tree_marks::mark_children(table, count, SUB_DIR, table, 40, count, work, 0) {
+    if !tree_marks::mark_children(
+        table,
+        count,
+        tree_key::SaveExtDirEntry::SUB_DIR,
+        table,
+        DIR,
+        count,
+        work,
+        0,
+    ) {
         return false;
     }
-    if !tree_marks::check_parents(table, 40, 1, count, work, 0) {
+    if !tree_marks::check_parents(table, DIR, 1, count, work, 0) {
         return false;
     }
     tree_marks::all_reach(work, count)
@@ -80,18 +88,27 @@ fn test_files(dirs: &[u8], hash: &[u8], table: &[u8], work: &mut [u32], off: usi
     requires { ⌜ (48 ≤ length (now table)) × (length (now table) / 48 ≤ 65536) × (0 < length (now hash) / 4) × (length (now hash) / 4 ≤ 65536)
         × (off + length (now table) / 48 ≤ length (now work)) × ((y : ℕ) → markAt (now work) off y ≡ 0)
         × (40 ≤ length (now dirs)) × (1 ≤ field 40 (now dirs) 0 1) × (field 40 (now dirs) 0 1 ≤ length (now dirs) / 40) × (length (now dirs) / 40 ≤ off) × (off ≤ 65536) ⌝ }
-    ensures { λ r. ⌜ ((dh : List ℕ) → Told (field 40 (now (dirs .entry)) 0 1) (removedOf (dirView dh (now (dirs .entry)))) (now (work .entry))
+    ensures { λ r. ⌜ ((dh : List ℕ) → GoneMarked (field 40 (now (dirs .entry)) 0 1) (removedOf (dirView dh (now (dirs .entry)))) (now (work .entry))
         → FilesTested dh (now (dirs .entry)) (now (hash .entry)) (now (table .entry)) r) ⌝ }
 {
-    if !tree_alone::test_table(hash, table, 48, 1, work, off) {
+    if !tree_alone::test_table(hash, table, FILE, 1, work, off) {
         return false;
     }
-    let bound = tree_table::link_of(dirs, 40, COUNT, 0);
-    let count = tree_table::link_of(table, 48, COUNT, 0);
-    if !tree_marks::mark_children(dirs, bound, SUB_FILE, table, 48, count, work, off) {
+    let bound = tree_table::link_of(dirs, DIR, tree_table::COUNT, 0);
+    let count = tree_table::link_of(table, FILE, tree_table::COUNT, 0);
+    if !tree_marks::mark_children(
+        dirs,
+        bound,
+        tree_key::SaveExtDirEntry::SUB_FILE,
+        table,
+        FILE,
+        count,
+        work,
+        off,
+    ) {
         return false;
     }
-    tree_marks::check_parents(table, 48, 0, count, work, off)
+    tree_marks::check_parents(table, FILE, 0, count, work, off)
 }
 
 // Whether the two tables are sound. The work list has a place for each entry of the two, all 0.
@@ -110,7 +127,7 @@ fn sound(
     if !test_dirs(dir_hash, dir_table, work) {
         return false;
     }
-    let off = dir_table.len() / 40;
+    let off = dir_table.len() / DIR;
     test_files(dir_table, file_hash, file_table, work, off)
 }
 
@@ -146,7 +163,7 @@ fn verdict(
     ensures { λ r. ⌜ Tells (Sound (dirView (now («dir_hash» .entry)) (now («dir_table» .entry))) (fileView (now («dir_table» .entry)) (now («file_hash» .entry)) (now («file_table» .entry)))) r
         × (now (work .exit) ≡ cleared (rooms (now («dir_table» .entry)) (now («file_table» .entry))) (now (work .entry))) ⌝ }
 {
-    let places = dir_table.len() / 40 + file_table.len() / 48;
+    let places = dir_table.len() / DIR + file_table.len() / FILE;
     judge(
         dir_hash,
         dir_table,
@@ -177,13 +194,13 @@ fn misfit(dir_hash: &[u8], dir_table: &[u8], file_hash: &[u8], file_table: &[u8]
     if hash_misfit(dir_hash) {
         return true;
     }
-    if dir_table.len() < 40 {
+    if dir_table.len() < DIR {
         return true;
     }
     if hash_misfit(file_hash) {
         return true;
     }
-    if file_table.len() < 48 {
+    if file_table.len() < FILE {
         return true;
     }
     false
@@ -209,13 +226,13 @@ fn outside(dir_hash: &[u8], dir_table: &[u8], file_hash: &[u8], file_table: &[u8
     if beyond(dir_hash.len() / 4) {
         return true;
     }
-    if beyond(dir_table.len() / 40) {
+    if beyond(dir_table.len() / DIR) {
         return true;
     }
     if beyond(file_hash.len() / 4) {
         return true;
     }
-    if beyond(file_table.len() / 48) {
+    if beyond(file_table.len() / FILE) {
         return true;
     }
     false
@@ -243,7 +260,7 @@ pub fn open_gate(
             answer: Answer::InvalidValue,
         };
     }
-    if work.len() < dir_table.len() / 40 + file_table.len() / 48 {
+    if work.len() < dir_table.len() / DIR + file_table.len() / FILE {
         return Gated::Refused {
             answer: Answer::WorkTooShort,
         };

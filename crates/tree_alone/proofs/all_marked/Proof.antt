@@ -5,7 +5,7 @@ use native.Mathlib.Omega.{arith}
 use borrow.Author.Needs.{needs}
 use lib.ListN.{length, getD}
 use Rattle.order.specs.Tells.{Tells}
-use Rattle.tree_marks.specs.Marks.{markAt}
+use Rattle.tree_marks.specs.inner.Marks.{markAt}
 use Rattle.tree_marks.proofs.Gathering.{Checking, check-begin, check-on, check-stop, check-done}
 use Rattle.tree_alone.proofs.Entries.{mark-none, mark-some}
 use Rattle.tree_alone.proofs.all_marked.Statement.{statement}

@@ -1,56 +1,57 @@
 -- `sort_bucket` meets its contract.
 use native.Mathlib.Omega.{arith}
 use borrow.Author.Tests.{not-true, not-false}
-use Rattle.tree_alone.proofs.Entries.{filing-stop, filing-ends, filing-done}
+use Rattle.tree_alone.proofs.Entries.{counted-ends, counted-far, counted-stop, counted-no, counted-yes}
 use borrow.Author.Needs.{needs}
 use Rattle.tree_alone.proofs.sort_bucket.Statement.{statement}
 use Rattle.tree_alone.proofs.sort_bucket.Tie as tie
-use Rattle.tree_alone.proofs.sort_bucket.Reads as reads
-use Rattle.tree_alone.proofs.sort_bucket.Lts as lts
-use Rattle.tree_alone.proofs.check_bucket.Reads as check-bucket-reads
-use Rattle.tree_marks.proofs.mark_list.Reads as mark-list-reads
 
--- src/lib.rt:63:41
-sub-mark-list : tie.Need-sub-mark-list
-sub-mark-list c = search needs
+sub-mark-counted : tie.Need-sub-mark-counted
+sub-mark-counted c = search needs
 
--- src/lib.rt:63:9
-mark-list-requires : tie.Need-mark-list-requires
-mark-list-requires c κs = search needs
+mark-counted-requires : tie.Need-mark-counted-requires
+mark-counted-requires c κs = search needs
 
--- src/lib.rt:64:9
 same-length : tie.Need-same-length
 same-length c = search needs
 
--- src/lib.rt:64:9
 returns : tie.Need-returns
-returns c = filing-stop (c .before .before .before .mark-list .ensures) (not-true (c .before .before .before .mark-list .result) (c .if1 .taken))
+returns c = counted-stop (c .before .before .before .mark-counted .ensures) (c .if1 .taken)
 
--- src/lib.rt:66:5
 check-bucket-requires : tie.Need-check-bucket-requires
-check-bucket-requires c κs = (
-  filing-ends (c .before .before .before .mark-list .ensures) (not-false (c .before .before .before .mark-list .result) (c .if1 .left)) (search needs) (search needs) (search needs),
-  search needs,
-  search needs,
-  search needs,
-)
+check-bucket-requires c κs =
+    let s = c .before .before .before .before .before .before .before in (
+      counted-ends (s .args .table .now) (s .args .w) (s .args .first) (c .before .before .before .mark-counted .ensures) (omega arith) (s .pre .1) (s .pre .2) (s .pre .0),
+      search needs,
+      search needs,
+      search needs,
+      counted-far (s .args .table .now) (s .args .w) (s .args .first) (c .before .before .before .mark-counted .ensures) (omega arith) (s .pre .1) (s .pre .2) (s .pre .0),
+    )
 
--- src/lib.rt:50:1
 same-length-2 : tie.Need-same-length-2
 same-length-2 c = search needs
 
--- src/lib.rt:50:1
 returns-2 : tie.Need-returns-2
-returns-2 c = filing-done (c .before .before .before .before .mark-list .ensures) (not-false (c .before .before .before .before .mark-list .result) (c .before .if1 .left)) (c .check-bucket .ensures)
+returns-2 c = counted-no (c .before .before .before .before .before .mark-counted .ensures) (omega arith) (c .before .check-bucket .ensures) (not-true (c .before .check-bucket .result) (c .if2 .taken))
+
+same-length-3 : tie.Need-same-length-3
+same-length-3 c = search needs
+
+returns-3 : tie.Need-returns-3
+returns-3 c =
+    let s = c .before .before .before .before .before .before .before .before .before in
+    counted-yes (c .before .before .before .before .before .mark-counted .ensures) (omega arith) (c .before .check-bucket .ensures) (s .pre .1) (s .pre .2) (s .pre .0) (not-false (c .before .check-bucket .result) (c .if2 .left))
 
 pub sort-bucket-spec : {M : Type 1} → statement M
 sort-bucket-spec =
     tie.close
     (tie.spec
-    sub-mark-list
-    mark-list-requires
+    sub-mark-counted
+    mark-counted-requires
     same-length
     returns
     check-bucket-requires
     same-length-2
-    returns-2)
+    returns-2
+    same-length-3
+    returns-3)

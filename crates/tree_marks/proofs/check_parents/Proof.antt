@@ -7,8 +7,8 @@ use borrow.Author.Tests.{not-true, not-false}
 use lib.ListN.{length, getD, set}
 use Rattle.tree_table.specs.Chain.{linkAt}
 use Rattle.order.specs.Tells.{Tells}
-use Rattle.tree_marks.specs.Marks.{markAt}
-use Rattle.tree_marks.specs.Gather.{Named}
+use Rattle.tree_marks.specs.inner.Marks.{markAt}
+use Rattle.tree_marks.specs.inner.Gather.{ParentMarked}
 use Rattle.tree_marks.proofs.Walks.{entry-in}
 use Rattle.tree_marks.proofs.Gathering.{Checking, check-begin, check-on, check-stop, check-done}
 use mathlib.Core.Bool.{Bool}
@@ -21,7 +21,7 @@ use Rattle.tree_marks.proofs.named.Reads as named-reads
 use Rattle.words.proofs.get_u32.Reads as get-u32-reads
 
 abbrev Inv-loop : tie.InvT-loop
-Inv-loop table w root count work off y₀ y = Checking (λ z. Named root z (markAt work off z) (linkAt table w 0 z)) y
+Inv-loop table w root count work off y₀ y = Checking (λ z. ParentMarked root z (markAt work off z) (linkAt table w 0 z)) y
 
 abbrev μ-loop : tie.MeasureT-loop
 μ-loop table w root count work off y₀ y = count - y
@@ -32,11 +32,11 @@ inside : (c : lts.After-index (index-reads.Asked, index-reads.Learnt, get-u32-re
 inside c = entry-in _ _ (c .before .before .before .before .before .args .count) _ (omega arith) (omega arith)
 
 -- what is told of the entry, by its number
-told : (root y mark parent i : ℕ) (r : Bool) (W P : ℕ → ℕ) → i ≡ y → mark ≡ W i → parent ≡ P i → Tells (Named root y mark parent) r → Tells (Named root y (W y) (P y)) r
+told : (root y mark parent i : ℕ) (r : Bool) (W P : ℕ → ℕ) → i ≡ y → mark ≡ W i → parent ≡ P i → Tells (ParentMarked root y mark parent) r → Tells (ParentMarked root y (W y) (P y)) r
 told root y mark parent i r W P e em ep T =
     let a : mark ≡ W y = em ∙ ap W e in
     let b : parent ≡ P y = ep ∙ ap P e in
-    subst (λ m. Tells (Named root y m (P y)) r) a (subst (λ p. Tells (Named root y mark p) r) b T)
+    subst (λ m. Tells (ParentMarked root y m (P y)) r) a (subst (λ p. Tells (ParentMarked root y mark p) r) b T)
 
 -- src/lib.rt:173:5
 loop-holds : tie.Need-loop-holds Inv-loop μ-loop
@@ -77,7 +77,7 @@ named-requires c κs = search needs
 -- src/lib.rt:176:13
 returns : tie.Need-returns Inv-loop μ-loop
 returns c =
-    check-stop {P = λ z. Named (c .before .before .before .before .before .before .before .before .before .args .root) z (markAt (c .before .before .before .before .before .before .before .before .before .args .work .now) (c .before .before .before .before .before .before .before .before .before .args .off) z) (linkAt (c .before .before .before .before .before .before .before .before .before .args .table .now) (c .before .before .before .before .before .before .before .before .before .args .w) 0 z)} (c .before .before .before .before .before .before .loop .inv) (search needs)
+    check-stop {P = λ z. ParentMarked (c .before .before .before .before .before .before .before .before .before .args .root) z (markAt (c .before .before .before .before .before .before .before .before .before .args .work .now) (c .before .before .before .before .before .before .before .before .before .args .off) z) (linkAt (c .before .before .before .before .before .before .before .before .before .args .table .now) (c .before .before .before .before .before .before .before .before .before .args .w) 0 z)} (c .before .before .before .before .before .before .loop .inv) (search needs)
     (told _ _ _ _ _ _ (markAt (c .before .before .before .before .before .before .before .before .before .args .work .now) (c .before .before .before .before .before .before .before .before .before .args .off)) (linkAt (c .before .before .before .before .before .before .before .before .before .args .table .now) (c .before .before .before .before .before .before .before .before .before .args .w) 0) (c .before .before .before .before .index .ensures) refl (c .before .before .get-u32 .ensures) (c .before .named .ensures)) (not-true (c .before .named .result) (c .if1 .taken))
 
 -- src/lib.rt:178:9
@@ -91,12 +91,12 @@ loop-less c = search needs
 -- src/lib.rt:173:5
 loop-again : tie.Need-loop-again Inv-loop μ-loop
 loop-again c =
-    check-on {P = λ z. Named (c .before .before .before .before .before .before .before .before .before .args .root) z (markAt (c .before .before .before .before .before .before .before .before .before .args .work .now) (c .before .before .before .before .before .before .before .before .before .args .off) z) (linkAt (c .before .before .before .before .before .before .before .before .before .args .table .now) (c .before .before .before .before .before .before .before .before .before .args .w) 0 z)} (c .before .before .before .before .before .before .loop .inv)
+    check-on {P = λ z. ParentMarked (c .before .before .before .before .before .before .before .before .before .args .root) z (markAt (c .before .before .before .before .before .before .before .before .before .args .work .now) (c .before .before .before .before .before .before .before .before .before .args .off) z) (linkAt (c .before .before .before .before .before .before .before .before .before .args .table .now) (c .before .before .before .before .before .before .before .before .before .args .w) 0 z)} (c .before .before .before .before .before .before .loop .inv)
     (told _ _ _ _ _ _ (markAt (c .before .before .before .before .before .before .before .before .before .args .work .now) (c .before .before .before .before .before .before .before .before .before .args .off)) (linkAt (c .before .before .before .before .before .before .before .before .before .args .table .now) (c .before .before .before .before .before .before .before .before .before .args .w) 0) (c .before .before .before .before .index .ensures) refl (c .before .before .get-u32 .ensures) (c .before .named .ensures)) (not-false (c .before .named .result) (c .if1 .left))
 
 -- src/lib.rt:168:1
 returns-2 : tie.Need-returns-2 Inv-loop μ-loop
-returns-2 c = check-done {P = λ z. Named (c .before .before .before .before .args .root) z (markAt (c .before .before .before .before .args .work .now) (c .before .before .before .before .args .off) z) (linkAt (c .before .before .before .before .args .table .now) (c .before .before .before .before .args .w) 0 z)} (c .before .loop .inv) (search needs)
+returns-2 c = check-done {P = λ z. ParentMarked (c .before .before .before .before .args .root) z (markAt (c .before .before .before .before .args .work .now) (c .before .before .before .before .args .off) z) (linkAt (c .before .before .before .before .args .table .now) (c .before .before .before .before .args .w) 0 z)} (c .before .loop .inv) (search needs)
 
 pub check-parents-spec : {M : Type 1} → statement M
 check-parents-spec =

@@ -3,6 +3,7 @@ use mathlib.Core.Path.{_≡_}
 use mathlib.Core.List.{List}
 use mathlib.Core.Bool.{Bool, true, false}
 use Prim.Native.Nat.{ℕ, _+_, _≤_, _<_}
+use lib.Dec.{ltb}
 use lib.ListN.{length, getD}
 use Rattle.links.specs.Links.{_∈_, Links}
 
@@ -25,8 +26,8 @@ pub record Within (off count : ℕ) (work work′ : List ℕ) : Type 0 where
   pub behind : (j : ℕ) → off + count ≤ j → getD work′ j 0 ≡ getD work j 0
 
 -- the list lies below count, at entries that have no mark
-abbrev pub Free : ℕ → (ℕ → ℕ) → List ℕ → Type 0
-Free count W xs = (y : ℕ) → y ∈ xs → (y < count) × (W y ≡ 0)
+abbrev pub Unmarked : ℕ → (ℕ → ℕ) → List ℕ → Type 0
+Unmarked count W xs = (y : ℕ) → y ∈ xs → (y < count) × (W y ≡ 0)
 
 -- the marks W′ are W with m at the entries of xs
 pub record Marked (W W′ : ℕ → ℕ) (m : ℕ) (xs : List ℕ) : Type 0 where
@@ -34,7 +35,12 @@ pub record Marked (W W′ : ℕ → ℕ) (m : ℕ) (xs : List ℕ) : Type 0 wher
   pub others : (y : ℕ) → (y ∈ xs → ⊥) → W′ y ≡ W y
 
 -- what a walk along a list answers: that it ends at free entries, which now have its mark; or that no such list starts there
-pub record Listed (nx : ℕ → ℕ) (count first m off : ℕ) (work work′ : List ℕ) (r : Bool) : Type 0 where
-  pub good : r ≡ true → (xs : List ℕ) × Links nx first xs × Free count (markAt work off) xs × Marked (markAt work off) (markAt work′ off) m xs
-  pub bad : r ≡ false → (xs : List ℕ) → Links nx first xs → Free count (markAt work off) xs → ⊥
+pub record ListMarked (nx : ℕ → ℕ) (count first m off : ℕ) (work work′ : List ℕ) (r : Bool) : Type 0 where
+  pub good : r ≡ true → (xs : List ℕ) × Links nx first xs × Unmarked count (markAt work off) xs × Marked (markAt work off) (markAt work′ off) m xs
+  pub bad : r ≡ false → (xs : List ℕ) → Links nx first xs → Unmarked count (markAt work off) xs → ⊥
   pub within : Within off count work work′
+
+-- the same where the walk answers one more than the list's length, or 0
+pub record ListCounted (nx : ℕ → ℕ) (count first m off : ℕ) (work work′ : List ℕ) (n : ℕ) : Type 0 where
+  pub listed : ListMarked nx count first m off work work′ (ltb 0 n)
+  pub size : 0 < n → (xs : List ℕ) → Links nx first xs → n ≡ length xs + 1

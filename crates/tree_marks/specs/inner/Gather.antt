@@ -3,12 +3,11 @@ use mathlib.Core.Path.{_≡_}
 use mathlib.Core.List.{List}
 use mathlib.Core.Logic.{_⊎_, _≢_, _↔_}
 use mathlib.Core.Bool.{Bool, true, false}
-use Prim.Native.Nat.{ℕ, _+_, _-_, _*_, _≤_, _<_}
-use lib.ListN.{length, getD}
+use Prim.Native.Nat.{ℕ, _-_, _<_}
+use lib.ListN.{getD}
 use Rattle.links.specs.Links.{_∈_, Links, Holds}
-use Rattle.words.specs.Word.{word}
-use Rattle.tree_table.specs.View.{Live}
-use Rattle.tree_marks.specs.Marks.{gone, markAt, Within, Listed}
+use Rattle.tree_table.specs.View.{Live, hashAt}
+use Rattle.tree_marks.specs.inner.Marks.{gone, markAt, Within, ListMarked}
 
 -- the wanted lists with numbers from 1 below i were gone along: their entries have their number as mark, the removed ones R have `gone`, all others 0
 pub record Gathered (nx : ℕ → ℕ) (count : ℕ) (head : ℕ → ℕ) (want : ℕ → Type 0) (R : List ℕ) (i : ℕ) (W : ℕ → ℕ) : Type 0 where
@@ -22,29 +21,29 @@ pub record Gathers (nx : ℕ → ℕ) (count : ℕ) (head : ℕ → ℕ) (want :
   pub good : r ≡ true → Gathered nx count head want R n (markAt work′ off)
   pub bad : r ≡ false → (f : ℕ → ℕ) → ((j : ℕ) → 0 < j → j < n → want j → Holds nx (head j) (λ y. Live count R y × (f y ≡ j))) → ⊥
 
--- bucket j, counted from 1, starts at the hash word j - 1
+-- the first entry of bucket j, counted from 1
 abbrev pub bucketAt : List ℕ → ℕ → ℕ
-bucketAt h j = word h ((j - 1) * 4)
+bucketAt h j = hashAt h (j - 1)
 
 -- every number is wanted
 abbrev pub any : ℕ → Type 0
 any j = Unit {0}
 
 -- the removed directories, below count, are those that have the mark
-pub record Told (count : ℕ) (R work : List ℕ) : Type 0 where
+pub record GoneMarked (count : ℕ) (R work : List ℕ) : Type 0 where
   pub dead : (p : ℕ) → 0 < p → p < count → (p ∈ R) ↔ (getD work p 0 ≡ gone)
 
 -- one directory's list: it is removed, and nothing is done; or its list was gone along
-pub record Dir (nx : ℕ → ℕ) (count : ℕ) (head : ℕ → ℕ) (p off : ℕ) (work work′ : List ℕ) (r : Bool) : Type 0 where
+pub record DirMarked (nx : ℕ → ℕ) (count : ℕ) (head : ℕ → ℕ) (p off : ℕ) (work work′ : List ℕ) (r : Bool) : Type 0 where
   pub none : getD work p 0 ≡ gone → (r ≡ true) × (work′ ≡ work)
-  pub some : (getD work p 0 ≡ gone → ⊥) → Listed nx count (head p) p off work work′ r
+  pub some : (getD work p 0 ≡ gone → ⊥) → ListMarked nx count (head p) p off work work′ r
 
 -- an entry's mark is `gone`, or the parent that the entry names, which is 0 for the root alone
-abbrev pub Named : ℕ → ℕ → ℕ → ℕ → Type 0
-Named root y mark parent = (mark ≡ gone) ⊎ ((mark ≡ parent) × ((0 < mark) ⊎ (y ≡ root)))
+abbrev pub ParentMarked : ℕ → ℕ → ℕ → ℕ → Type 0
+ParentMarked root y mark parent = (mark ≡ gone) ⊎ ((mark ≡ parent) × ((0 < mark) ⊎ (y ≡ root)))
 
 -- every mark but `gone` is taken away
-pub record Kept (off count : ℕ) (work work′ : List ℕ) : Type 0 where
+pub record GoneKept (off count : ℕ) (work work′ : List ℕ) : Type 0 where
   pub dead : (y : ℕ) → y < count → markAt work off y ≡ gone → markAt work′ off y ≡ gone
   pub others : (y : ℕ) → y < count → (markAt work off y ≡ gone → ⊥) → markAt work′ off y ≡ 0
   pub within : Within off count work work′

@@ -5,9 +5,9 @@ use mathlib.Core.Logic.{_⊎_}
 use mathlib.Core.Bool.{Bool, true, false}
 use Prim.Native.Nat.{ℕ, _<_}
 use Rattle.links.specs.Links.{_∈_, Links}
-use Rattle.tree_marks.specs.Marks.{markOf, Within, Marked}
+use Rattle.tree_marks.specs.inner.Marks.{markOf, Within, Marked}
 use Rattle.tree_table.specs.View.{Live, Reaches}
-use Rattle.tree_marks.specs.Gather.{Told}
+use Rattle.tree_marks.specs.inner.Gather.{GoneMarked}
 
 -- the list of marks from y on ends, and lies below count
 abbrev pub Tops : ℕ → List ℕ → ℕ → Type 0
@@ -24,14 +24,14 @@ pub record Rising (u : ℕ → ℕ) (count : ℕ) (R work : List ℕ) : Type 0 w
 
 -- what is told of one directory: that it comes to the root, as the marks now know; or that it does not
 pub record Risen (count y : ℕ) (work work′ : List ℕ) (r : Bool) : Type 0 where
-  pub good : r ≡ true → (u : ℕ → ℕ) (R : List ℕ) → Told count R work → Rising u count R work
-      → Told count R work′ × Rising u count R work′ × (Live count R y → Reaches u y)
-  pub bad : r ≡ false → (u : ℕ → ℕ) (R : List ℕ) → u 1 ≡ 0 → Told count R work → Rising u count R work → Live count R y × (Reaches u y → ⊥)
+  pub good : r ≡ true → (u : ℕ → ℕ) (R : List ℕ) → GoneMarked count R work → Rising u count R work
+      → GoneMarked count R work′ × Rising u count R work′ × (Live count R y → Reaches u y)
+  pub bad : r ≡ false → (u : ℕ → ℕ) (R : List ℕ) → u 1 ≡ 0 → GoneMarked count R work → Rising u count R work → Live count R y × (Reaches u y → ⊥)
   pub within : Within 0 count work work′
 
 -- what is told of all directories
 pub record AllRisen (count : ℕ) (work work′ : List ℕ) (r : Bool) : Type 0 where
-  pub good : r ≡ true → (u : ℕ → ℕ) (R : List ℕ) → Told count R work → Rising u count R work
-      → Told count R work′ × ((y : ℕ) → Live count R y → Reaches u y)
-  pub bad : r ≡ false → (u : ℕ → ℕ) (R : List ℕ) → u 1 ≡ 0 → Told count R work → Rising u count R work → ((y : ℕ) → Live count R y → Reaches u y) → ⊥
+  pub good : r ≡ true → (u : ℕ → ℕ) (R : List ℕ) → GoneMarked count R work → Rising u count R work
+      → GoneMarked count R work′ × ((y : ℕ) → Live count R y → Reaches u y)
+  pub bad : r ≡ false → (u : ℕ → ℕ) (R : List ℕ) → u 1 ≡ 0 → GoneMarked count R work → Rising u count R work → ((y : ℕ) → Live count R y → Reaches u y) → ⊥
   pub within : Within 0 count work work′

@@ -7,18 +7,18 @@ use lib.ListN.{length}
 use Rattle.tree_table.specs.Field.{field}
 use Rattle.tree_table.specs.View.{keyAt, dirView, fileView, removedOf}
 use Rattle.tree_sound.specs.Sound.{Below, Dirs}
-use Rattle.tree_marks.specs.Marks.{gone, Within}
-use Rattle.tree_marks.specs.Gather.{Told}
+use Rattle.tree_marks.specs.inner.Marks.{gone, Within}
+use Rattle.tree_marks.specs.inner.Gather.{GoneMarked}
 
 -- the root, by its mark and its entry
-pub record Root (d : List ℕ) (mark : ℕ) : Type 0 where
+pub record RootFits (d : List ℕ) (mark : ℕ) : Type 0 where
   pub here : mark ≡ gone → ⊥
   pub key : keyAt (field 40 d) 1 ≡ 0 ∷ 0 ∷ 0 ∷ 0 ∷ 0 ∷ []
   pub next : field 40 d 1 6 ≡ 0
 
 -- the test of the directories; the marks of the removed ones are left
 pub record DirsTested (dh d : List ℕ) (work work′ : List ℕ) (r : Bool) : Type 0 where
-  pub good : r ≡ true → Dirs (dirView dh d) × Told (field 40 d 0 1) (removedOf (dirView dh d)) work′
+  pub good : r ≡ true → Dirs (dirView dh d) × GoneMarked (field 40 d 0 1) (removedOf (dirView dh d)) work′
   pub bad : r ≡ false → Dirs (dirView dh d) → ⊥
   pub within : Within 0 (length d / 40) work work′
 

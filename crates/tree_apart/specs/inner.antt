@@ -1,0 +1,2 @@
+-- What the functions inside promise each other.
+pub mod Apart
