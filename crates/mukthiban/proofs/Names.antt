@@ -31,8 +31,8 @@ naming at a = namedGives a (placed (numberOf a) at)
 
 module _ {misfit outside other short unsound dead : Type 0} (k at : ℕ) (work w : List ℕ) (a : Answer) (no : other → ⊥) where
   -- the rows of the answer alone, as rows of the answer with its place
-  pub with-place : Promised (gate (λ a w. beside a w) misfit outside short unsound BrokenTree k work) (cleared k work) (row dead NotFound ∷ []) Done (beside a w)
-      → Promised (gate (λ a w. beside (namedGives a 0) w) misfit (outside ⊎ other) short unsound BrokenTree k work) (cleared k work)
+  pub with-place : Promised (gate (λ a w. beside a w) misfit outside short (row unsound BrokenTree ∷ []) k work) (cleared k work) (row dead NotFound ∷ []) Done (beside a w)
+      → Promised (gate (λ a w. beside (namedGives a 0) w) misfit (outside ⊎ other) short (row unsound BrokenTree ∷ []) k work) (cleared k work)
       (row dead (namedGives NotFound 0) ∷ []) (namedGives Done at) (beside (naming at a) w)
   with-place (inl p) = inl (p .0, ap (λ (o : Beside Answer). beside (naming at (o .given)) (o .work)) (p .1))
   with-place (inr (m, inl p)) = inr (m, inl (inl (p .0), ap (λ (o : Beside Answer). beside (naming at (o .given)) (o .work)) (p .1)))
