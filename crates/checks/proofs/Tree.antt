@@ -20,10 +20,12 @@ use Rattle.tree_table.specs.Steps.{freeOf}
 use Rattle.tree_sound.specs.Sizes.{Misfit, Outside}
 use Rattle.tree_sound.specs.Sound.{Sound}
 use Rattle.tree_test.specs.Gate.{treeGate, openGate}
-use Rattle.tree_promises.specs.Tables.{Tables, tables, dirs, files, Has}
-use Rattle.tree_promises.specs.Calls.{Carry, carryGives, Make, makeGives, makeRows, makeDirDone, makeFileDone, Lookup, lookupGives, lookupRows, lookupDone}
+use Rattle.tree_sound.specs.Tables.{Tables, tables, dirs, files}
+use Rattle.tree_promises.specs.declared.Kind.the-variants.{Directory, File}
+use Rattle.tree_promises.specs.Has.{Has}
+use Rattle.tree_promises.specs.Calls.{Carry, carryGives, Make, makeGives, makeRows, makeDone, Lookup, lookupGives, lookupRows, lookupDone}
 use Rattle.tree_promises.specs.Format.{formatRows, formatted, FormatMisfit, FormatOutside}
-use Rattle.tree_promises.specs.Promise.{worked}
+use Rattle.tree_promises.specs.Promise.{worked, TreePromise, OpensPromise}
 use Rattle.tree_promises.specs.Public.{LookupPromise}
 use Rattle.checks.specs.Check.{Shows}
 use Rattle.checks.specs.Tree.{
@@ -166,7 +168,7 @@ fresh1 =
 -- tables of those lengths that are sound pass the rows of sizes, work list and soundness
 module _ (s : Tables) (e1 : length (s .dirHash) ≡ 20) (e2 : length (s .dirTable) ≡ 160) (e3 : length (s .fileHash) ≡ 4)
     (e4 : length (s .fileTable) ≡ 48) (sound : Sound (dirs s) (files s)) where
-  tree-passes : {A : Type 0} (refuse : Answer → List ℕ → A) → None (treeGate refuse (s .dirHash) (s .dirTable) (s .fileHash) (s .fileTable) work5)
+  tree-passes : {A : Type 0} (refuse : Answer → List ℕ → A) → None (treeGate refuse s work5)
   tree-passes refuse = (
     fits (s .dirHash) (s .dirTable) (s .fileHash) (s .fileTable) e1 e2 e3 e4,
     (
@@ -176,7 +178,7 @@ module _ (s : Tables) (e1 : length (s .dirHash) ≡ 20) (e2 : length (s .dirTabl
   )
 
   open-passes : {A : Type 0} (refuse : Answer → List ℕ → A)
-      → None (openGate refuse (s .dirHash) (s .dirTable) (s .fileHash) (s .fileTable) 4 (length (s .dirTable) / 40) work5)
+      → None (openGate refuse s 4 (length (s .dirTable) / 40) work5)
   open-passes refuse = (
     fits (s .dirHash) (s .dirTable) (s .fileHash) (s .fileTable) e1 e2 e3 e4,
     (
@@ -203,15 +205,16 @@ room1 : freeOf (dirs s1) ≡ 2
 unfolding word putWord field
 room1 = refl
 
-make-done : (o : Beside Make) → makeDir .promise o → o .given ≡ makeDirDone s1 opens4 1 name (replicate 4 0)
+make-done : (o : Beside Make) → makeDir .promise o → o .given ≡ makeDone Directory s1 opens4 1 name (replicate 4 0)
+unfolding OpensPromise
 make-done o p =
-    settled (makeRows s1 (dirs s1) opens4 1 key) (makeDirDone s1 opens4 1 name (replicate 4 0)) (o .given)
+    settled (makeRows s1 (dirs s1) opens4 1 key) (makeDone Directory s1 opens4 1 name (replicate 4 0)) (o .given)
     (λ h. h live1, (no-key1, (λ h. omega (arith, room1, h), tt)))
     (own-rows
-    (openGate (λ a w. beside (makeGives a 0 s1 opens4) w) (s1 .dirHash) (s1 .dirTable) (s1 .fileHash) (s1 .fileTable) 4 (length (s1 .dirTable) / 40) work5)
+    (openGate (λ a w. beside (makeGives a 0 s1 opens4) w) s1 4 (length (s1 .dirTable) / 40) work5)
     (worked s1 work5)
     (makeRows s1 (dirs s1) opens4 1 key)
-    (makeDirDone s1 opens4 1 name (replicate 4 0))
+    (makeDone Directory s1 opens4 1 name (replicate 4 0))
     o
     (open-passes s1 (lengths1 .0) (lengths1 .1) (lengths1 .2) (lengths1 .3) (fresh-sound (dirs s1) (files s1) fresh1)
     (λ a w. beside (makeGives a 0 s1 opens4) w))
@@ -264,10 +267,11 @@ lengths2 = (refl, refl, refl, refl)
 
 lookup-done : (p : ℕ) (n : List ℕ) → Has (dirs s2) (nameKey p n) → (o : Beside Lookup) → LookupPromise s2 (dirs s2) work5 p n o
     → o .given ≡ lookupDone (dirs s2) (nameKey p n)
+unfolding TreePromise
 lookup-done p n has o q =
     let k : List ℕ = nameKey p n in
     settled (lookupRows (dirs s2) k) (lookupDone (dirs s2) k) (o .given) (λ h. h has, tt)
-    (own-rows (treeGate (λ a w. beside (lookupGives a 0 0) w) (s2 .dirHash) (s2 .dirTable) (s2 .fileHash) (s2 .fileTable) work5) (worked s2 work5)
+    (own-rows (treeGate (λ a w. beside (lookupGives a 0 0) w) s2 work5) (worked s2 work5)
     (lookupRows (dirs s2) k) (lookupDone (dirs s2) k) o
     (tree-passes s2 (lengths2 .0) (lengths2 .1) (lengths2 .2) (lengths2 .3) (second-sound (dirs s2) (files s2) second2)
     (λ a w. beside (lookupGives a 0 0) w))
@@ -301,22 +305,22 @@ unfolding word putWord field
 no-room = refl
 
 pub shows-makeFile : Shows makeFile
-unfolding word putWord field hashOf mix rotated
+unfolding word putWord field hashOf mix rotated OpensPromise
 shows-makeFile o p =
     ap (λ (x : Make). numberOf (x .answer) ∷ x .inode ∷ (x .opens ++ x .tables .fileTable))
-    (refused (makeRows s1 (files s1) (replicate 1 0) 1 key) (makeFileDone s1 (replicate 1 0) 1 name (replicate 20 0)) (o .given)
+    (refused (makeRows s1 (files s1) (replicate 1 0) 1 key) (makeDone File s1 (replicate 1 0) 1 name (replicate 20 0)) (o .given)
     (makeGives NoSpace 0 s1 (replicate 1 0))
     (inr (λ h. h live1, inr (no-file-key, inl (no-room, refl))))
     (own-rows
-    (openGate (λ a w. beside (makeGives a 0 s1 (replicate 1 0)) w) (s1 .dirHash) (s1 .dirTable) (s1 .fileHash) (s1 .fileTable) 1 (length (s1 .fileTable) / 48) work5)
+    (openGate (λ a w. beside (makeGives a 0 s1 (replicate 1 0)) w) s1 1 (length (s1 .fileTable) / 48) work5)
     (worked s1 work5)
     (makeRows s1 (files s1) (replicate 1 0) 1 key)
-    (makeFileDone s1 (replicate 1 0) 1 name (replicate 20 0))
+    (makeDone File s1 (replicate 1 0) 1 name (replicate 20 0))
     o
     file-passes
     p))
   where
-    file-passes : None (openGate (λ a w. beside (makeGives a 0 s1 (replicate 1 0)) w) (s1 .dirHash) (s1 .dirTable) (s1 .fileHash) (s1 .fileTable) 1 (length (s1 .fileTable) / 48) work5)
+    file-passes : None (openGate (λ a w. beside (makeGives a 0 s1 (replicate 1 0)) w) s1 1 (length (s1 .fileTable) / 48) work5)
     file-passes = (
       fits (s1 .dirHash) (s1 .dirTable) (s1 .fileHash) (s1 .fileTable) (lengths1 .0) (lengths1 .1) (lengths1 .2) (lengths1 .3),
       (

@@ -9,8 +9,9 @@ use Rattle.order.specs.Beside.{Beside}
 use Rattle.tree_key.specs.Hash.{hashOf}
 use Rattle.tree_key.specs.Key.{nameKey}
 use Rattle.tree_table.specs.Field.{field}
-use Rattle.tree_promises.specs.Tables.{Tables, tables, dirs}
-use Rattle.tree_promises.specs.Steps.{madeDir}
+use Rattle.tree_sound.specs.Tables.{Tables, tables, dirs}
+use Rattle.tree_promises.specs.declared.Kind.the-variants.{Directory}
+use Rattle.tree_promises.specs.Steps.{made}
 use Rattle.tree_promises.specs.Calls.{Carry, Make, Lookup}
 use Rattle.tree_promises.specs.Format.{FormatPromise, formatted}
 use Rattle.tree_promises.specs.Public.{MakeDirPromise, MakeFilePromise, LookupPromise}
@@ -34,7 +35,7 @@ abbrev pub s1 : Tables
 s1 = formatted s0 4 1
 
 abbrev pub s2 : Tables
-s2 = madeDir s1 1 name (replicate 4 0)
+s2 = made Directory s1 1 name (replicate 4 0)
 
 -- the work list, and the directories' open counts
 abbrev pub work5 : List ℕ

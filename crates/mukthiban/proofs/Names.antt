@@ -13,11 +13,10 @@ use Rattle.order.specs.Answer.{numberOf}
 use Rattle.order.specs.declared.Answer.{Answer}
 use Rattle.order.specs.declared.Answer.the-variants.{Done, NotFound, BrokenTree, SizeMismatch, InvalidValue}
 use Rattle.tree_sound.specs.Sizes.{Misfit, rooms}
-use Rattle.tree_test.specs.Gate.{treeGate}
-use Rattle.tree_test.specs.Promise.{tested, testDone}
+use Rattle.tree_test.specs.Promise.{TestPromise}
 use Rattle.tree_test.specs.declared.Tested.{Tested}
-use Rattle.tree_promises.specs.Tables.{Tables}
-use Rattle.tree_promises.specs.Ready.{LiveAt}
+use Rattle.tree_sound.specs.Tables.{Tables}
+use Rattle.tree_promises.specs.inner.Ready.{LiveAt}
 use Rattle.order.specs.Tells.{Tells}
 use Rattle.tree_test.proofs.Cases.{tells-not}
 use Rattle.tree_promises.specs.declared.Kind.the-variants.{Directory, File}
@@ -82,7 +81,7 @@ place-zero (suc n) = refl
 module _ (s : Tables) (work : List ℕ) (r : Tested) (w : List ℕ) (n : ℕ) (number : n ≡ numberOf (r .answer)) where
   abbrev Says : Type 0
   Says =
-      First (treeGate tested (s .dirHash) (s .dirTable) (s .fileHash) (s .fileTable) work) (testDone (s .dirTable) (s .fileTable) work) (r, w)
+      TestPromise s work (r, w)
 
   number-of : (o : Tested × List ℕ) → (r, w) ≡ o → n ≡ numberOf (o .0 .answer)
   number-of o e = number ∙ ap (λ (z : Tested × List ℕ). numberOf (z .0 .answer)) e

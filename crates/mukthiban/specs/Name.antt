@@ -9,9 +9,8 @@ use Rattle.order.specs.Beside.{Beside, beside, Promised}
 use Rattle.order.specs.declared.Answer.{Answer}
 use Rattle.order.specs.declared.Answer.the-variants.{Done, NotFound}
 use Rattle.tree_table.specs.View.{View, LiveIn}
-use Rattle.tree_sound.specs.Sizes.{Outside, rooms}
 use Rattle.tree_test.specs.Gate.{entryGate}
-use Rattle.tree_promises.specs.Tables.{Tables, dirs, files}
+use Rattle.tree_sound.specs.Tables.{Tables, dirs, files, OutsideIn, roomsIn}
 use Rattle.tree_promises.specs.Promise.{worked}
 
 -- the answer, and where the sixteen name bytes begin
@@ -49,9 +48,9 @@ NamePromise s work kind x o =
     Promised
     (entryGate
     (λ a w. beside (namedGives a 0) w)
-    (s .dirHash) (s .dirTable) (s .fileHash) (s .fileTable)
-    (Outside (s .dirHash) (s .dirTable) (s .fileHash) (s .fileTable) ⊎ (1 < kind))
-    (length work < rooms (s .dirTable) (s .fileTable))
+    s
+    (OutsideIn s ⊎ (1 < kind))
+    (length work < roomsIn s)
     work)
     (worked s work)
     (nameRows s kind x)

@@ -1,6 +1,6 @@
 // The calls that change the entry tables: make, rename and delete.
 ghost use Rattle.order.specs.Beside.{beside};
-ghost use Rattle.tree_promises.specs.Tables.{tables};
+ghost use Rattle.tree_sound.specs.Tables.{tables};
 ghost use Rattle.tree_promises.specs.Calls.{makeGives, changeGives};
 ghost use Rattle.tree_promises.specs.Public.{MakeDirPromise, MakeFilePromise, RenameDirPromise, RenameFilePromise, DeleteDirPromise, DeleteFilePromise};
 ghost use Rattle.mukthiban.specs.Export.{Exported};

@@ -1,6 +1,6 @@
 // The calls that look at the entry tables, and those that touch open counts and carried bytes alone.
 ghost use Rattle.order.specs.Beside.{beside};
-ghost use Rattle.tree_promises.specs.Tables.{tables, dirs, files};
+ghost use Rattle.tree_sound.specs.Tables.{tables, dirs, files};
 ghost use Rattle.tree_promises.specs.Calls.{lookupGives, listGives, statGives, shownGives, carryGives, openingGives};
 ghost use Rattle.tree_promises.specs.Public.{LookupPromise, ListPromise, StatPromise, CarriedDirPromise, CarriedFilePromise, SetCarriedDirPromise, SetCarriedFilePromise, OpenDirPromise, OpenFilePromise, CloseDirPromise, CloseFilePromise};
 ghost use Rattle.mukthiban.specs.Export.{Exported};

@@ -1,9 +1,10 @@
 // The inner calls on carried bytes, for a side that has tested its tables once and keeps them sound.
 ghost use lib.ListN.{replicate};
 ghost use Rattle.order.specs.First.{First};
-ghost use Rattle.tree_promises.specs.Ready.{Ready};
-ghost use Rattle.tree_promises.specs.Tables.{tables, dirs, files};
-ghost use Rattle.tree_promises.specs.Calls.{shownRows, shownGives, dirCarriedDone, fileCarriedDone, carryRows, carryGives, carryDirDone, carryFileDone};
+ghost use Rattle.tree_promises.specs.declared.Kind.the-variants.{Directory, File};
+ghost use Rattle.tree_promises.specs.inner.Ready.{Ready};
+ghost use Rattle.tree_sound.specs.Tables.{tables, dirs, files};
+ghost use Rattle.tree_promises.specs.Calls.{shownRows, shownGives, carriedDone, carryRows, carryGives, carryDone};
 ghost use Rattle.mukthiban.specs.Export.{Exported};
 use crate::Plain;
 
@@ -17,7 +18,7 @@ pub extern "C" fn mukthiban_tested_tree_carried_dir(
     carried: &mut [u8; 4],
 ) -> Plain
     requires { ⌜ Ready (tables (now «dir_hash») (now «dir_table») (now «file_hash») (now «file_table»)) ⌝ }
-    ensures { λ p. ⌜ Exported (p .answer) (λ a. First (shownRows (dirs (tables (now («dir_hash» .entry)) (now («dir_table» .entry)) (now («file_hash» .entry)) (now («file_table» .entry)))) inode (replicate 4 0)) (dirCarriedDone (tables (now («dir_hash» .entry)) (now («dir_table» .entry)) (now («file_hash» .entry)) (now («file_table» .entry))) inode) (shownGives a (now (carried .exit)))) ⌝ }
+    ensures { λ p. ⌜ Exported (p .answer) (λ a. First (shownRows (dirs (tables (now («dir_hash» .entry)) (now («dir_table» .entry)) (now («file_hash» .entry)) (now («file_table» .entry)))) inode (replicate 4 0)) (carriedDone Directory (tables (now («dir_hash» .entry)) (now («dir_table» .entry)) (now («file_hash» .entry)) (now («file_table» .entry))) inode) (shownGives a (now (carried .exit)))) ⌝ }
 {
     let r = tree_inner::carry::carried_dir(dir_hash, dir_table, inode);
     let bytes = r.bytes;
@@ -38,7 +39,7 @@ pub extern "C" fn mukthiban_tested_tree_carried_file(
     carried: &mut [u8; 20],
 ) -> Plain
     requires { ⌜ Ready (tables (now «dir_hash») (now «dir_table») (now «file_hash») (now «file_table»)) ⌝ }
-    ensures { λ p. ⌜ Exported (p .answer) (λ a. First (shownRows (files (tables (now («dir_hash» .entry)) (now («dir_table» .entry)) (now («file_hash» .entry)) (now («file_table» .entry)))) inode (replicate 20 0)) (fileCarriedDone (tables (now («dir_hash» .entry)) (now («dir_table» .entry)) (now («file_hash» .entry)) (now («file_table» .entry))) inode) (shownGives a (now (carried .exit)))) ⌝ }
+    ensures { λ p. ⌜ Exported (p .answer) (λ a. First (shownRows (files (tables (now («dir_hash» .entry)) (now («dir_table» .entry)) (now («file_hash» .entry)) (now («file_table» .entry)))) inode (replicate 20 0)) (carriedDone File (tables (now («dir_hash» .entry)) (now («dir_table» .entry)) (now («file_hash» .entry)) (now («file_table» .entry))) inode) (shownGives a (now (carried .exit)))) ⌝ }
 {
     let r = tree_inner::carry::carried_file(file_hash, file_table, inode);
     let bytes = r.bytes;
@@ -59,7 +60,7 @@ pub extern "C" fn mukthiban_tested_tree_set_carried_dir(
     carried: &[u8; 4],
 ) -> Plain
     requires { ⌜ Ready (tables (now «dir_hash») (now «dir_table») (now «file_hash») (now «file_table»)) ⌝ }
-    ensures { λ p. ⌜ Exported (p .answer) (λ a. First (carryRows (tables (now («dir_hash» .entry)) (now («dir_table» .entry)) (now («file_hash» .entry)) (now («file_table» .entry))) (dirs (tables (now («dir_hash» .entry)) (now («dir_table» .entry)) (now («file_hash» .entry)) (now («file_table» .entry)))) inode) (carryDirDone (tables (now («dir_hash» .entry)) (now («dir_table» .entry)) (now («file_hash» .entry)) (now («file_table» .entry))) inode (now (carried .entry))) (carryGives a (tables (now («dir_hash» .entry)) (now («dir_table» .exit)) (now («file_hash» .entry)) (now («file_table» .entry))))) ⌝ }
+    ensures { λ p. ⌜ Exported (p .answer) (λ a. First (carryRows (tables (now («dir_hash» .entry)) (now («dir_table» .entry)) (now («file_hash» .entry)) (now («file_table» .entry))) (dirs (tables (now («dir_hash» .entry)) (now («dir_table» .entry)) (now («file_hash» .entry)) (now («file_table» .entry)))) inode) (carryDone Directory (tables (now («dir_hash» .entry)) (now («dir_table» .entry)) (now («file_hash» .entry)) (now («file_table» .entry))) inode (now (carried .entry))) (carryGives a (tables (now («dir_hash» .entry)) (now («dir_table» .exit)) (now («file_hash» .entry)) (now («file_table» .entry))))) ⌝ }
 {
     let bytes = *carried;
     let answer = tree_inner::carry::set_carried_dir(dir_hash, dir_table, inode, bytes);
@@ -78,7 +79,7 @@ pub extern "C" fn mukthiban_tested_tree_set_carried_file(
     carried: &[u8; 20],
 ) -> Plain
     requires { ⌜ Ready (tables (now «dir_hash») (now «dir_table») (now «file_hash») (now «file_table»)) ⌝ }
-    ensures { λ p. ⌜ Exported (p .answer) (λ a. First (carryRows (tables (now («dir_hash» .entry)) (now («dir_table» .entry)) (now («file_hash» .entry)) (now («file_table» .entry))) (files (tables (now («dir_hash» .entry)) (now («dir_table» .entry)) (now («file_hash» .entry)) (now («file_table» .entry)))) inode) (carryFileDone (tables (now («dir_hash» .entry)) (now («dir_table» .entry)) (now («file_hash» .entry)) (now («file_table» .entry))) inode (now (carried .entry))) (carryGives a (tables (now («dir_hash» .entry)) (now («dir_table» .entry)) (now («file_hash» .entry)) (now («file_table» .exit))))) ⌝ }
+    ensures { λ p. ⌜ Exported (p .answer) (λ a. First (carryRows (tables (now («dir_hash» .entry)) (now («dir_table» .entry)) (now («file_hash» .entry)) (now («file_table» .entry))) (files (tables (now («dir_hash» .entry)) (now («dir_table» .entry)) (now («file_hash» .entry)) (now («file_table» .entry)))) inode) (carryDone File (tables (now («dir_hash» .entry)) (now («dir_table» .entry)) (now («file_hash» .entry)) (now («file_table» .entry))) inode (now (carried .entry))) (carryGives a (tables (now («dir_hash» .entry)) (now («dir_table» .entry)) (now («file_hash» .entry)) (now («file_table» .exit))))) ⌝ }
 {
     let bytes = *carried;
     let answer = tree_inner::carry::set_carried_file(file_hash, file_table, inode, bytes);

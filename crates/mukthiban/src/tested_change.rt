@@ -1,12 +1,11 @@
 // The inner calls that change the entry tables, for a side that has tested its tables once and keeps them sound. Each requires what the test tells, and
 // tests nothing.
-ghost use Prim.Native.Nat.{_/_, _≤_};
-ghost use lib.ListN.{length};
 ghost use Rattle.order.specs.First.{First};
 ghost use Rattle.tree_key.specs.Key.{nameKey};
-ghost use Rattle.tree_promises.specs.Ready.{Ready};
-ghost use Rattle.tree_promises.specs.Tables.{tables, dirs, files};
-ghost use Rattle.tree_promises.specs.Calls.{makeRows, makeDirDone, makeFileDone, makeGives, changeGives, deleteFileRows, deleteFileDone, deleteDirRows, deleteDirDone, renameFileRows, renameFileDone, renameDirRows, renameDirDone};
+ghost use Rattle.tree_promises.specs.declared.Kind.the-variants.{Directory, File};
+ghost use Rattle.tree_promises.specs.inner.Ready.{ReadyOpens};
+ghost use Rattle.tree_sound.specs.Tables.{tables, dirs, files};
+ghost use Rattle.tree_promises.specs.Calls.{makeRows, makeDone, makeGives, changeGives, deleteRows, deleteDone, renameRows, renameDone};
 ghost use Rattle.mukthiban.specs.Export.{Exported};
 use crate::Made;
 use crate::Plain;
@@ -22,8 +21,8 @@ pub extern "C" fn mukthiban_tested_tree_make_dir(
     name: &[u8; 16],
     carried: &[u8; 4],
 ) -> Made
-    requires { ⌜ Ready (tables (now «dir_hash») (now «dir_table») (now «file_hash») (now «file_table»)) × (length (now «dir_table») / 40 ≤ length (now opens)) ⌝ }
-    ensures { λ p. ⌜ Exported (p .answer) (λ a. First (makeRows (tables (now («dir_hash» .entry)) (now («dir_table» .entry)) (now («file_hash» .entry)) (now («file_table» .entry))) (dirs (tables (now («dir_hash» .entry)) (now («dir_table» .entry)) (now («file_hash» .entry)) (now («file_table» .entry)))) (now (opens .entry)) parent (nameKey parent (now (name .entry)))) (makeDirDone (tables (now («dir_hash» .entry)) (now («dir_table» .entry)) (now («file_hash» .entry)) (now («file_table» .entry))) (now (opens .entry)) parent (now (name .entry)) (now (carried .entry))) (makeGives a (p .inode) (tables (now («dir_hash» .exit)) (now («dir_table» .exit)) (now («file_hash» .entry)) (now («file_table» .entry))) (now (opens .exit)))) ⌝ }
+    requires { ⌜ ReadyOpens Directory (tables (now «dir_hash») (now «dir_table») (now «file_hash») (now «file_table»)) (now opens) ⌝ }
+    ensures { λ p. ⌜ Exported (p .answer) (λ a. First (makeRows (tables (now («dir_hash» .entry)) (now («dir_table» .entry)) (now («file_hash» .entry)) (now («file_table» .entry))) (dirs (tables (now («dir_hash» .entry)) (now («dir_table» .entry)) (now («file_hash» .entry)) (now («file_table» .entry)))) (now (opens .entry)) parent (nameKey parent (now (name .entry)))) (makeDone Directory (tables (now («dir_hash» .entry)) (now («dir_table» .entry)) (now («file_hash» .entry)) (now («file_table» .entry))) (now (opens .entry)) parent (now (name .entry)) (now (carried .entry))) (makeGives a (p .inode) (tables (now («dir_hash» .exit)) (now («dir_table» .exit)) (now («file_hash» .entry)) (now («file_table» .entry))) (now (opens .exit)))) ⌝ }
 {
     let r = tree_inner::make::make_dir(
         dir_hash,
@@ -53,8 +52,8 @@ pub extern "C" fn mukthiban_tested_tree_make_file(
     name: &[u8; 16],
     carried: &[u8; 20],
 ) -> Made
-    requires { ⌜ Ready (tables (now «dir_hash») (now «dir_table») (now «file_hash») (now «file_table»)) × (length (now «file_table») / 48 ≤ length (now opens)) ⌝ }
-    ensures { λ p. ⌜ Exported (p .answer) (λ a. First (makeRows (tables (now («dir_hash» .entry)) (now («dir_table» .entry)) (now («file_hash» .entry)) (now («file_table» .entry))) (files (tables (now («dir_hash» .entry)) (now («dir_table» .entry)) (now («file_hash» .entry)) (now («file_table» .entry)))) (now (opens .entry)) parent (nameKey parent (now (name .entry)))) (makeFileDone (tables (now («dir_hash» .entry)) (now («dir_table» .entry)) (now («file_hash» .entry)) (now («file_table» .entry))) (now (opens .entry)) parent (now (name .entry)) (now (carried .entry))) (makeGives a (p .inode) (tables (now («dir_hash» .entry)) (now («dir_table» .exit)) (now («file_hash» .exit)) (now («file_table» .exit))) (now (opens .exit)))) ⌝ }
+    requires { ⌜ ReadyOpens File (tables (now «dir_hash») (now «dir_table») (now «file_hash») (now «file_table»)) (now opens) ⌝ }
+    ensures { λ p. ⌜ Exported (p .answer) (λ a. First (makeRows (tables (now («dir_hash» .entry)) (now («dir_table» .entry)) (now («file_hash» .entry)) (now («file_table» .entry))) (files (tables (now («dir_hash» .entry)) (now («dir_table» .entry)) (now («file_hash» .entry)) (now («file_table» .entry)))) (now (opens .entry)) parent (nameKey parent (now (name .entry)))) (makeDone File (tables (now («dir_hash» .entry)) (now («dir_table» .entry)) (now («file_hash» .entry)) (now («file_table» .entry))) (now (opens .entry)) parent (now (name .entry)) (now (carried .entry))) (makeGives a (p .inode) (tables (now («dir_hash» .entry)) (now («dir_table» .exit)) (now («file_hash» .exit)) (now («file_table» .exit))) (now (opens .exit)))) ⌝ }
 {
     let r = tree_inner::make::make_file(
         dir_hash,
@@ -84,8 +83,8 @@ pub extern "C" fn mukthiban_tested_tree_rename_dir(
     parent: u32,
     name: &[u8; 16],
 ) -> Plain
-    requires { ⌜ Ready (tables (now «dir_hash») (now «dir_table») (now «file_hash») (now «file_table»)) × (length (now «dir_table») / 40 ≤ length (now opens)) ⌝ }
-    ensures { λ p. ⌜ Exported (p .answer) (λ a. First (renameDirRows (tables (now («dir_hash» .entry)) (now («dir_table» .entry)) (now («file_hash» .entry)) (now («file_table» .entry))) (now (opens .entry)) inode parent (now (name .entry))) (renameDirDone (tables (now («dir_hash» .entry)) (now («dir_table» .entry)) (now («file_hash» .entry)) (now («file_table» .entry))) (now (opens .entry)) inode parent (now (name .entry))) (changeGives a (tables (now («dir_hash» .exit)) (now («dir_table» .exit)) (now («file_hash» .entry)) (now («file_table» .entry))) (now (opens .entry)))) ⌝ }
+    requires { ⌜ ReadyOpens Directory (tables (now «dir_hash») (now «dir_table») (now «file_hash») (now «file_table»)) (now opens) ⌝ }
+    ensures { λ p. ⌜ Exported (p .answer) (λ a. First (renameRows Directory (tables (now («dir_hash» .entry)) (now («dir_table» .entry)) (now («file_hash» .entry)) (now («file_table» .entry))) (now (opens .entry)) inode parent (now (name .entry))) (renameDone Directory (tables (now («dir_hash» .entry)) (now («dir_table» .entry)) (now («file_hash» .entry)) (now («file_table» .entry))) (now (opens .entry)) inode parent (now (name .entry))) (changeGives a (tables (now («dir_hash» .exit)) (now («dir_table» .exit)) (now («file_hash» .entry)) (now («file_table» .entry))) (now (opens .entry)))) ⌝ }
 {
     let answer = tree_inner::change::rename_dir(
         dir_hash,
@@ -113,8 +112,8 @@ pub extern "C" fn mukthiban_tested_tree_rename_file(
     parent: u32,
     name: &[u8; 16],
 ) -> Plain
-    requires { ⌜ Ready (tables (now «dir_hash») (now «dir_table») (now «file_hash») (now «file_table»)) × (length (now «file_table») / 48 ≤ length (now opens)) ⌝ }
-    ensures { λ p. ⌜ Exported (p .answer) (λ a. First (renameFileRows (tables (now («dir_hash» .entry)) (now («dir_table» .entry)) (now («file_hash» .entry)) (now («file_table» .entry))) (now (opens .entry)) inode parent (now (name .entry))) (renameFileDone (tables (now («dir_hash» .entry)) (now («dir_table» .entry)) (now («file_hash» .entry)) (now («file_table» .entry))) (now (opens .entry)) inode parent (now (name .entry))) (changeGives a (tables (now («dir_hash» .entry)) (now («dir_table» .exit)) (now («file_hash» .exit)) (now («file_table» .exit))) (now (opens .entry)))) ⌝ }
+    requires { ⌜ ReadyOpens File (tables (now «dir_hash») (now «dir_table») (now «file_hash») (now «file_table»)) (now opens) ⌝ }
+    ensures { λ p. ⌜ Exported (p .answer) (λ a. First (renameRows File (tables (now («dir_hash» .entry)) (now («dir_table» .entry)) (now («file_hash» .entry)) (now («file_table» .entry))) (now (opens .entry)) inode parent (now (name .entry))) (renameDone File (tables (now («dir_hash» .entry)) (now («dir_table» .entry)) (now («file_hash» .entry)) (now («file_table» .entry))) (now (opens .entry)) inode parent (now (name .entry))) (changeGives a (tables (now («dir_hash» .entry)) (now («dir_table» .exit)) (now («file_hash» .exit)) (now («file_table» .exit))) (now (opens .entry)))) ⌝ }
 {
     let answer = tree_inner::change::rename_file(
         dir_hash,
@@ -140,8 +139,8 @@ pub extern "C" fn mukthiban_tested_tree_delete_dir(
     opens: &mut [u32],
     inode: u32,
 ) -> Plain
-    requires { ⌜ Ready (tables (now «dir_hash») (now «dir_table») (now «file_hash») (now «file_table»)) × (length (now «dir_table») / 40 ≤ length (now opens)) ⌝ }
-    ensures { λ p. ⌜ Exported (p .answer) (λ a. First (deleteDirRows (tables (now («dir_hash» .entry)) (now («dir_table» .entry)) (now («file_hash» .entry)) (now («file_table» .entry))) (now (opens .entry)) inode) (deleteDirDone (tables (now («dir_hash» .entry)) (now («dir_table» .entry)) (now («file_hash» .entry)) (now («file_table» .entry))) (now (opens .entry)) inode) (changeGives a (tables (now («dir_hash» .exit)) (now («dir_table» .exit)) (now («file_hash» .entry)) (now («file_table» .entry))) (now (opens .exit)))) ⌝ }
+    requires { ⌜ ReadyOpens Directory (tables (now «dir_hash») (now «dir_table») (now «file_hash») (now «file_table»)) (now opens) ⌝ }
+    ensures { λ p. ⌜ Exported (p .answer) (λ a. First (deleteRows Directory (tables (now («dir_hash» .entry)) (now («dir_table» .entry)) (now («file_hash» .entry)) (now («file_table» .entry))) (now (opens .entry)) inode) (deleteDone Directory (tables (now («dir_hash» .entry)) (now («dir_table» .entry)) (now («file_hash» .entry)) (now («file_table» .entry))) (now (opens .entry)) inode) (changeGives a (tables (now («dir_hash» .exit)) (now («dir_table» .exit)) (now («file_hash» .entry)) (now («file_table» .entry))) (now (opens .exit)))) ⌝ }
 {
     let answer = tree_inner::change::delete_dir(
         dir_hash,
@@ -165,8 +164,8 @@ pub extern "C" fn mukthiban_tested_tree_delete_file(
     opens: &mut [u32],
     inode: u32,
 ) -> Plain
-    requires { ⌜ Ready (tables (now «dir_hash») (now «dir_table») (now «file_hash») (now «file_table»)) × (length (now «file_table») / 48 ≤ length (now opens)) ⌝ }
-    ensures { λ p. ⌜ Exported (p .answer) (λ a. First (deleteFileRows (tables (now («dir_hash» .entry)) (now («dir_table» .entry)) (now («file_hash» .entry)) (now («file_table» .entry))) (now (opens .entry)) inode) (deleteFileDone (tables (now («dir_hash» .entry)) (now («dir_table» .entry)) (now («file_hash» .entry)) (now («file_table» .entry))) (now (opens .entry)) inode) (changeGives a (tables (now («dir_hash» .entry)) (now («dir_table» .exit)) (now («file_hash» .exit)) (now («file_table» .exit))) (now (opens .exit)))) ⌝ }
+    requires { ⌜ ReadyOpens File (tables (now «dir_hash») (now «dir_table») (now «file_hash») (now «file_table»)) (now opens) ⌝ }
+    ensures { λ p. ⌜ Exported (p .answer) (λ a. First (deleteRows File (tables (now («dir_hash» .entry)) (now («dir_table» .entry)) (now («file_hash» .entry)) (now («file_table» .entry))) (now (opens .entry)) inode) (deleteDone File (tables (now («dir_hash» .entry)) (now («dir_table» .entry)) (now («file_hash» .entry)) (now («file_table» .entry))) (now (opens .entry)) inode) (changeGives a (tables (now («dir_hash» .entry)) (now («dir_table» .exit)) (now («file_hash» .exit)) (now («file_table» .exit))) (now (opens .exit)))) ⌝ }
 {
     let answer = tree_inner::change::delete_file(
         dir_hash,

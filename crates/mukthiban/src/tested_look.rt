@@ -3,8 +3,8 @@
 ghost use mathlib.Core.Path.{_≡_};
 ghost use Rattle.order.specs.First.{First};
 ghost use Rattle.tree_key.specs.Key.{nameKey};
-ghost use Rattle.tree_promises.specs.Ready.{Ready};
-ghost use Rattle.tree_promises.specs.Tables.{tables, dirs, files};
+ghost use Rattle.tree_promises.specs.inner.Ready.{Ready};
+ghost use Rattle.tree_sound.specs.Tables.{tables, dirs, files};
 ghost use Rattle.tree_promises.specs.Calls.{lookupRows, lookupDone, lookupGives, ListDirs, ListFiles, listGives, statGives, statDone};
 ghost use Rattle.mukthiban.specs.Export.{Exported};
 use crate::Found;

@@ -1,10 +1,8 @@
 // The inner calls on the entry tables that touch open counts, for a side that has tested its tables once and keeps them sound.
-ghost use Prim.Native.Nat.{_≤_};
-ghost use lib.ListN.{length};
 ghost use Rattle.order.specs.First.{First};
-ghost use Rattle.tree_sound.specs.Sizes.{dirRoom, fileRoom};
-ghost use Rattle.tree_promises.specs.Ready.{Ready};
-ghost use Rattle.tree_promises.specs.Tables.{tables, dirs, files};
+ghost use Rattle.tree_promises.specs.declared.Kind.the-variants.{Directory, File};
+ghost use Rattle.tree_promises.specs.inner.Ready.{ReadyOpens};
+ghost use Rattle.tree_sound.specs.Tables.{tables, dirs, files};
 ghost use Rattle.tree_promises.specs.Calls.{openRows, openDone, closeRows, closeDone, openingGives};
 ghost use Rattle.mukthiban.specs.Export.{Exported};
 use crate::Plain;
@@ -20,8 +18,7 @@ pub extern "C" fn mukthiban_tested_tree_open_dir(
     opens: &mut [u32],
     inode: u32,
 ) -> Plain
-    requires { ⌜ Ready (tables (now «dir_hash») (now «dir_table») (now «file_hash») (now «file_table»)) ⌝ }
-    requires { ⌜ dirRoom (now «dir_table») ≤ length (now opens) ⌝ }
+    requires { ⌜ ReadyOpens Directory (tables (now «dir_hash») (now «dir_table») (now «file_hash») (now «file_table»)) (now opens) ⌝ }
     ensures { λ p. ⌜ Exported (p .answer) (λ a. First (openRows (dirs (tables (now («dir_hash» .entry)) (now («dir_table» .entry)) (now («file_hash» .entry)) (now («file_table» .entry)))) (now (opens .entry)) inode) (openDone (now (opens .entry)) inode) (openingGives a (now (opens .exit)))) ⌝ }
 {
     let answer = tree_inner::look::open(dir_hash, dir_table, SaveExtDirEntry::WIDTH, opens, inode);
@@ -39,8 +36,7 @@ pub extern "C" fn mukthiban_tested_tree_open_file(
     opens: &mut [u32],
     inode: u32,
 ) -> Plain
-    requires { ⌜ Ready (tables (now «dir_hash») (now «dir_table») (now «file_hash») (now «file_table»)) ⌝ }
-    requires { ⌜ fileRoom (now «file_table») ≤ length (now opens) ⌝ }
+    requires { ⌜ ReadyOpens File (tables (now «dir_hash») (now «dir_table») (now «file_hash») (now «file_table»)) (now opens) ⌝ }
     ensures { λ p. ⌜ Exported (p .answer) (λ a. First (openRows (files (tables (now («dir_hash» .entry)) (now («dir_table» .entry)) (now («file_hash» .entry)) (now («file_table» .entry)))) (now (opens .entry)) inode) (openDone (now (opens .entry)) inode) (openingGives a (now (opens .exit)))) ⌝ }
 {
     let answer = tree_inner::look::open(
@@ -64,8 +60,7 @@ pub extern "C" fn mukthiban_tested_tree_close_dir(
     opens: &mut [u32],
     inode: u32,
 ) -> Plain
-    requires { ⌜ Ready (tables (now «dir_hash») (now «dir_table») (now «file_hash») (now «file_table»)) ⌝ }
-    requires { ⌜ dirRoom (now «dir_table») ≤ length (now opens) ⌝ }
+    requires { ⌜ ReadyOpens Directory (tables (now «dir_hash») (now «dir_table») (now «file_hash») (now «file_table»)) (now opens) ⌝ }
     ensures { λ p. ⌜ Exported (p .answer) (λ a. First (closeRows (dirs (tables (now («dir_hash» .entry)) (now («dir_table» .entry)) (now («file_hash» .entry)) (now («file_table» .entry)))) (now (opens .entry)) inode) (closeDone (now (opens .entry)) inode) (openingGives a (now (opens .exit)))) ⌝ }
 {
     let answer = tree_inner::look::close(dir_hash, dir_table, SaveExtDirEntry::WIDTH, opens, inode);
@@ -83,8 +78,7 @@ pub extern "C" fn mukthiban_tested_tree_close_file(
     opens: &mut [u32],
     inode: u32,
 ) -> Plain
-    requires { ⌜ Ready (tables (now «dir_hash») (now «dir_table») (now «file_hash») (now «file_table»)) ⌝ }
-    requires { ⌜ fileRoom (now «file_table») ≤ length (now opens) ⌝ }
+    requires { ⌜ ReadyOpens File (tables (now «dir_hash») (now «dir_table») (now «file_hash») (now «file_table»)) (now opens) ⌝ }
     ensures { λ p. ⌜ Exported (p .answer) (λ a. First (closeRows (files (tables (now («dir_hash» .entry)) (now («dir_table» .entry)) (now («file_hash» .entry)) (now («file_table» .entry)))) (now (opens .entry)) inode) (closeDone (now (opens .entry)) inode) (openingGives a (now (opens .exit)))) ⌝ }
 {
     let answer = tree_inner::look::close(

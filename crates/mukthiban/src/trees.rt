@@ -1,8 +1,6 @@
 // The calls on the entry tables.
-ghost use Rattle.order.specs.First.{First};
-ghost use Rattle.tree_test.specs.Gate.{treeGate};
-ghost use Rattle.tree_test.specs.Promise.{tested, testDone};
-ghost use Rattle.tree_promises.specs.Tables.{tables};
+ghost use Rattle.tree_test.specs.Promise.{tested, TestPromise};
+ghost use Rattle.tree_sound.specs.Tables.{tables};
 ghost use Rattle.tree_promises.specs.Calls.{carryGives};
 ghost use Rattle.tree_promises.specs.Format.{FormatPromise};
 ghost use Rattle.mukthiban.specs.Export.{Exported};
@@ -40,7 +38,7 @@ pub extern "C" fn mukthiban_tree_test(
     file_table: &[u8],
     work: &mut [u32],
 ) -> Plain
-    ensures { λ p. ⌜ Exported (p .answer) (λ a. First (treeGate tested (now («dir_hash» .entry)) (now («dir_table» .entry)) (now («file_hash» .entry)) (now («file_table» .entry)) (now (work .entry))) (testDone (now («dir_table» .entry)) (now («file_table» .entry)) (now (work .entry))) (tested a (now (work .exit)))) ⌝ }
+    ensures { λ p. ⌜ Exported (p .answer) (λ a. TestPromise (tables (now («dir_hash» .entry)) (now («dir_table» .entry)) (now («file_hash» .entry)) (now («file_table» .entry))) (now (work .entry)) (tested a (now (work .exit)))) ⌝ }
 {
     let r = tree_test::test(dir_hash, dir_table, file_hash, file_table, work);
     let answer = r.answer;

@@ -16,7 +16,7 @@ use Rattle.order.specs.declared.Answer.the-variants.{Done}
 use Rattle.order.specs.Tells.{Tells}
 use Rattle.tree_marks.proofs.Walks.{le-or-lt}
 use Rattle.tree_test.proofs.Cases.{tells-not}
-use Rattle.tree_promises.specs.Tables.{Tables, tables}
+use Rattle.tree_sound.specs.Tables.{Tables, tables}
 use Rattle.tree_promises.specs.Calls.{carryGives}
 use Rattle.tree_promises.specs.Format.{FormatMisfit, FormatOutside, FormatPromise, formatted}
 

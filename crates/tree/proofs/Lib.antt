@@ -1,4 +1,3 @@
-pub mod Room
-pub mod Named
+pub mod Gated
 pub mod NameOnce
 pub mod Formats

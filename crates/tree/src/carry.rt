@@ -1,6 +1,6 @@
 // The public calls on the bytes that an entry carries.
 ghost use Rattle.order.specs.Beside.{beside};
-ghost use Rattle.tree_promises.specs.Tables.{tables};
+ghost use Rattle.tree_sound.specs.Tables.{Tables, tables};
 ghost use Rattle.tree_promises.specs.Calls.{shownGives, carryGives};
 ghost use Rattle.tree_promises.specs.Public.{CarriedDirPromise, CarriedFilePromise, SetCarriedDirPromise, SetCarriedFilePromise};
 use order::Answer;
@@ -17,7 +17,8 @@ pub fn carried_dir(
     work: &mut [u32],
     inode: u32,
 ) -> CarriedDir
-    ensures { λ r. ⌜ CarriedDirPromise (tables (now («dir_hash» .entry)) (now («dir_table» .entry)) (now («file_hash» .entry)) (now («file_table» .entry))) (now (work .entry)) inode (beside (shownGives (r .answer) (r .bytes)) (now (work .exit))) ⌝ }
+    ensures { λ r. ⌜ (let s : Tables = tables (now («dir_hash» .entry)) (now («dir_table» .entry)) (now («file_hash» .entry)) (now («file_table» .entry)) in
+        CarriedDirPromise s (now (work .entry)) inode (beside (shownGives (r .answer) (r .bytes)) (now (work .exit)))) ⌝ }
 {
     let gated = tree_test::gate(dir_hash, dir_table, file_hash, file_table, work);
     match gated {
@@ -38,7 +39,8 @@ pub fn carried_file(
     work: &mut [u32],
     inode: u32,
 ) -> CarriedFile
-    ensures { λ r. ⌜ CarriedFilePromise (tables (now («dir_hash» .entry)) (now («dir_table» .entry)) (now («file_hash» .entry)) (now («file_table» .entry))) (now (work .entry)) inode (beside (shownGives (r .answer) (r .bytes)) (now (work .exit))) ⌝ }
+    ensures { λ r. ⌜ (let s : Tables = tables (now («dir_hash» .entry)) (now («dir_table» .entry)) (now («file_hash» .entry)) (now («file_table» .entry)) in
+        CarriedFilePromise s (now (work .entry)) inode (beside (shownGives (r .answer) (r .bytes)) (now (work .exit)))) ⌝ }
 {
     let gated = tree_test::gate(dir_hash, dir_table, file_hash, file_table, work);
     match gated {
@@ -60,7 +62,9 @@ pub fn set_carried_dir(
     inode: u32,
     padding: [u8; 4],
 ) -> Answer
-    ensures { λ r. ⌜ SetCarriedDirPromise (tables (now («dir_hash» .entry)) (now («dir_table» .entry)) (now («file_hash» .entry)) (now («file_table» .entry))) (now (work .entry)) inode padding (beside (carryGives r (tables (now («dir_hash» .entry)) (now («dir_table» .exit)) (now («file_hash» .entry)) (now («file_table» .entry)))) (now (work .exit))) ⌝ }
+    ensures { λ r. ⌜ (let s : Tables = tables (now («dir_hash» .entry)) (now («dir_table» .entry)) (now («file_hash» .entry)) (now («file_table» .entry)) in
+        SetCarriedDirPromise s (now (work .entry)) inode padding
+        (beside (carryGives r (tables (now («dir_hash» .entry)) (now («dir_table» .exit)) (now («file_hash» .entry)) (now («file_table» .entry)))) (now (work .exit)))) ⌝ }
 {
     let gated = tree_test::gate(dir_hash, dir_table, file_hash, file_table, work);
     match gated {
@@ -79,7 +83,9 @@ pub fn set_carried_file(
     inode: u32,
     carried: [u8; 20],
 ) -> Answer
-    ensures { λ r. ⌜ SetCarriedFilePromise (tables (now («dir_hash» .entry)) (now («dir_table» .entry)) (now («file_hash» .entry)) (now («file_table» .entry))) (now (work .entry)) inode carried (beside (carryGives r (tables (now («dir_hash» .entry)) (now («dir_table» .entry)) (now («file_hash» .entry)) (now («file_table» .exit)))) (now (work .exit))) ⌝ }
+    ensures { λ r. ⌜ (let s : Tables = tables (now («dir_hash» .entry)) (now («dir_table» .entry)) (now («file_hash» .entry)) (now («file_table» .entry)) in
+        SetCarriedFilePromise s (now (work .entry)) inode carried
+        (beside (carryGives r (tables (now («dir_hash» .entry)) (now («dir_table» .entry)) (now («file_hash» .entry)) (now («file_table» .exit)))) (now (work .exit)))) ⌝ }
 {
     let gated = tree_test::gate(dir_hash, dir_table, file_hash, file_table, work);
     match gated {

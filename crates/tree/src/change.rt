@@ -2,7 +2,7 @@
 // it tests sizes and soundness, and then does its work by the call of tree_inner that requires soundness. What each promises on all inputs stands in tree_promises's
 // specs/Public.antt. A refusal gives its number and changes nothing but the work list.
 ghost use Rattle.order.specs.Beside.{beside};
-ghost use Rattle.tree_promises.specs.Tables.{tables};
+ghost use Rattle.tree_sound.specs.Tables.{Tables, tables};
 ghost use Rattle.tree_promises.specs.Calls.{makeGives, changeGives};
 ghost use Rattle.tree_promises.specs.Public.{MakeDirPromise, MakeFilePromise, RenameDirPromise, RenameFilePromise, DeleteDirPromise, DeleteFilePromise};
 use order::Answer;
@@ -23,7 +23,9 @@ pub fn make_dir(
     name: &[u8; 16],
     padding: &[u8; 4],
 ) -> Made
-    ensures { λ r. ⌜ MakeDirPromise (tables (now («dir_hash» .entry)) (now («dir_table» .entry)) (now («file_hash» .entry)) (now («file_table» .entry))) (now (opens .entry)) (now (work .entry)) parent (now (name .entry)) (now (padding .entry)) (beside (makeGives (r .answer) (r .inode) (tables (now («dir_hash» .exit)) (now («dir_table» .exit)) (now («file_hash» .entry)) (now («file_table» .entry))) (now (opens .exit))) (now (work .exit))) ⌝ }
+    ensures { λ r. ⌜ (let s : Tables = tables (now («dir_hash» .entry)) (now («dir_table» .entry)) (now («file_hash» .entry)) (now («file_table» .entry)) in
+        MakeDirPromise s (now (opens .entry)) (now (work .entry)) parent (now (name .entry)) (now (padding .entry))
+        (beside (makeGives (r .answer) (r .inode) (tables (now («dir_hash» .exit)) (now («dir_table» .exit)) (now («file_hash» .entry)) (now («file_table» .entry))) (now (opens .exit))) (now (work .exit)))) ⌝ }
 {
     let gated = tree_test::open_gate(
         dir_hash,
@@ -61,7 +63,9 @@ pub fn make_file(
     name: &[u8; 16],
     carried: &[u8; 20],
 ) -> Made
-    ensures { λ r. ⌜ MakeFilePromise (tables (now («dir_hash» .entry)) (now («dir_table» .entry)) (now («file_hash» .entry)) (now («file_table» .entry))) (now (opens .entry)) (now (work .entry)) parent (now (name .entry)) (now (carried .entry)) (beside (makeGives (r .answer) (r .inode) (tables (now («dir_hash» .entry)) (now («dir_table» .exit)) (now («file_hash» .exit)) (now («file_table» .exit))) (now (opens .exit))) (now (work .exit))) ⌝ }
+    ensures { λ r. ⌜ (let s : Tables = tables (now («dir_hash» .entry)) (now («dir_table» .entry)) (now («file_hash» .entry)) (now («file_table» .entry)) in
+        MakeFilePromise s (now (opens .entry)) (now (work .entry)) parent (now (name .entry)) (now (carried .entry))
+        (beside (makeGives (r .answer) (r .inode) (tables (now («dir_hash» .entry)) (now («dir_table» .exit)) (now («file_hash» .exit)) (now («file_table» .exit))) (now (opens .exit))) (now (work .exit)))) ⌝ }
 {
     let gated = tree_test::open_gate(
         dir_hash,
@@ -99,7 +103,9 @@ pub fn rename_dir(
     parent: u32,
     name: &[u8; 16],
 ) -> Answer
-    ensures { λ r. ⌜ RenameDirPromise (tables (now («dir_hash» .entry)) (now («dir_table» .entry)) (now («file_hash» .entry)) (now («file_table» .entry))) (now (opens .entry)) (now (work .entry)) inode parent (now (name .entry)) (beside (changeGives r (tables (now («dir_hash» .exit)) (now («dir_table» .exit)) (now («file_hash» .entry)) (now («file_table» .entry))) (now (opens .entry))) (now (work .exit))) ⌝ }
+    ensures { λ r. ⌜ (let s : Tables = tables (now («dir_hash» .entry)) (now («dir_table» .entry)) (now («file_hash» .entry)) (now («file_table» .entry)) in
+        RenameDirPromise s (now (opens .entry)) (now (work .entry)) inode parent (now (name .entry))
+        (beside (changeGives r (tables (now («dir_hash» .exit)) (now («dir_table» .exit)) (now («file_hash» .entry)) (now («file_table» .entry))) (now (opens .entry))) (now (work .exit)))) ⌝ }
 {
     let gated = tree_test::open_gate(
         dir_hash,
@@ -137,7 +143,9 @@ pub fn rename_file(
     parent: u32,
     name: &[u8; 16],
 ) -> Answer
-    ensures { λ r. ⌜ RenameFilePromise (tables (now («dir_hash» .entry)) (now («dir_table» .entry)) (now («file_hash» .entry)) (now («file_table» .entry))) (now (opens .entry)) (now (work .entry)) inode parent (now (name .entry)) (beside (changeGives r (tables (now («dir_hash» .entry)) (now («dir_table» .exit)) (now («file_hash» .exit)) (now («file_table» .exit))) (now (opens .entry))) (now (work .exit))) ⌝ }
+    ensures { λ r. ⌜ (let s : Tables = tables (now («dir_hash» .entry)) (now («dir_table» .entry)) (now («file_hash» .entry)) (now («file_table» .entry)) in
+        RenameFilePromise s (now (opens .entry)) (now (work .entry)) inode parent (now (name .entry))
+        (beside (changeGives r (tables (now («dir_hash» .entry)) (now («dir_table» .exit)) (now («file_hash» .exit)) (now («file_table» .exit))) (now (opens .entry))) (now (work .exit)))) ⌝ }
 {
     let gated = tree_test::open_gate(
         dir_hash,
@@ -173,7 +181,9 @@ pub fn delete_dir(
     opens: &mut [u32],
     inode: u32,
 ) -> Answer
-    ensures { λ r. ⌜ DeleteDirPromise (tables (now («dir_hash» .entry)) (now («dir_table» .entry)) (now («file_hash» .entry)) (now («file_table» .entry))) (now (opens .entry)) (now (work .entry)) inode (beside (changeGives r (tables (now («dir_hash» .exit)) (now («dir_table» .exit)) (now («file_hash» .entry)) (now («file_table» .entry))) (now (opens .exit))) (now (work .exit))) ⌝ }
+    ensures { λ r. ⌜ (let s : Tables = tables (now («dir_hash» .entry)) (now («dir_table» .entry)) (now («file_hash» .entry)) (now («file_table» .entry)) in
+        DeleteDirPromise s (now (opens .entry)) (now (work .entry)) inode
+        (beside (changeGives r (tables (now («dir_hash» .exit)) (now («dir_table» .exit)) (now («file_hash» .entry)) (now («file_table» .entry))) (now (opens .exit))) (now (work .exit)))) ⌝ }
 {
     let gated = tree_test::open_gate(
         dir_hash,
@@ -207,7 +217,9 @@ pub fn delete_file(
     opens: &mut [u32],
     inode: u32,
 ) -> Answer
-    ensures { λ r. ⌜ DeleteFilePromise (tables (now («dir_hash» .entry)) (now («dir_table» .entry)) (now («file_hash» .entry)) (now («file_table» .entry))) (now (opens .entry)) (now (work .entry)) inode (beside (changeGives r (tables (now («dir_hash» .entry)) (now («dir_table» .exit)) (now («file_hash» .exit)) (now («file_table» .exit))) (now (opens .exit))) (now (work .exit))) ⌝ }
+    ensures { λ r. ⌜ (let s : Tables = tables (now («dir_hash» .entry)) (now («dir_table» .entry)) (now («file_hash» .entry)) (now («file_table» .entry)) in
+        DeleteFilePromise s (now (opens .entry)) (now (work .entry)) inode
+        (beside (changeGives r (tables (now («dir_hash» .entry)) (now («dir_table» .exit)) (now («file_hash» .exit)) (now («file_table» .exit))) (now (opens .exit))) (now (work .exit)))) ⌝ }
 {
     let gated = tree_test::open_gate(
         dir_hash,

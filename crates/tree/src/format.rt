@@ -8,7 +8,7 @@ ghost use Rattle.words.specs.Word.{putWord};
 ghost use Rattle.tree_key.specs.Hash.{hashOf};
 ghost use Rattle.order.specs.Tells.{Tells};
 ghost use Rattle.tree_table.specs.Field.{write, wrote};
-ghost use Rattle.tree_promises.specs.Tables.{tables};
+ghost use Rattle.tree_sound.specs.Tables.{Tables, tables};
 ghost use Rattle.tree_promises.specs.Calls.{carryGives};
 ghost use Rattle.tree_promises.specs.Format.{FormatMisfit, FormatOutside, FormatPromise, formatted};
 use order::Answer;
@@ -150,7 +150,9 @@ fn lay(
     file_max: u32,
 )
     requires { ⌜ (0 < length (now «dir_hash») / 4) × (80 ≤ length (now «dir_table»)) × (48 ≤ length (now «file_table»)) ⌝ }
-    ensures { λ _. ⌜ tables (now («dir_hash» .exit)) (now («dir_table» .exit)) (now («file_hash» .exit)) (now («file_table» .exit)) ≡ formatted (tables (now («dir_hash» .entry)) (now («dir_table» .entry)) (now («file_hash» .entry)) (now («file_table» .entry))) «dir_max» «file_max» ⌝ }
+    ensures { λ _. ⌜ (let s : Tables = tables (now («dir_hash» .entry)) (now («dir_table» .entry)) (now («file_hash» .entry)) (now («file_table» .entry)) in
+        tables (now («dir_hash» .exit)) (now («dir_table» .exit)) (now («file_hash» .exit)) (now («file_table» .exit)) ≡ formatted s «dir_max»
+        «file_max») ⌝ }
 {
     root_hash(dir_hash);
     first_entry(dir_table, 80, 2, dir_max);
@@ -167,7 +169,9 @@ pub fn format(
     file_table: &mut [u8],
     file_max: usize,
 ) -> Answer
-    ensures { λ r. ⌜ FormatPromise (tables (now («dir_hash» .entry)) (now («dir_table» .entry)) (now («file_hash» .entry)) (now («file_table» .entry))) «dir_max» «file_max» (carryGives r (tables (now («dir_hash» .exit)) (now («dir_table» .exit)) (now («file_hash» .exit)) (now («file_table» .exit)))) ⌝ }
+    ensures { λ r. ⌜ (let s : Tables = tables (now («dir_hash» .entry)) (now («dir_table» .entry)) (now («file_hash» .entry)) (now («file_table» .entry)) in
+        FormatPromise s «dir_max» «file_max»
+        (carryGives r (tables (now («dir_hash» .exit)) (now («dir_table» .exit)) (now («file_hash» .exit)) (now («file_table» .exit))))) ⌝ }
 {
     if misfit(
         dir_hash,

@@ -1,6 +1,6 @@
 // The public calls that look at the entry tables: lookup, list and stat.
 ghost use Rattle.order.specs.Beside.{beside};
-ghost use Rattle.tree_promises.specs.Tables.{tables, dirs, files};
+ghost use Rattle.tree_sound.specs.Tables.{Tables, tables, dirs, files};
 ghost use Rattle.tree_promises.specs.Calls.{lookupGives, listGives, statGives};
 ghost use Rattle.tree_promises.specs.Public.{LookupPromise, ListPromise, StatPromise};
 use tree_inner::look::Listed;
@@ -21,7 +21,9 @@ pub fn lookup_dir(
     parent: u32,
     name: &[u8; 16],
 ) -> Looked
-    ensures { λ r. ⌜ LookupPromise (tables (now («dir_hash» .entry)) (now («dir_table» .entry)) (now («file_hash» .entry)) (now («file_table» .entry))) (dirs (tables (now («dir_hash» .entry)) (now («dir_table» .entry)) (now («file_hash» .entry)) (now («file_table» .entry)))) (now (work .entry)) parent (now (name .entry)) (beside (lookupGives (r .answer) (r .inode) (r .compared)) (now (work .exit))) ⌝ }
+    ensures { λ r. ⌜ (let s : Tables = tables (now («dir_hash» .entry)) (now («dir_table» .entry)) (now («file_hash» .entry)) (now («file_table» .entry)) in
+        LookupPromise s (dirs s) (now (work .entry)) parent (now (name .entry))
+        (beside (lookupGives (r .answer) (r .inode) (r .compared)) (now (work .exit)))) ⌝ }
 {
     let gated = tree_test::gate(dir_hash, dir_table, file_hash, file_table, work);
     match gated {
@@ -49,7 +51,9 @@ pub fn lookup_file(
     parent: u32,
     name: &[u8; 16],
 ) -> Looked
-    ensures { λ r. ⌜ LookupPromise (tables (now («dir_hash» .entry)) (now («dir_table» .entry)) (now («file_hash» .entry)) (now («file_table» .entry))) (files (tables (now («dir_hash» .entry)) (now («dir_table» .entry)) (now («file_hash» .entry)) (now («file_table» .entry)))) (now (work .entry)) parent (now (name .entry)) (beside (lookupGives (r .answer) (r .inode) (r .compared)) (now (work .exit))) ⌝ }
+    ensures { λ r. ⌜ (let s : Tables = tables (now («dir_hash» .entry)) (now («dir_table» .entry)) (now («file_hash» .entry)) (now («file_table» .entry)) in
+        LookupPromise s (files s) (now (work .entry)) parent (now (name .entry))
+        (beside (lookupGives (r .answer) (r .inode) (r .compared)) (now (work .exit)))) ⌝ }
 {
     let gated = tree_test::gate(dir_hash, dir_table, file_hash, file_table, work);
     match gated {
@@ -77,7 +81,9 @@ pub fn list_dirs(
     inode: u32,
     list: &mut [u32],
 ) -> Listed
-    ensures { λ r. ⌜ ListPromise (tables (now («dir_hash» .entry)) (now («dir_table» .entry)) (now («file_hash» .entry)) (now («file_table» .entry))) (dirs (tables (now («dir_hash» .entry)) (now («dir_table» .entry)) (now («file_hash» .entry)) (now («file_table» .entry)))) (now (work .entry)) inode (now (list .entry)) (beside (listGives (r .answer) (r .count) (now (list .exit))) (now (work .exit))) ⌝ }
+    ensures { λ r. ⌜ (let s : Tables = tables (now («dir_hash» .entry)) (now («dir_table» .entry)) (now («file_hash» .entry)) (now («file_table» .entry)) in
+        ListPromise s (dirs s) (now (work .entry)) inode (now (list .entry))
+        (beside (listGives (r .answer) (r .count) (now (list .exit))) (now (work .exit)))) ⌝ }
 {
     let gated = tree_test::gate(dir_hash, dir_table, file_hash, file_table, work);
     match gated {
@@ -103,7 +109,9 @@ pub fn list_files(
     inode: u32,
     list: &mut [u32],
 ) -> Listed
-    ensures { λ r. ⌜ ListPromise (tables (now («dir_hash» .entry)) (now («dir_table» .entry)) (now («file_hash» .entry)) (now («file_table» .entry))) (files (tables (now («dir_hash» .entry)) (now («dir_table» .entry)) (now («file_hash» .entry)) (now («file_table» .entry)))) (now (work .entry)) inode (now (list .entry)) (beside (listGives (r .answer) (r .count) (now (list .exit))) (now (work .exit))) ⌝ }
+    ensures { λ r. ⌜ (let s : Tables = tables (now («dir_hash» .entry)) (now («dir_table» .entry)) (now («file_hash» .entry)) (now («file_table» .entry)) in
+        ListPromise s (files s) (now (work .entry)) inode (now (list .entry))
+        (beside (listGives (r .answer) (r .count) (now (list .exit))) (now (work .exit)))) ⌝ }
 {
     let gated = tree_test::gate(dir_hash, dir_table, file_hash, file_table, work);
     match gated {
@@ -127,7 +135,9 @@ pub fn stat(
     file_table: &[u8],
     work: &mut [u32],
 ) -> MetaStat
-    ensures { λ r. ⌜ StatPromise (tables (now («dir_hash» .entry)) (now («dir_table» .entry)) (now («file_hash» .entry)) (now («file_table» .entry))) (now (work .entry)) (beside (statGives (r .answer) (r .«dir_total») (r .«dir_free») (r .«file_total») (r .«file_free»)) (now (work .exit))) ⌝ }
+    ensures { λ r. ⌜ (let s : Tables = tables (now («dir_hash» .entry)) (now («dir_table» .entry)) (now («file_hash» .entry)) (now («file_table» .entry)) in
+        StatPromise s (now (work .entry))
+        (beside (statGives (r .answer) (r .«dir_total») (r .«dir_free») (r .«file_total») (r .«file_free»)) (now (work .exit)))) ⌝ }
 {
     let gated = tree_test::gate(dir_hash, dir_table, file_hash, file_table, work);
     match gated {

@@ -5,14 +5,15 @@ use tree_key::SaveExtFileEntry;
 use tree_promises::Kind;
 use tree_test::Gated;
 ghost use mathlib.Core.Path.{_≡_};
-ghost use mathlib.Core.List.{[], _∷_};
+ghost use mathlib.Core.List.{[]};
 ghost use Prim.Native.Nat.{_≤_};
-ghost use Rattle.order.specs.First.{First, row};
+ghost use Rattle.order.specs.First.{First};
+ghost use Rattle.order.specs.Giving.{giving};
 ghost use Rattle.order.specs.Beside.{beside};
-ghost use Rattle.order.specs.declared.Answer.the-variants.{Done, NotFound};
-ghost use Rattle.tree_promises.specs.Tables.{tables};
-ghost use Rattle.tree_promises.specs.Calls.{part};
-ghost use Rattle.tree_promises.specs.Ready.{LiveAt, Single};
+ghost use Rattle.order.specs.declared.Answer.the-variants.{Done};
+ghost use Rattle.tree_sound.specs.Tables.{Tables, tables};
+ghost use Rattle.tree_promises.specs.Calls.{liveTests, part};
+ghost use Rattle.tree_promises.specs.inner.Ready.{Single, alone};
 ghost use Rattle.tree.specs.Name.{NameAnswerPromise, NamePromise};
 
 // The number that goes with a name.
@@ -23,7 +24,7 @@ pub struct NameAnswer {
 // Whether entry x of a sound table is there.
 fn answer_in(hash: &[u8], table: &[u8], w: usize, x: u32) -> NameAnswer
     requires { ⌜ Single (now hash) (now table) w ⌝ }
-    ensures { λ r. ⌜ First (row (LiveAt w (now (table .entry)) x → ⊥) NotFound ∷ []) Done (r .answer) ⌝ }
+    ensures { λ r. ⌜ First (giving (λ a. a) (liveTests (alone w (now (table .entry))) x)) Done (r .answer) ⌝ }
 {
     if !tree_inner::look::live(hash, table, w, x) {
         return NameAnswer {
@@ -38,7 +39,7 @@ fn answer_in(hash: &[u8], table: &[u8], w: usize, x: u32) -> NameAnswer
 // The name of entry x of a sound table; an empty part, if it is not there.
 fn part_in<'a>(hash: &[u8], table: &'a [u8], w: usize, x: u32) -> &'a [u8]
     requires { ⌜ Single (now hash) (now table) w ⌝ }
-    ensures { λ r. ⌜ First (row (LiveAt w (now (table .entry)) x → ⊥) [] ∷ []) (part w (now (table .entry)) x 4 16) (now r) ⌝ }
+    ensures { λ r. ⌜ First (giving (λ a. []) (liveTests (alone w (now (table .entry))) x)) (part w (now (table .entry)) x 4 16) (now r) ⌝ }
 {
     if !tree_inner::look::live(hash, table, w, x) {
         return &table[..0];
@@ -56,7 +57,8 @@ pub fn name_answer(
     kind: Kind,
     inode: u32,
 ) -> NameAnswer
-    ensures { λ r. ⌜ NameAnswerPromise (tables (now («dir_hash» .entry)) (now («dir_table» .entry)) (now («file_hash» .entry)) (now («file_table» .entry))) (now (work .entry)) kind inode (beside (r .answer) (now (work .exit))) ⌝ }
+    ensures { λ r. ⌜ (let s : Tables = tables (now («dir_hash» .entry)) (now («dir_table» .entry)) (now («file_hash» .entry)) (now («file_table» .entry)) in
+        NameAnswerPromise s (now (work .entry)) kind inode (beside (r .answer) (now (work .exit)))) ⌝ }
 {
     let gated = tree_test::gate(dir_hash, dir_table, file_hash, file_table, work);
     match gated {
@@ -78,7 +80,8 @@ pub fn name<'a>(
     kind: Kind,
     inode: u32,
 ) -> &'a [u8]
-    ensures { λ r. ⌜ NamePromise (tables (now («dir_hash» .entry)) (now («dir_table» .entry)) (now («file_hash» .entry)) (now («file_table» .entry))) (now (work .entry)) kind inode (beside (now r) (now (work .exit))) ⌝ }
+    ensures { λ r. ⌜ (let s : Tables = tables (now («dir_hash» .entry)) (now («dir_table» .entry)) (now («file_hash» .entry)) (now («file_table» .entry)) in
+        NamePromise s (now (work .entry)) kind inode (beside (now r) (now (work .exit)))) ⌝ }
 {
     let gated = tree_test::gate(dir_hash, dir_table, file_hash, file_table, work);
     match gated {

@@ -1,6 +1,6 @@
 // The public calls on open counts: open and close.
 ghost use Rattle.order.specs.Beside.{beside};
-ghost use Rattle.tree_promises.specs.Tables.{tables};
+ghost use Rattle.tree_sound.specs.Tables.{Tables, tables};
 ghost use Rattle.tree_promises.specs.Calls.{openingGives};
 ghost use Rattle.tree_promises.specs.Public.{OpenDirPromise, OpenFilePromise, CloseDirPromise, CloseFilePromise};
 use order::Answer;
@@ -18,7 +18,8 @@ pub fn open_dir(
     opens: &mut [u32],
     inode: u32,
 ) -> Answer
-    ensures { λ r. ⌜ OpenDirPromise (tables (now («dir_hash» .entry)) (now («dir_table» .entry)) (now («file_hash» .entry)) (now («file_table» .entry))) (now (opens .entry)) (now (work .entry)) inode (beside (openingGives r (now (opens .exit))) (now (work .exit))) ⌝ }
+    ensures { λ r. ⌜ (let s : Tables = tables (now («dir_hash» .entry)) (now («dir_table» .entry)) (now («file_hash» .entry)) (now («file_table» .entry)) in
+        OpenDirPromise s (now (opens .entry)) (now (work .entry)) inode (beside (openingGives r (now (opens .exit))) (now (work .exit)))) ⌝ }
 {
     let gated = tree_test::open_gate(
         dir_hash,
@@ -51,7 +52,8 @@ pub fn open_file(
     opens: &mut [u32],
     inode: u32,
 ) -> Answer
-    ensures { λ r. ⌜ OpenFilePromise (tables (now («dir_hash» .entry)) (now («dir_table» .entry)) (now («file_hash» .entry)) (now («file_table» .entry))) (now (opens .entry)) (now (work .entry)) inode (beside (openingGives r (now (opens .exit))) (now (work .exit))) ⌝ }
+    ensures { λ r. ⌜ (let s : Tables = tables (now («dir_hash» .entry)) (now («dir_table» .entry)) (now («file_hash» .entry)) (now («file_table» .entry)) in
+        OpenFilePromise s (now (opens .entry)) (now (work .entry)) inode (beside (openingGives r (now (opens .exit))) (now (work .exit)))) ⌝ }
 {
     let gated = tree_test::open_gate(
         dir_hash,
@@ -84,7 +86,8 @@ pub fn close_dir(
     opens: &mut [u32],
     inode: u32,
 ) -> Answer
-    ensures { λ r. ⌜ CloseDirPromise (tables (now («dir_hash» .entry)) (now («dir_table» .entry)) (now («file_hash» .entry)) (now («file_table» .entry))) (now (opens .entry)) (now (work .entry)) inode (beside (openingGives r (now (opens .exit))) (now (work .exit))) ⌝ }
+    ensures { λ r. ⌜ (let s : Tables = tables (now («dir_hash» .entry)) (now («dir_table» .entry)) (now («file_hash» .entry)) (now («file_table» .entry)) in
+        CloseDirPromise s (now (opens .entry)) (now (work .entry)) inode (beside (openingGives r (now (opens .exit))) (now (work .exit)))) ⌝ }
 {
     let gated = tree_test::open_gate(
         dir_hash,
@@ -117,7 +120,8 @@ pub fn close_file(
     opens: &mut [u32],
     inode: u32,
 ) -> Answer
-    ensures { λ r. ⌜ CloseFilePromise (tables (now («dir_hash» .entry)) (now («dir_table» .entry)) (now («file_hash» .entry)) (now («file_table» .entry))) (now (opens .entry)) (now (work .entry)) inode (beside (openingGives r (now (opens .exit))) (now (work .exit))) ⌝ }
+    ensures { λ r. ⌜ (let s : Tables = tables (now («dir_hash» .entry)) (now («dir_table» .entry)) (now («file_hash» .entry)) (now («file_table» .entry)) in
+        CloseFilePromise s (now (opens .entry)) (now (work .entry)) inode (beside (openingGives r (now (opens .exit))) (now (work .exit)))) ⌝ }
 {
     let gated = tree_test::open_gate(
         dir_hash,

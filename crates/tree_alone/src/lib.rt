@@ -5,7 +5,7 @@ ghost use lib.ListN.{length};
 ghost use Rattle.tree_table.specs.Chain.{linkAt, Ends};
 ghost use Rattle.order.specs.Tells.{Tells};
 ghost use Rattle.tree_marks.specs.inner.Marks.{gone, markAt};
-ghost use Rattle.tree_table.specs.Field.{start, collision, field};
+ghost use Rattle.tree_table.specs.Field.{start, collisionField, field};
 ghost use Rattle.tree_apart.specs.inner.Apart.{far};
 ghost use Rattle.tree_alone.specs.inner.Entries.{Fits, AllFit};
 ghost use Rattle.tree_alone.specs.inner.Stage.{BucketCounted, BucketsCounted, TableCounted, TableTested};
@@ -13,7 +13,7 @@ ghost use Rattle.tree_alone.specs.inner.Stage.{BucketCounted, BucketsCou
 // Whether an entry is removed, or was met in the bucket of its own hash and, unless that is long, has no equal key behind it there.
 fn entry_fits(table: &[u8], w: usize, buckets: usize, y: u32, mark: u32, long: bool) -> bool
     requires { ⌜ (y * w + w ≤ length (now table)) × (24 ≤ w) × (0 < buckets) × (buckets ≤ 65536)
-        × ((mark ≡ gone → ⊥) → 0 < mark → Ends (now table) w (start w collision) (linkAt (now table) w (start w collision) y)) ⌝ }
+        × ((mark ≡ gone → ⊥) → 0 < mark → Ends (now table) w (start w collisionField) (linkAt (now table) w (start w collisionField) y)) ⌝ }
     ensures { λ r. ⌜ Tells (Fits (now (table .entry)) w buckets long y mark) r ⌝ }
 {
     if mark == tree_marks::GONE {
@@ -36,7 +36,7 @@ fn entry_fits(table: &[u8], w: usize, buckets: usize, y: u32, mark: u32, long: b
 
 // Whether every entry of a bucket fits, from its first one on, by the bucket's mark.
 fn check_bucket(table: &[u8], w: usize, buckets: usize, first: u32, mark: u32, long: bool) -> bool
-    requires { ⌜ Ends (now table) w (start w collision) first × (24 ≤ w) × (0 < buckets) × (buckets ≤ 65536) × (long ≡ far (now table) w first) ⌝ }
+    requires { ⌜ Ends (now table) w (start w collisionField) first × (24 ≤ w) × (0 < buckets) × (buckets ≤ 65536) × (long ≡ far (now table) w first) ⌝ }
     ensures { λ r. ⌜ Tells (AllFit (now (table .entry)) w buckets first mark) r ⌝ }
 {
     let mut x = first;

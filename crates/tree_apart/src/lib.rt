@@ -3,7 +3,7 @@ ghost use mathlib.Core.Path.{_≡_};
 ghost use mathlib.Core.Bool.{true};
 ghost use Prim.Native.Nat.{ℕ, _+_, _-_, _*_, _/_, _≤_, _<_};
 ghost use lib.ListN.{length};
-ghost use Rattle.tree_table.specs.Field.{start, collision};
+ghost use Rattle.tree_table.specs.Field.{start, collisionField};
 ghost use Rattle.tree_table.specs.Chain.{listAt, Ends};
 ghost use Rattle.order.specs.Tells.{Tells};
 ghost use Rattle.tree_marks.specs.inner.Marks.{markAt, Within};
@@ -15,7 +15,7 @@ pub const NEAR: usize = 16;
 
 // Whether a bucket is long.
 fn is_far(table: &[u8], w: usize, first: u32) -> bool
-    requires { ⌜ Ends (now table) w (start w collision) first × (24 ≤ w) ⌝ }
+    requires { ⌜ Ends (now table) w (start w collisionField) first × (24 ≤ w) ⌝ }
     ensures { λ r. ⌜ r ≡ far (now (table .entry)) w first ⌝ }
 {
     let mut x = first;
@@ -32,7 +32,7 @@ fn is_far(table: &[u8], w: usize, first: u32) -> bool
 
 // Whether the keys of one bucket differ. Its inodes are sorted in `room`.
 fn list_apart(table: &[u8], w: usize, first: u32, room: &mut [u32]) -> bool
-    requires { ⌜ Ends (now table) w (start w collision) first × (24 ≤ w) × (length (listAt (now table) w (start w collision) first) ≤ length (now room)) ⌝ }
+    requires { ⌜ Ends (now table) w (start w collisionField) first × (24 ≤ w) × (length (listAt (now table) w (start w collisionField) first) ≤ length (now room)) ⌝ }
     ensures { λ r. ⌜ Tells (AllApart (now (table .entry)) w first) r ⌝ }
 {
     let c = tree_table::count_list(table, w, w - tree_table::LINK, first);
@@ -43,7 +43,7 @@ fn list_apart(table: &[u8], w: usize, first: u32, room: &mut [u32]) -> bool
 
 // The same of a bucket if it is long.
 fn bucket_apart(table: &[u8], w: usize, first: u32, room: &mut [u32]) -> bool
-    requires { ⌜ Ends (now table) w (start w collision) first × (24 ≤ w) × (length (listAt (now table) w (start w collision) first) ≤ length (now room)) ⌝ }
+    requires { ⌜ Ends (now table) w (start w collisionField) first × (24 ≤ w) × (length (listAt (now table) w (start w collisionField) first) ≤ length (now room)) ⌝ }
     ensures { λ r. ⌜ Tells (far (now (table .entry)) w first ≡ true → AllApart (now (table .entry)) w first) r ⌝ }
 {
     if !is_far(table, w, first) {

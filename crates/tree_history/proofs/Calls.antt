@@ -1,34 +1,22 @@
--- Every call that changes tables or open counts, from its promise.
-use mathlib.Core.Path.{_≡_}
-use mathlib.Core.List.{List, [], _∷_}
-use mathlib.Core.Logic.{_⊎_}
-use Prim.Native.Nat.{ℕ, _≤_, _<_}
-use native.Mathlib.Omega.{arith}
-use lib.ListN.{length, set}
-use Rattle.order.specs.First.{row}
+-- Every call that changes tables or open counts, from its promise; of directories and files alike.
+use mathlib.Core.Path.{_≡_, refl, subst⁻¹}
+use mathlib.Core.Bool.{true}
+use mathlib.Core.List.{List, []}
+use Prim.Native.Nat.{ℕ}
+use Rattle.order.specs.Given.{None}
 use Rattle.order.specs.Beside.{Beside}
-use Rattle.order.specs.declared.Answer.the-variants.{NoSpace, NotFound, AlreadyExist, Busy, DeletingRoot, NotEmpty, IntoItself, NotOpen, TooManyOpens}
+use Rattle.order.specs.declared.Answer.{Answer}
+use Rattle.order.specs.declared.Answer.the-variants.{Done}
+use Rattle.words.specs.Word.{AreBytes}
 use Rattle.tree_key.specs.Key.{nameKey}
 use Rattle.tree_table.specs.View.{LiveIn}
-use Rattle.tree_table.specs.Steps.{taken}
-use Rattle.tree_sound.specs.Sizes.{rooms, dirRoom, fileRoom}
-use Rattle.tree_promises.specs.Tables.{Tables, dirs, files}
-use Rattle.tree_promises.specs.Steps.{madeDir, madeFile, deletedDir, deletedFile, renamedDir, renamedFile, carriedDir, carriedFile}
+use Rattle.tree_sound.specs.Tables.{Tables, SoundIn}
+use Rattle.tree_promises.specs.declared.Kind.{Kind}
+use Rattle.tree_promises.specs.declared.Kind.the-variants.{Directory, File}
+use Rattle.tree_promises.specs.Kinds.{kindView}
+use Rattle.tree_promises.specs.Steps.{withCarried, made, deleted, renamed}
 use Rattle.tree_promises.specs.Calls as calls
-use Rattle.tree_promises.specs.Public.{
-  SetCarriedDirPromise,
-  SetCarriedFilePromise,
-  MakeDirPromise,
-  MakeFilePromise,
-  RenameDirPromise,
-  RenameFilePromise,
-  DeleteDirPromise,
-  DeleteFilePromise,
-  OpenDirPromise,
-  OpenFilePromise,
-  CloseDirPromise,
-  CloseFilePromise,
-}
+use Rattle.tree_promises.specs.Public.{SetCarriedPromise, MakePromise, RenamePromise, DeletePromise, OpenPromise, ClosePromise}
 use Rattle.tree_kept.proofs.Kept.{
   kept-make-dir,
   kept-make-file,
@@ -39,194 +27,114 @@ use Rattle.tree_kept.proofs.Kept.{
   kept-carry-dir,
   kept-carry-file,
 }
-use Rattle.words.specs.Word.{AreBytes}
-use Rattle.tree_history.specs.Whole.{Lent}
-use Rattle.tree_history.specs.Call.{State, state}
+use Rattle.tree_history.specs.Whole.{Lent, Whole}
+use Rattle.tree_history.specs.Call.{State, state, opensOf, changed}
+use Rattle.tree_history.specs.May.{MayMake, MayRename, MayDelete}
 use Rattle.tree_history.proofs.Stable.{live-stable}
+use Rattle.tree_history.proofs.May.{may-make, may-rename, may-delete}
 use Rattle.tree_history.proofs.Sizes.{are-bytes, whole-step, fine, after-wrote}
-use Rattle.tree_history.proofs.Steps.{
-  after-carried-dir,
-  after-carried-file,
-  after-made-dir,
-  after-made-file,
-  after-deleted-dir,
-  after-deleted-file,
-  after-renamed-dir,
-  after-renamed-file,
-}
-use Rattle.tree_history.proofs.Good.{Good, Refusal, good-done, good-tests}
+use Rattle.tree_history.proofs.Steps.{after-carried, after-made, after-deleted, after-renamed}
+use Rattle.tree_history.proofs.Good.{Good, Refusals, good-done, good-tree, good-opens}
 
-pub not-found : Refusal NotFound
-not-found = (omega arith, λ e. omega arith)
+-- ---- what may go keeps the tables sound
 
-already : Refusal AlreadyExist
-already = (omega arith, λ e. omega arith)
+module _ (s : Tables) (w : Whole s) where
+  kept-make : (kind : Kind) (p : ℕ) (name bytes : List ℕ) → AreBytes name → AreBytes bytes → MayMake kind s p name → SoundIn (made kind s p name bytes)
+  kept-make Directory p name bytes bn bb m =
+      kept-make-dir s (fine s w) (w .sound) p name bytes (are-bytes name bn) (are-bytes bytes bb) (m .parent) (m .new-key) (m .space)
+  kept-make File p name bytes bn bb m =
+      kept-make-file s (fine s w) (w .sound) p name bytes (are-bytes name bn) (are-bytes bytes bb) (m .parent) (m .new-key) (m .space)
 
-full : Refusal NoSpace
-full = (omega arith, λ e. omega arith)
+  kept-rename : (kind : Kind) (x p : ℕ) (name : List ℕ) → AreBytes name → MayRename kind s x p name → SoundIn (renamed kind s x p name)
+  kept-rename Directory x p name bn m =
+      kept-rename-dir s (fine s w) (w .sound) x p name (are-bytes name bn) (m .subject) (m .not-root refl) (m .parent) (m .not-into-itself refl) (m .free-key)
+  kept-rename File x p name bn m = kept-rename-file s (fine s w) (w .sound) x p name (are-bytes name bn) (m .subject) (m .parent) (m .free-key)
 
-busy : Refusal Busy
-busy = (omega arith, λ e. omega arith)
+  kept-delete : (kind : Kind) (opens : List ℕ) (x : ℕ) → MayDelete kind s opens x → SoundIn (deleted kind s x)
+  kept-delete Directory opens x m = kept-delete-dir s (fine s w) (w .sound) x (m .subject) (m .not-root refl) (m .childless refl)
+  kept-delete File opens x m = kept-delete-file s (fine s w) (w .sound) x (m .subject)
 
-root : Refusal DeletingRoot
-root = (omega arith, λ e. omega arith)
+  kept-carry : (kind : Kind) (x : ℕ) (bytes : List ℕ) → AreBytes bytes → LiveIn (kindView kind s) x → SoundIn (withCarried kind s x bytes)
+  kept-carry Directory x bytes bb l = kept-carry-dir s (fine s w) (w .sound) x bytes (are-bytes bytes bb) l
+  kept-carry File x bytes bb l = kept-carry-file s (fine s w) (w .sound) x bytes (are-bytes bytes bb) l
 
-not-empty : Refusal NotEmpty
-not-empty = (omega arith, λ e. omega arith)
+-- ---- their rows refuse
 
-into-itself : Refusal IntoItself
-into-itself = (omega arith, λ e. omega arith)
+rename-refuses : (kind : Kind) (s : Tables) (opens : List ℕ) (x p : ℕ) (name : List ℕ) → Refusals (calls.renameTests kind s opens x p name) ≡ true
+rename-refuses Directory s opens x p name = refl
+rename-refuses File s opens x p name = refl
 
-not-open : Refusal NotOpen
-not-open = (omega arith, λ e. omega arith)
+delete-refuses : (kind : Kind) (s : Tables) (opens : List ℕ) (x : ℕ) → Refusals (calls.deleteTests kind s opens x) ≡ true
+delete-refuses Directory s opens x = refl
+delete-refuses File s opens x = refl
 
-too-many : Refusal TooManyOpens
-too-many = (omega arith, λ e. omega arith)
+-- ---- the calls
 
--- when the work list, or the open counts of a table with this room, are too short
-abbrev shortWork : Tables → List ℕ → Type 0
-shortWork s work = length work < rooms (s .dirTable) (s .fileTable)
+-- a state with its own tables and open counts
+same-state : (kind : Kind) (s : State) → changed kind s (s .tables) (opensOf kind s) ≡ s
+same-state Directory s = refl
+same-state File s = refl
 
-abbrev shortOpens : Tables → List ℕ → List ℕ → ℕ → Type 0
-shortOpens s work opens room = shortWork s work ⊎ (length opens < room)
-
-module _ (s : State) (L : Lent (s .tables)) (work : List ℕ) where
+module _ (s : State) (L : Lent (s .tables)) (work : List ℕ) (kind : Kind) where
   abbrev t : Tables
   t = s .tables
 
-  -- make
-  pub good-make-dir : (p : ℕ) (name padding : List ℕ) → AreBytes name → AreBytes padding → (o : Beside calls.Make) → MakeDirPromise t (s .dirOpens) work p name padding o
-      → Good s (o .given .answer) (state (o .given .tables) (o .given .opens) (s .fileOpens))
-  good-make-dir p name padding bn bp o q =
-      good-tests s L (λ (x : calls.Make). x .answer) (λ (x : calls.Make). state (x .tables) (x .opens) (s .fileOpens)) (λ a. calls.makeGives a 0 t (s .dirOpens)) (λ a g. g)
-      (shortOpens t work (s .dirOpens) (dirRoom (t .dirTable))) work (calls.makeTests t (dirs t) p (nameKey p name))
-      (calls.makeDirDone t (s .dirOpens) p name padding) o (not-found, (already, (full, tt)))
-      (λ w n.
-      good-done s (state (madeDir t p name padding) (set (s .dirOpens) (taken (dirs t)) 1) (s .fileOpens))
-      (whole-step t w (madeDir t p name padding) (after-made-dir t p name padding)
-      (kept-make-dir t (fine t w) (w .sound) p name padding (are-bytes name bn) (are-bytes padding bp) (live-stable (dirs t) p (n .0)) (n .1 .0) (n .1 .1 .0))))
-      q
+  abbrev opens : List ℕ
+  opens = opensOf kind s
 
-  pub good-make-file : (p : ℕ) (name carried : List ℕ) → AreBytes name → AreBytes carried → (o : Beside calls.Make) → MakeFilePromise t (s .fileOpens) work p name carried o
-      → Good s (o .given .answer) (state (o .given .tables) (s .dirOpens) (o .given .opens))
-  good-make-file p name carried bn bc o q =
-      good-tests s L (λ (x : calls.Make). x .answer) (λ (x : calls.Make). state (x .tables) (s .dirOpens) (x .opens)) (λ a. calls.makeGives a 0 t (s .fileOpens)) (λ a g. g)
-      (shortOpens t work (s .fileOpens) (fileRoom (t .fileTable))) work (calls.makeTests t (files t) p (nameKey p name))
-      (calls.makeFileDone t (s .fileOpens) p name carried) o (not-found, (already, (full, tt)))
-      (λ w n.
-      good-done s (state (madeFile t p name carried) (s .dirOpens) (set (s .fileOpens) (taken (files t)) 1))
-      (whole-step t w (madeFile t p name carried) (after-made-file t p name carried)
-      (kept-make-file t (fine t w) (w .sound) p name carried (are-bytes name bn) (are-bytes carried bc) (live-stable (dirs t) p (n .0)) (n .1 .0) (n .1 .1 .0))))
-      q
+  unchanged : (a : Answer) → Good s a s → Good s a (changed kind s t opens)
+  unchanged a g = subst⁻¹ (λ (u : State). Good s a u) (same-state kind s) g
 
-  -- rename
-  pub good-rename-dir : (x p : ℕ) (name : List ℕ) → AreBytes name → (o : Beside calls.Change) → RenameDirPromise t (s .dirOpens) work x p name o
-      → Good s (o .given .answer) (state (o .given .tables) (o .given .opens) (s .fileOpens))
-  good-rename-dir x p name bn o q =
-      good-tests s L (λ (x : calls.Change). x .answer) (λ (x : calls.Change). state (x .tables) (x .opens) (s .fileOpens)) (λ a. calls.changeGives a t (s .dirOpens)) (λ a g. g)
-      (shortOpens t work (s .dirOpens) (dirRoom (t .dirTable))) work (calls.renameDirTests t (s .dirOpens) x p name)
-      (calls.renameDirDone t (s .dirOpens) x p name) o (not-found, (not-open, (root, (not-found, (into-itself, (already, (full, tt)))))))
+  pub good-make : (p : ℕ) (name bytes : List ℕ) → AreBytes name → AreBytes bytes → (o : Beside calls.Make) → MakePromise kind t opens work p name bytes o
+      → Good s (o .given .answer) (changed kind s (o .given .tables) (o .given .opens))
+  good-make p name bytes bn bb o =
+      good-opens s L (λ (x : calls.Make). x .answer) (λ (x : calls.Make). changed kind s (x .tables) (x .opens)) (λ a. calls.makeGives a 0 t opens) unchanged
+      work (calls.makeTests t (kindView kind t) p (nameKey p name)) (calls.makeDone kind t opens p name bytes) o refl
       (λ w n.
-      good-done s (state (renamedDir t x p name) (s .dirOpens) (s .fileOpens))
-      (whole-step t w (renamedDir t x p name) (after-renamed-dir t x p name)
-      (kept-rename-dir t (fine t w) (w .sound) x p name (are-bytes name bn) (live-stable (dirs t) x (n .0)) (n .1 .1 .0) (live-stable (dirs t) p (n .1 .1 .1 .0))
-      (n .1 .1 .1 .1 .0) (n .1 .1 .1 .1 .1 .0))))
-      q
+      good-done s (changed kind s (made kind t p name bytes) (calls.makeDone kind t opens p name bytes .opens))
+      (whole-step t w (made kind t p name bytes) (after-made kind t p name bytes) (kept-make t w kind p name bytes bn bb (may-make kind t p name n))))
+      kind opens
 
-  pub good-rename-file : (x p : ℕ) (name : List ℕ) → AreBytes name → (o : Beside calls.Change) → RenameFilePromise t (s .fileOpens) work x p name o
-      → Good s (o .given .answer) (state (o .given .tables) (s .dirOpens) (o .given .opens))
-  good-rename-file x p name bn o q =
-      good-tests s L (λ (x : calls.Change). x .answer) (λ (x : calls.Change). state (x .tables) (s .dirOpens) (x .opens)) (λ a. calls.changeGives a t (s .fileOpens)) (λ a g. g)
-      (shortOpens t work (s .fileOpens) (fileRoom (t .fileTable))) work (calls.renameFileTests t (s .fileOpens) x p name)
-      (calls.renameFileDone t (s .fileOpens) x p name) o (not-found, (not-open, (not-found, (already, (full, tt)))))
+  pub good-rename : (x p : ℕ) (name : List ℕ) → AreBytes name → (o : Beside calls.Change) → RenamePromise kind t opens work x p name o
+      → Good s (o .given .answer) (changed kind s (o .given .tables) (o .given .opens))
+  good-rename x p name bn o =
+      good-opens s L (λ (x : calls.Change). x .answer) (λ (x : calls.Change). changed kind s (x .tables) (x .opens)) (λ a. calls.changeGives a t opens) unchanged
+      work (calls.renameTests kind t opens x p name) (calls.renameDone kind t opens x p name) o (rename-refuses kind t opens x p name)
       (λ w n.
-      good-done s (state (renamedFile t x p name) (s .dirOpens) (s .fileOpens))
-      (whole-step t w (renamedFile t x p name) (after-renamed-file t x p name)
-      (kept-rename-file t (fine t w) (w .sound) x p name (are-bytes name bn) (live-stable (files t) x (n .0)) (live-stable (dirs t) p (n .1 .1 .0)) (n .1 .1 .1 .0))))
-      q
+      good-done s (changed kind s (renamed kind t x p name) opens)
+      (whole-step t w (renamed kind t x p name) (after-renamed kind t x p name) (kept-rename t w kind x p name bn (may-rename kind t opens x p name n))))
+      kind opens
 
-  -- delete
-  pub good-delete-dir : (x : ℕ) (o : Beside calls.Change) → DeleteDirPromise t (s .dirOpens) work x o
-      → Good s (o .given .answer) (state (o .given .tables) (o .given .opens) (s .fileOpens))
-  good-delete-dir x o q =
-      good-tests s L (λ (x : calls.Change). x .answer) (λ (x : calls.Change). state (x .tables) (x .opens) (s .fileOpens)) (λ a. calls.changeGives a t (s .dirOpens)) (λ a g. g)
-      (shortOpens t work (s .dirOpens) (dirRoom (t .dirTable))) work (calls.deleteDirTests t (s .dirOpens) x)
-      (calls.deleteDirDone t (s .dirOpens) x) o (not-found, (not-open, (busy, (root, (not-empty, tt)))))
+  pub good-delete : (x : ℕ) (o : Beside calls.Change) → DeletePromise kind t opens work x o
+      → Good s (o .given .answer) (changed kind s (o .given .tables) (o .given .opens))
+  good-delete x o =
+      good-opens s L (λ (x : calls.Change). x .answer) (λ (x : calls.Change). changed kind s (x .tables) (x .opens)) (λ a. calls.changeGives a t opens) unchanged
+      work (calls.deleteTests kind t opens x) (calls.deleteDone kind t opens x) o (delete-refuses kind t opens x)
       (λ w n.
-      good-done s (state (deletedDir t x) (set (s .dirOpens) x 0) (s .fileOpens))
-      (whole-step t w (deletedDir t x) (after-deleted-dir t x)
-      (kept-delete-dir t (fine t w) (w .sound) x (live-stable (dirs t) x (n .0)) (n .1 .1 .1 .0) (n .1 .1 .1 .1 .0))))
-      q
+      good-done s (changed kind s (deleted kind t x) (calls.deleteDone kind t opens x .opens))
+      (whole-step t w (deleted kind t x) (after-deleted kind t x) (kept-delete t w kind opens x (may-delete kind t opens x n))))
+      kind opens
 
-  pub good-delete-file : (x : ℕ) (o : Beside calls.Change) → DeleteFilePromise t (s .fileOpens) work x o
-      → Good s (o .given .answer) (state (o .given .tables) (s .dirOpens) (o .given .opens))
-  good-delete-file x o q =
-      good-tests s L (λ (x : calls.Change). x .answer) (λ (x : calls.Change). state (x .tables) (s .dirOpens) (x .opens)) (λ a. calls.changeGives a t (s .fileOpens)) (λ a g. g)
-      (shortOpens t work (s .fileOpens) (fileRoom (t .fileTable))) work (calls.deleteTests (files t) (s .fileOpens) x)
-      (calls.deleteFileDone t (s .fileOpens) x) o (not-found, (not-open, (busy, tt)))
-      (λ w n.
-      good-done s (state (deletedFile t x) (s .dirOpens) (set (s .fileOpens) x 0))
-      (whole-step t w (deletedFile t x) (after-deleted-file t x) (kept-delete-file t (fine t w) (w .sound) x (live-stable (files t) x (n .0)))))
-      q
+  -- a call that leaves the tables as they were
+  counted : (u : List ℕ) → Whole t → Good s Done (changed kind s t u)
+  counted u w = good-done s (changed kind s t u) (whole-step t w t (after-wrote t [] [] [] []) (w .sound))
+
+  pub good-open : (x : ℕ) (o : Beside calls.Opening) → OpenPromise kind t opens work x o → Good s (o .given .answer) (changed kind s t (o .given .opens))
+  good-open x o =
+      good-opens s L (λ (x : calls.Opening). x .answer) (λ (x : calls.Opening). changed kind s t (x .opens)) (λ a. calls.openingGives a opens) unchanged work
+      (calls.openTests (kindView kind t) opens x) (calls.openDone opens x) o refl (λ w n. counted (calls.openDone opens x .opens) w) kind opens
+
+  pub good-close : (x : ℕ) (o : Beside calls.Opening) → ClosePromise kind t opens work x o → Good s (o .given .answer) (changed kind s t (o .given .opens))
+  good-close x o =
+      good-opens s L (λ (x : calls.Opening). x .answer) (λ (x : calls.Opening). changed kind s t (x .opens)) (λ a. calls.openingGives a opens) unchanged work
+      (calls.closeTests (kindView kind t) opens x) (calls.closeDone opens x) o refl (λ w n. counted (calls.closeDone opens x .opens) w) kind opens
 
   -- carried bytes
-  pub good-set-carried-dir : (x : ℕ) (padding : List ℕ) → AreBytes padding → (o : Beside calls.Carry) → SetCarriedDirPromise t work x padding o
+  pub good-set-carried : (x : ℕ) (bytes : List ℕ) → AreBytes bytes → (o : Beside calls.Carry) → SetCarriedPromise kind t work x bytes o
       → Good s (o .given .answer) (state (o .given .tables) (s .dirOpens) (s .fileOpens))
-  good-set-carried-dir x padding b o q =
-      good-tests s L (λ (x : calls.Carry). x .answer) (λ (x : calls.Carry). state (x .tables) (s .dirOpens) (s .fileOpens)) (λ a. calls.carryGives a t) (λ a g. g)
-      (shortWork t work) work (row (LiveIn (dirs t) x → ⊥) NotFound ∷ [])
-      (calls.carryDirDone t x padding) o (not-found, tt)
+  good-set-carried x bytes bb o =
+      good-tree s L (λ (x : calls.Carry). x .answer) (λ (x : calls.Carry). state (x .tables) (s .dirOpens) (s .fileOpens)) (λ a. calls.carryGives a t) (λ a g. g)
+      work (calls.liveTests (kindView kind t) x) (calls.carryDone kind t x bytes) o refl
       (λ w n.
-      good-done s (state (carriedDir t x padding) (s .dirOpens) (s .fileOpens))
-      (whole-step t w (carriedDir t x padding) (after-carried-dir t x padding)
-      (kept-carry-dir t (fine t w) (w .sound) x padding (are-bytes padding b) (live-stable (dirs t) x (n .0)))))
-      q
-
-  pub good-set-carried-file : (x : ℕ) (carried : List ℕ) → AreBytes carried → (o : Beside calls.Carry) → SetCarriedFilePromise t work x carried o
-      → Good s (o .given .answer) (state (o .given .tables) (s .dirOpens) (s .fileOpens))
-  good-set-carried-file x carried b o q =
-      good-tests s L (λ (x : calls.Carry). x .answer) (λ (x : calls.Carry). state (x .tables) (s .dirOpens) (s .fileOpens)) (λ a. calls.carryGives a t) (λ a g. g)
-      (shortWork t work) work (row (LiveIn (files t) x → ⊥) NotFound ∷ [])
-      (calls.carryFileDone t x carried) o (not-found, tt)
-      (λ w n.
-      good-done s (state (carriedFile t x carried) (s .dirOpens) (s .fileOpens))
-      (whole-step t w (carriedFile t x carried) (after-carried-file t x carried)
-      (kept-carry-file t (fine t w) (w .sound) x carried (are-bytes carried b) (live-stable (files t) x (n .0)))))
-      q
-
-  -- open and close
-  pub good-open-dir : (x : ℕ) (o : Beside calls.Opening) → OpenDirPromise t (s .dirOpens) work x o
-      → Good s (o .given .answer) (state (s .tables) (o .given .opens) (s .fileOpens))
-  good-open-dir x o q =
-      good-tests s L (λ (x : calls.Opening). x .answer) (λ (x : calls.Opening). state (s .tables) (x .opens) (s .fileOpens)) (λ a. calls.openingGives a (s .dirOpens)) (λ a g. g)
-      (shortOpens t work (s .dirOpens) (dirRoom (t .dirTable))) work (row (LiveIn (dirs t) x → ⊥) NotFound ∷ row (65535 ≤ calls.opened (s .dirOpens) x) TooManyOpens ∷ [])
-      (calls.openDone (s .dirOpens) x) o (not-found, (too-many, tt))
-      (λ w n. good-done s (state (s .tables) (calls.openDone (s .dirOpens) x .opens) (s .fileOpens)) (whole-step t w t (after-wrote t [] [] [] []) (w .sound)))
-      q
-
-  pub good-open-file : (x : ℕ) (o : Beside calls.Opening) → OpenFilePromise t (s .fileOpens) work x o
-      → Good s (o .given .answer) (state (s .tables) (s .dirOpens) (o .given .opens))
-  good-open-file x o q =
-      good-tests s L (λ (x : calls.Opening). x .answer) (λ (x : calls.Opening). state (s .tables) (s .dirOpens) (x .opens)) (λ a. calls.openingGives a (s .fileOpens)) (λ a g. g)
-      (shortOpens t work (s .fileOpens) (fileRoom (t .fileTable))) work (row (LiveIn (files t) x → ⊥) NotFound ∷ row (65535 ≤ calls.opened (s .fileOpens) x) TooManyOpens ∷ [])
-      (calls.openDone (s .fileOpens) x) o (not-found, (too-many, tt))
-      (λ w n. good-done s (state (s .tables) (s .dirOpens) (calls.openDone (s .fileOpens) x .opens)) (whole-step t w t (after-wrote t [] [] [] []) (w .sound)))
-      q
-
-  pub good-close-dir : (x : ℕ) (o : Beside calls.Opening) → CloseDirPromise t (s .dirOpens) work x o
-      → Good s (o .given .answer) (state (s .tables) (o .given .opens) (s .fileOpens))
-  good-close-dir x o q =
-      good-tests s L (λ (x : calls.Opening). x .answer) (λ (x : calls.Opening). state (s .tables) (x .opens) (s .fileOpens)) (λ a. calls.openingGives a (s .dirOpens)) (λ a g. g)
-      (shortOpens t work (s .dirOpens) (dirRoom (t .dirTable))) work (row (LiveIn (dirs t) x → ⊥) NotFound ∷ row (calls.opened (s .dirOpens) x ≡ 0) NotOpen ∷ [])
-      (calls.closeDone (s .dirOpens) x) o (not-found, (not-open, tt))
-      (λ w n. good-done s (state (s .tables) (calls.closeDone (s .dirOpens) x .opens) (s .fileOpens)) (whole-step t w t (after-wrote t [] [] [] []) (w .sound)))
-      q
-
-  pub good-close-file : (x : ℕ) (o : Beside calls.Opening) → CloseFilePromise t (s .fileOpens) work x o
-      → Good s (o .given .answer) (state (s .tables) (s .dirOpens) (o .given .opens))
-  good-close-file x o q =
-      good-tests s L (λ (x : calls.Opening). x .answer) (λ (x : calls.Opening). state (s .tables) (s .dirOpens) (x .opens)) (λ a. calls.openingGives a (s .fileOpens)) (λ a g. g)
-      (shortOpens t work (s .fileOpens) (fileRoom (t .fileTable))) work (row (LiveIn (files t) x → ⊥) NotFound ∷ row (calls.opened (s .fileOpens) x ≡ 0) NotOpen ∷ [])
-      (calls.closeDone (s .fileOpens) x) o (not-found, (not-open, tt))
-      (λ w n. good-done s (state (s .tables) (s .dirOpens) (calls.closeDone (s .fileOpens) x .opens)) (whole-step t w t (after-wrote t [] [] [] []) (w .sound)))
-      q
+      good-done s (state (withCarried kind t x bytes) (s .dirOpens) (s .fileOpens))
+      (whole-step t w (withCarried kind t x bytes) (after-carried kind t x bytes) (kept-carry t w kind x bytes bb (live-stable (kindView kind t) x (n .0)))))

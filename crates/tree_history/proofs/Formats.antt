@@ -23,7 +23,7 @@ use Rattle.tree_table.specs.View.{View, parent, place, removedOf, LiveIn}
 use Rattle.tree_table.proofs.Field.{Has, reads, length-wrote}
 use Rattle.tree_sound.specs.Sizes.{buckets}
 use Rattle.tree_sound.specs.Sound.{Table, Sound, up}
-use Rattle.tree_promises.specs.Tables.{Tables, dirs, files}
+use Rattle.tree_sound.specs.Tables.{Tables, dirs, files}
 use Rattle.tree_promises.specs.Calls.{Carry, carryGives}
 use Rattle.tree_promises.specs.Format.{FormatMisfit, FormatOutside, formatRows, formatted, FormatPromise}
 use Rattle.tree_kept.proofs.Tables.{after, bytes-wrote, heads-after}

@@ -3,6 +3,7 @@ pub mod Rows
 pub mod Sizes
 pub mod Good
 pub mod Steps
+pub mod May
 pub mod Calls
 pub mod Formats
 pub mod Looks

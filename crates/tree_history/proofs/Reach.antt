@@ -13,14 +13,16 @@ use Rattle.tree_table.proofs.Table.{link, unlink}
 use Rattle.tree_table.proofs.Agree.{Agree}
 use Rattle.tree_sound.specs.Sound.{up}
 use Rattle.tree_sound.proofs.Equal.{tree-of}
-use Rattle.tree_promises.specs.Tables.{Tables, dirs, files, above}
-use Rattle.tree_promises.specs.Steps.{renamedDir}
-use Rattle.tree_kept.proofs.Above.{way-up}
+use Rattle.tree_sound.specs.Tables.{Tables, dirs, files}
+use Rattle.tree_promises.specs.declared.Kind.the-variants.{Directory}
+use Rattle.tree_promises.specs.Has.{above}
+use Rattle.tree_promises.specs.Steps.{renamed}
+use Rattle.tree_sound.proofs.Bounds.{way-up}
 use Rattle.tree_kept.proofs.Dirs.{renamed-dir-agrees}
 use Rattle.tree_kept.proofs.Kept.{kept-rename-dir}
 use Rattle.words.specs.Word.{AreBytes}
 use Rattle.tree_history.specs.Whole.{Whole}
-use Rattle.tree_history.specs.MayRename.{MayRename}
+use Rattle.tree_history.specs.May.{MayRename}
 use Rattle.tree_history.proofs.Sizes.{are-bytes, fine}
 
 -- ---- the ring
@@ -51,22 +53,22 @@ module _ (u u′ : ℕ → ℕ) (x : ℕ) (eo : (y : ℕ) → 0 < y → y ≢ x 
 
 module _ (s : Tables) (w : Whole s) (x p : ℕ) (name : List ℕ) (bn : AreBytes name) where
   -- stays-reachable: a directory that may be renamed leaves every directory reaching the root
-  pub stays-reachable : MayRename s x p name → (y : ℕ) → LiveIn (dirs (renamedDir s x p name)) y → Reaches (up (dirs (renamedDir s x p name))) y
+  pub stays-reachable : MayRename Directory s x p name → (y : ℕ) → LiveIn (dirs (renamed Directory s x p name)) y → Reaches (up (dirs (renamed Directory s x p name))) y
   stays-reachable m =
-      kept-rename-dir s (fine s w) (w .sound) x p name (are-bytes name bn) (m .subject) (m .not-root) (m .parent) (m .not-into-itself) (m .free-key) .reach
+      kept-rename-dir s (fine s w) (w .sound) x p name (are-bytes name bn) (m .subject) (m .not-root refl) (m .parent) (m .not-into-itself refl) (m .free-key) .reach
 
   module _ (lx : LiveIn (dirs s) x) (n1 : x ≡ 1 → ⊥) (lp : LiveIn (dirs s) p) where
-    same : Agree (link (unlink (dirs s) x) x (nameKey p name)) (dirs (renamedDir s x p name))
+    same : Agree (link (unlink (dirs s) x) x (nameKey p name)) (dirs (renamed Directory s x p name))
     same =
         renamed-dir-agrees (s .dirHash) (s .dirTable) (s .fileHash) (s .fileTable) (fine s w) (removedOf (dirs s)) (removedOf (files s))
         (tree-of (dirs s) (files s) refl refl (w .sound)) x lx n1 p lp name (are-bytes name bn)
 
     -- ring-below-itself: without the row IntoItself it would not: a directory that goes to itself or below itself no longer reaches the root
-    pub ring-below-itself : x ∈ above (dirs s) p → Reaches (up (dirs (renamedDir s x p name))) x → ⊥
+    pub ring-below-itself : x ∈ above (dirs s) p → Reaches (up (dirs (renamed Directory s x p name))) x → ⊥
     ring-below-itself m r =
         let D : View = dirs s in
         let k : List ℕ = nameKey p name in
         let t = w .sound .dirs .reach p lp in
-        let i : x ∈ t .0 = subst (λ zs. x ∈ zs) (way-up D (files s) (w .sound) p lp (t .0) (t .1)) m in
-        ring (up D) (up (dirs (renamedDir s x p name))) x (λ y h n. ap parent (same .key y h ∙ upd-other (D .key) x k y n)) p (t .0) (r .0)
+        let i : x ∈ t .0 = subst (λ zs. x ∈ zs) (way-up D (w .sound .dirs) p lp (t .0) (t .1)) m in
+        ring (up D) (up (dirs (renamed Directory s x p name))) x (λ y h n. ap parent (same .key y h ∙ upd-other (D .key) x k y n)) p (t .0) (r .0)
         (ap parent (same .key x (lx .0) ∙ upd-same (D .key) x k x refl)) (t .1) i (lx .0) (r .1)

@@ -8,9 +8,9 @@ use lib.ListN.{length}
 use Rattle.words.proofs.Laws.{Bytes}
 use Rattle.tree_table.specs.Field.{Write, wrote}
 use Rattle.tree_table.proofs.Field.{length-wrote}
-use Rattle.tree_sound.specs.Sizes.{Beyond, Misfit, Outside}
+use Rattle.tree_sound.specs.Sizes.{Beyond}
 use Rattle.tree_sound.specs.Sound.{Sound}
-use Rattle.tree_promises.specs.Tables.{Tables, tables, dirs, files}
+use Rattle.tree_sound.specs.Tables.{Tables, tables, dirs, files, MisfitIn, OutsideIn}
 use Rattle.tree_kept.proofs.Tables.{bytes-wrote}
 use Rattle.tree_kept.proofs.Files.{Fine}
 use Rattle.words.specs.Word.{AreBytes}
@@ -64,8 +64,8 @@ four P s s′ e p =
     (subst (λ n. P n (length (s′ .dirTable)) (length (s′ .fileHash)) (length (s′ .fileTable))) (e .dir-hash) p)))
 
 -- tables after writes, once they are sound
-pub whole-after : (s : Tables) → (Misfit (s .dirHash) (s .dirTable) (s .fileHash) (s .fileTable) → ⊥)
-    → (Outside (s .dirHash) (s .dirTable) (s .fileHash) (s .fileTable) → ⊥) → Lent s → (s′ : Tables) → After s s′ → Sound (dirs s′) (files s′)
+pub whole-after : (s : Tables) → (MisfitIn s → ⊥)
+    → (OutsideIn s → ⊥) → Lent s → (s′ : Tables) → After s s′ → Sound (dirs s′) (files s′)
     → Whole s′ × SameSizes s s′
 whole-after s fits inside L s′ a S = (
   record {

@@ -12,7 +12,7 @@ use Rattle.links.proofs.Laws.{distinct, walked, fewer}
 use Rattle.links.proofs.Held.{same-or}
 use Rattle.tree_table.specs.View.{View, place, removedOf, LiveIn}
 use Rattle.tree_sound.specs.Sound.{Table, Below, Sound, up}
-use Rattle.tree_kept.proofs.Above.{way-up}
+use Rattle.tree_sound.proofs.Bounds.{way-up}
 
 -- not denied
 abbrev pub Likely : Type 0 → Type 0
@@ -115,4 +115,4 @@ sound-stable D F n = record {
 }
   where
     way : (S : Sound D F) (y : ℕ) (l : LiveIn D y) → walk (up D) (D .count) y ≡ S .dirs .reach y l .0
-    way S y l = way-up D F S y l (S .dirs .reach y l .0) (S .dirs .reach y l .1)
+    way S y l = way-up D (S .dirs) y l (S .dirs .reach y l .0) (S .dirs .reach y l .1)

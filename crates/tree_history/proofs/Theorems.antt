@@ -4,14 +4,13 @@ use mathlib.Core.List.{List}
 use Prim.Native.Nat.{ℕ, _≤_, _<_}
 use native.Mathlib.Omega.{arith}
 use lib.ListN.{length}
-use Rattle.order.specs.First.{First}
 use Rattle.order.specs.declared.Answer.{Answer}
 use Rattle.order.specs.declared.Answer.the-variants.{Done, BrokenTree}
-use Rattle.tree_sound.specs.Sizes.{rooms}
 use Rattle.tree_test.specs.Gate.{treeGate}
-use Rattle.tree_test.specs.Promise.{tested, testDone}
+use Rattle.tree_test.specs.Promise.{tested, testDone, TestPromise}
 use Rattle.tree_test.specs.declared.Tested.{Tested}
-use Rattle.tree_promises.specs.Tables.{dirs, files}
+use Rattle.tree_sound.specs.Tables.{roomsIn}
+use Rattle.tree_promises.specs.Kinds.{kindView}
 use Rattle.tree_promises.specs.Calls.{Carry}
 use Rattle.tree_promises.specs.Format.{FormatPromise}
 use Rattle.tree_history.specs.Whole.{Lent, Whole}
@@ -21,26 +20,17 @@ use Rattle.tree_history.specs.Call.{
   Call,
   format,
   test,
-  lookup-dir,
-  lookup-file,
-  list-dirs,
-  list-files,
+  lookup,
+  list,
   stat,
   name-answer,
-  carried-dir,
-  carried-file,
-  set-carried-dir,
-  set-carried-file,
-  make-dir,
-  make-file,
-  rename-dir,
-  rename-file,
-  delete-dir,
-  delete-file,
-  open-dir,
-  open-file,
-  close-dir,
-  close-file,
+  carried,
+  set-carried,
+  make,
+  rename,
+  delete,
+  opening,
+  closing,
   KeptBy,
 }
 use Rattle.tree_history.specs.Run.{Run, none, calls}
@@ -53,26 +43,17 @@ use Rattle.tree_history.proofs.Formats.{good-format}
 good : (s : State) → Lent (s .tables) → {a : Answer} {u : State} → Call s a u → Good s a u
 good s L (format dm fm o p) = good-format s L dm fm o p
 good s L (test work o p) = looks.good-test s L work o p
-good s L (lookup-dir work p name o q) = looks.good-lookup s L work (dirs (s .tables)) p name o q
-good s L (lookup-file work p name o q) = looks.good-lookup s L work (files (s .tables)) p name o q
-good s L (list-dirs work x list o q) = looks.good-list s L work (dirs (s .tables)) x list o q
-good s L (list-files work x list o q) = looks.good-list s L work (files (s .tables)) x list o q
+good s L (lookup kind work p name o q) = looks.good-lookup s L work (kindView kind (s .tables)) p name o q
+good s L (list kind work x xs o q) = looks.good-list s L work (kindView kind (s .tables)) x xs o q
 good s L (stat work o q) = looks.good-stat s L work o q
 good s L (name-answer work kind x o q) = looks.good-name s L work kind x o q
-good s L (carried-dir work x o q) = looks.good-carried-dir s L work x o q
-good s L (carried-file work x o q) = looks.good-carried-file s L work x o q
-good s L (set-carried-dir work x padding o b q) = changes.good-set-carried-dir s L work x padding b o q
-good s L (set-carried-file work x carried o b q) = changes.good-set-carried-file s L work x carried b o q
-good s L (make-dir work p name padding o bn bp q) = changes.good-make-dir s L work p name padding bn bp o q
-good s L (make-file work p name carried o bn bc q) = changes.good-make-file s L work p name carried bn bc o q
-good s L (rename-dir work x p name o bn q) = changes.good-rename-dir s L work x p name bn o q
-good s L (rename-file work x p name o bn q) = changes.good-rename-file s L work x p name bn o q
-good s L (delete-dir work x o q) = changes.good-delete-dir s L work x o q
-good s L (delete-file work x o q) = changes.good-delete-file s L work x o q
-good s L (open-dir work x o q) = changes.good-open-dir s L work x o q
-good s L (open-file work x o q) = changes.good-open-file s L work x o q
-good s L (close-dir work x o q) = changes.good-close-dir s L work x o q
-good s L (close-file work x o q) = changes.good-close-file s L work x o q
+good s L (carried kind work x o q) = looks.good-carried s L work kind x o q
+good s L (set-carried kind work x bytes o b q) = changes.good-set-carried s L work kind x bytes b o q
+good s L (make kind work p name bytes o bn bb q) = changes.good-make s L work kind p name bytes bn bb o q
+good s L (rename kind work x p name o bn q) = changes.good-rename s L work kind x p name bn o q
+good s L (delete kind work x o q) = changes.good-delete s L work kind x o q
+good s L (opening kind work x o q) = changes.good-open s L work kind x o q
+good s L (closing kind work x o q) = changes.good-close s L work kind x o q
 
 -- kept: a public call on tables of bytes, answered Done, leaves sound tables of bytes, as long as they were; refused, it leaves tables and open counts as
 -- they were
@@ -95,16 +76,15 @@ never-broken s t u answer w r c = let v = run-sound s t w r in good t (v .lent) 
 
 -- test-accepts: and the test, lent a work list that is long enough, answers Done
 pub test-accepts : (s t : State) (work : List ℕ) (o : Tested × List ℕ) → Whole (s .tables) → Run s t
-    → rooms (t .tables .dirTable) (t .tables .fileTable) ≤ length work
-    → First (treeGate tested (t .tables .dirHash) (t .tables .dirTable) (t .tables .fileHash) (t .tables .fileTable) work)
-    (testDone (t .tables .dirTable) (t .tables .fileTable) work) o
+    → roomsIn (t .tables) ≤ length work
+    → TestPromise (t .tables) work o
     → o .0 .answer ≡ Done
 test-accepts s t work o w r h =
     let v : Whole (t .tables) = run-sound s t w r in
     of-first (λ (x : Tested × List ℕ). x .0 .answer ≡ Done)
-    (treeGate tested (t .tables .dirHash) (t .tables .dirTable) (t .tables .fileHash) (t .tables .fileTable) work)
-    (testDone (t .tables .dirTable) (t .tables .fileTable) work) o (
+    (treeGate tested (t .tables) work)
+    (testDone (t .tables) work) o (
       λ m. absurd (v .fits m),
-      (λ m. absurd (v .inside m), (λ (k : length work < rooms (t .tables .dirTable) (t .tables .fileTable)). absurd (omega arith), (λ n. absurd (n (v .sound)), tt))),
+      (λ m. absurd (v .inside m), (λ (k : length work < roomsIn (t .tables)). absurd (omega arith), (λ n. absurd (n (v .sound)), tt))),
     )
     (λ _. refl)

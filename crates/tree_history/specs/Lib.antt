@@ -1,4 +1,4 @@
 pub mod Whole
 pub mod Call
 pub mod Run
-pub mod MayRename
+pub mod May

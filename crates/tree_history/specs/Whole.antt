@@ -3,9 +3,7 @@ use mathlib.Core.Path.{_≡_}
 use mathlib.Core.List.{List}
 use lib.ListN.{length}
 use Rattle.words.specs.Word.{AreBytes}
-use Rattle.tree_sound.specs.Sizes.{Misfit, Outside}
-use Rattle.tree_sound.specs.Sound.{Sound}
-use Rattle.tree_promises.specs.Tables.{Tables, dirs, files}
+use Rattle.tree_sound.specs.Tables.{Tables, MisfitIn, OutsideIn, SoundIn}
 
 -- four tables as they can be lent: bytes
 pub record Lent (s : Tables) : Type 0 where
@@ -17,9 +15,9 @@ pub record Lent (s : Tables) : Type 0 where
 -- four tables of bytes whose sizes are within document 01's, and that are sound
 pub record Whole (s : Tables) : Type 0 where
   pub lent : Lent s
-  pub fits : Misfit (s .dirHash) (s .dirTable) (s .fileHash) (s .fileTable) → ⊥
-  pub inside : Outside (s .dirHash) (s .dirTable) (s .fileHash) (s .fileTable) → ⊥
-  pub sound : Sound (dirs s) (files s)
+  pub fits : MisfitIn s → ⊥
+  pub inside : OutsideIn s → ⊥
+  pub sound : SoundIn s
 
 -- the tables s′ are as long as the tables s
 pub record SameSizes (s s′ : Tables) : Type 0 where

@@ -6,7 +6,7 @@ use mathlib.Core.Logic.{_⊎_, inl, inr, ⊎-elim, _≢_}
 use Prim.Native.Nat.{ℕ, zero, suc, _+_, _-_, _*_, _/_, _%_, _≤_, _<_}
 use native.Mathlib.Omega.{arith}
 use lib.Dec.{eqb}
-use lib.ListN.{length, getD, set}
+use lib.ListN.{length}
 use Rattle.order.specs.First.{Row, row, First}
 use Rattle.order.specs.Given.{Given, None}
 use Rattle.order.specs.declared.Answer.{Answer}
@@ -24,14 +24,18 @@ use Rattle.tree_table.specs.Chain.{linkAt, listAt, Ends, member}
 use Rattle.tree_table.proofs.Chain.{member-in, not-member}
 use Rattle.tree_table.proofs.Field.{length-wrote}
 use Rattle.tree_table.proofs.Table.{not-zero}
-use Rattle.tree_sound.specs.Sound.{Table, Sound, up}
-use Rattle.tree_promises.specs.Tables.{Tables, tables, dirs, files, above, Has, HasOther}
-use Rattle.tree_promises.specs.Steps.{unlinkedDir, unlinkedFile, linkedDir, linkedFile}
+use Rattle.tree_sound.specs.Sound.{Table, up}
+use Rattle.tree_opens.specs.Opens.{withOpen, Counted, AllCounted}
+use Rattle.tree_promises.specs.Kinds.{kindRoom}
+use Rattle.tree_sound.specs.Tables.{Tables, tables, dirs, files}
+use Rattle.tree_promises.specs.declared.Kind.the-variants.{Directory, File}
+use Rattle.tree_promises.specs.Has.{above, Has, HasOther}
+use Rattle.tree_promises.specs.Steps.{unlinkedFrom, linkedTo}
 use Rattle.order.specs.Giving.{giving}
-use Rattle.tree_promises.specs.Calls.{heldTests, deleteTests, deleteDirTests, renameDirTests, renameFileTests, makeTests, changeGives, deleteFileRows, deleteFileDone, deleteDirRows, deleteDirDone, renameFileRows, renameFileDone, renameDirRows, renameDirDone, opened}
-use Rattle.tree_promises.specs.Ready.{Ready, LiveAt, Single, alone, hashed}
-use Rattle.tree_inner.specs.Seat.{headOf, Listed}
-use Rattle.tree_inner.specs.Judge.{JudgedBy}
+use Rattle.tree_promises.specs.Calls.{heldTests, onceTests, deleteTests, renameTests, makeTests, changeGives, deleteRows, deleteDone, renameRows, renameDone}
+use Rattle.tree_promises.specs.inner.Ready.{Ready, ReadyOpens, LiveAt, Single, alone, hashed}
+use Rattle.tree_inner.specs.inner.Seat.{headOf, Listed}
+use Rattle.tree_inner.specs.inner.Judge.{JudgedBy}
 use Rattle.tree_inner.specs.declared.judge.Judged.{Judged}
 use Rattle.tree_inner.specs.declared.judge.Judged.the-variants.{Go, Refused}
 use Rattle.tree_inner.proofs.Lists.{inside, all-fit, count-few, child-ends, child-list, dir-single, file-single, ends-of, list-of}
@@ -134,27 +138,27 @@ never n e = omega arith
 
 module _ (s : Tables) (opens : List ℕ) (x p : ℕ) (name : List ℕ) where
   module _ (held : None (heldTests (files s) opens x)) where
-    pub file-parent : {r : Bool} → Tells (LiveIn (dirs s) p) r → r ≡ false → Given (renameFileTests s opens x p name) NotFound
+    pub file-parent : {r : Bool} → Tells (LiveIn (dirs s) p) r → r ≡ false → Given (renameTests File s opens x p name) NotFound
     file-parent T e = inr (held .0, inr (held .1 .0, inl (tells-not T e, refl)))
 
     pub file-exists : {r q : Bool} → Tells (LiveIn (dirs s) p) r → r ≡ true → Tells (HasOther (files s) x (nameKey p name)) q → q ≡ true
-        → Given (renameFileTests s opens x p name) AlreadyExist
+        → Given (renameTests File s opens x p name) AlreadyExist
     file-exists T e O f = inr (held .0, inr (held .1 .0, inr (λ n. n (T .yes e), inl (O .yes f, refl))))
 
     pub file-go : {r q : Bool} → Tells (LiveIn (dirs s) p) r → r ≡ true → Tells (HasOther (files s) x (nameKey p name)) q → q ≡ false
-        → None (renameFileTests s opens x p name)
+        → None (renameTests File s opens x p name)
     file-go T e O f = (held .0, (held .1 .0, (λ n. n (T .yes e), (tells-not O f, (never (freeOf (files s)), tt)))))
 
   module _ (held : None (heldTests (dirs s) opens x)) where
-    pub dir-first : x ≡ 1 → Given (renameDirTests s opens x p name) DeletingRoot
+    pub dir-first : x ≡ 1 → Given (renameTests Directory s opens x p name) DeletingRoot
     dir-first e = inr (held .0, inr (held .1 .0, inl (e, refl)))
 
     module _ (n1 : x ≡ 1 → ⊥) {r : Bool} (T : Tells (LiveIn (dirs s) p) r) where
-      pub dir-parent : r ≡ false → Given (renameDirTests s opens x p name) NotFound
+      pub dir-parent : r ≡ false → Given (renameTests Directory s opens x p name) NotFound
       dir-parent e = inr (held .0, inr (held .1 .0, inr (n1, inl (tells-not T e, refl))))
 
       module _ (e : r ≡ true) {m : Bool} (em : m ≡ member x (listAt (s .dirTable) 40 0 p)) (R : Ready s) where
-        pub dir-into : m ≡ true → Given (renameDirTests s opens x p name) IntoItself
+        pub dir-into : m ≡ true → Given (renameTests Directory s opens x p name) IntoItself
         dir-into f =
             inr (
               held .0,
@@ -173,10 +177,10 @@ module _ (s : Tables) (opens : List ℕ) (x p : ℕ) (name : List ℕ) where
         apart : m ≡ false → x ∈ above (dirs s) p → ⊥
         apart f i = not-member x (listAt (s .dirTable) 40 0 p) (sym em ∙ f) (subst (λ z. x ∈ z) (sym (above-list s R p (T .yes e))) i)
 
-        pub dir-exists : {q : Bool} → m ≡ false → Tells (HasOther (dirs s) x (nameKey p name)) q → q ≡ true → Given (renameDirTests s opens x p name) AlreadyExist
+        pub dir-exists : {q : Bool} → m ≡ false → Tells (HasOther (dirs s) x (nameKey p name)) q → q ≡ true → Given (renameTests Directory s opens x p name) AlreadyExist
         dir-exists f O g = inr (held .0, inr (held .1 .0, inr (n1, inr (λ n. n (T .yes e), inr (apart f, inl (O .yes g, refl))))))
 
-        pub dir-free : {q : Bool} → m ≡ false → Tells (HasOther (dirs s) x (nameKey p name)) q → q ≡ false → None (renameDirTests s opens x p name)
+        pub dir-free : {q : Bool} → m ≡ false → Tells (HasOther (dirs s) x (nameKey p name)) q → q ≡ false → None (renameTests Directory s opens x p name)
         dir-free f O g = (held .0, (held .1 .0, (n1, (λ n. n (T .yes e), (apart f, (tells-not O g, (never (freeOf (dirs s)), tt)))))))
 
 module _ (s : Tables) (v : View) (p : ℕ) (k : List ℕ) {r : Bool} (T : Tells (LiveIn (dirs s) p) r) where
@@ -206,53 +210,53 @@ call-refused g d tests j a J e = given-first g d tests a (subst (JudgedBy tests)
 pub call-done : {A : Type 0} (g : Answer → A) (d o : A) (tests : List (Row Answer)) → None tests → o ≡ d → First (giving g tests) d o
 call-done g d o tests n e = subst (λ z. First (giving g tests) d z) (sym e) (none-first g d tests n)
 
-pub deleted-file : (dh d h f d′ h′ f1 f2 opens opens′ : List ℕ) (x i : ℕ) → i ≡ x → d′ ≡ unlinkedFile (tables [] d h f) x .dirTable → h′ ≡ unlinkedFile (tables [] d h f) x .fileHash
-    → f1 ≡ unlinkedFile (tables [] d h f) x .fileTable → f2 ≡ wrote 48 f1 (giveWrites 48 (field 48 f1) x) → opens′ ≡ set opens i 0
-    → changeGives Done (tables dh d′ h′ f2) opens′ ≡ deleteFileDone (tables dh d h f) opens x
-deleted-file dh d h f d′ h′ f1 f2 opens opens′ x i ei ed eh e1 e2 eo =
-    ap (λ z. changeGives Done (tables dh d′ h′ f2) z) (eo ∙ ap (λ z. set opens z 0) ei)
-    ∙ ap (λ z. changeGives Done (tables dh z h′ f2) (set opens x 0)) ed
-    ∙ ap₂ (λ y z. changeGives Done (tables dh (unlinkedFile (tables [] d h f) x .dirTable) y z) (set opens x 0)) eh
+pub deleted-file : (dh d h f d′ h′ f1 f2 opens opens′ : List ℕ) (x : ℕ) → d′ ≡ unlinkedFrom File (tables [] d h f) x .dirTable → h′ ≡ unlinkedFrom File (tables [] d h f) x .fileHash
+    → f1 ≡ unlinkedFrom File (tables [] d h f) x .fileTable → f2 ≡ wrote 48 f1 (giveWrites 48 (field 48 f1) x) → opens′ ≡ withOpen opens x 0
+    → changeGives Done (tables dh d′ h′ f2) opens′ ≡ deleteDone File (tables dh d h f) opens x
+deleted-file dh d h f d′ h′ f1 f2 opens opens′ x ed eh e1 e2 eo =
+    ap (λ z. changeGives Done (tables dh d′ h′ f2) z) eo
+    ∙ ap (λ z. changeGives Done (tables dh z h′ f2) (withOpen opens x 0)) ed
+    ∙ ap₂ (λ y z. changeGives Done (tables dh (unlinkedFrom File (tables [] d h f) x .dirTable) y z) (withOpen opens x 0)) eh
     (e2 ∙ ap (λ z. wrote 48 z (giveWrites 48 (field 48 z) x)) e1)
 
-pub deleted-dir : (h d fh f h′ d1 d2 opens opens′ : List ℕ) (x i : ℕ) → i ≡ x → h′ ≡ unlinkedDir (tables h d [] []) x .dirHash → d1 ≡ unlinkedDir (tables h d [] []) x .dirTable
-    → d2 ≡ wrote 40 d1 (giveWrites 40 (field 40 d1) x) → opens′ ≡ set opens i 0
-    → changeGives Done (tables h′ d2 fh f) opens′ ≡ deleteDirDone (tables h d fh f) opens x
-deleted-dir h d fh f h′ d1 d2 opens opens′ x i ei eh e1 e2 eo =
-    ap (λ z. changeGives Done (tables h′ d2 fh f) z) (eo ∙ ap (λ z. set opens z 0) ei)
-    ∙ ap₂ (λ y z. changeGives Done (tables y z fh f) (set opens x 0)) eh (e2 ∙ ap (λ z. wrote 40 z (giveWrites 40 (field 40 z) x)) e1)
+pub deleted-dir : (h d fh f h′ d1 d2 opens opens′ : List ℕ) (x : ℕ) → h′ ≡ unlinkedFrom Directory (tables h d [] []) x .dirHash → d1 ≡ unlinkedFrom Directory (tables h d [] []) x .dirTable
+    → d2 ≡ wrote 40 d1 (giveWrites 40 (field 40 d1) x) → opens′ ≡ withOpen opens x 0
+    → changeGives Done (tables h′ d2 fh f) opens′ ≡ deleteDone Directory (tables h d fh f) opens x
+deleted-dir h d fh f h′ d1 d2 opens opens′ x eh e1 e2 eo =
+    ap (λ z. changeGives Done (tables h′ d2 fh f) z) eo
+    ∙ ap₂ (λ y z. changeGives Done (tables y z fh f) (withOpen opens x 0)) eh (e2 ∙ ap (λ z. wrote 40 z (giveWrites 40 (field 40 z) x)) e1)
 
 pub renamed-file : (dh d h f d1 h1 f1 d2 h2 f2 opens : List ℕ) (x p : ℕ) (name : List ℕ)
-    → d1 ≡ unlinkedFile (tables [] d h f) x .dirTable → h1 ≡ unlinkedFile (tables [] d h f) x .fileHash → f1 ≡ unlinkedFile (tables [] d h f) x .fileTable
-    → d2 ≡ linkedFile (tables [] d1 h1 f1) x p name .dirTable → h2 ≡ linkedFile (tables [] d1 h1 f1) x p name .fileHash → f2 ≡ linkedFile (tables [] d1 h1 f1) x p name .fileTable
-    → changeGives Done (tables dh d2 h2 f2) opens ≡ renameFileDone (tables dh d h f) opens x p name
+    → d1 ≡ unlinkedFrom File (tables [] d h f) x .dirTable → h1 ≡ unlinkedFrom File (tables [] d h f) x .fileHash → f1 ≡ unlinkedFrom File (tables [] d h f) x .fileTable
+    → d2 ≡ linkedTo File (tables [] d1 h1 f1) x p name .dirTable → h2 ≡ linkedTo File (tables [] d1 h1 f1) x p name .fileHash → f2 ≡ linkedTo File (tables [] d1 h1 f1) x p name .fileTable
+    → changeGives Done (tables dh d2 h2 f2) opens ≡ renameDone File (tables dh d h f) opens x p name
 renamed-file dh d h f d1 h1 f1 d2 h2 f2 opens x p name ed eh ef ed2 eh2 ef2 =
     ap (λ z. changeGives Done (tables dh z h2 f2) opens) ed2
-    ∙ ap₂ (λ y z. changeGives Done (tables dh (linkedFile (tables [] d1 h1 f1) x p name .dirTable) y z) opens) eh2 ef2
-    ∙ ap (λ z. changeGives Done (linkedFile (tables dh z h1 f1) x p name) opens) ed
-    ∙ ap₂ (λ y z. changeGives Done (linkedFile (tables dh (unlinkedFile (tables [] d h f) x .dirTable) y z) x p name) opens) eh ef
+    ∙ ap₂ (λ y z. changeGives Done (tables dh (linkedTo File (tables [] d1 h1 f1) x p name .dirTable) y z) opens) eh2 ef2
+    ∙ ap (λ z. changeGives Done (linkedTo File (tables dh z h1 f1) x p name) opens) ed
+    ∙ ap₂ (λ y z. changeGives Done (linkedTo File (tables dh (unlinkedFrom File (tables [] d h f) x .dirTable) y z) x p name) opens) eh ef
 
-pub renamed-dir : (h d fh f h1 d1 h2 d2 opens : List ℕ) (x p : ℕ) (name : List ℕ) → h1 ≡ unlinkedDir (tables h d [] []) x .dirHash → d1 ≡ unlinkedDir (tables h d [] []) x .dirTable
-    → h2 ≡ linkedDir (tables h1 d1 [] []) x p name .dirHash → d2 ≡ linkedDir (tables h1 d1 [] []) x p name .dirTable
-    → changeGives Done (tables h2 d2 fh f) opens ≡ renameDirDone (tables h d fh f) opens x p name
+pub renamed-dir : (h d fh f h1 d1 h2 d2 opens : List ℕ) (x p : ℕ) (name : List ℕ) → h1 ≡ unlinkedFrom Directory (tables h d [] []) x .dirHash → d1 ≡ unlinkedFrom Directory (tables h d [] []) x .dirTable
+    → h2 ≡ linkedTo Directory (tables h1 d1 [] []) x p name .dirHash → d2 ≡ linkedTo Directory (tables h1 d1 [] []) x p name .dirTable
+    → changeGives Done (tables h2 d2 fh f) opens ≡ renameDone Directory (tables h d fh f) opens x p name
 renamed-dir h d fh f h1 d1 h2 d2 opens x p name eh ed eh2 ed2 =
     ap₂ (λ y z. changeGives Done (tables y z fh f) opens) eh2 ed2
-    ∙ ap₂ (λ y z. changeGives Done (linkedDir (tables y z fh f) x p name) opens) eh ed
+    ∙ ap₂ (λ y z. changeGives Done (linkedTo Directory (tables y z fh f) x p name) opens) eh ed
 
 -- the steps keep every length
-pub same-dirs : (h d : List ℕ) (x : ℕ) (d1 : List ℕ) → d1 ≡ unlinkedDir (tables h d [] []) x .dirTable → length d1 ≡ length d
+pub same-dirs : (h d : List ℕ) (x : ℕ) (d1 : List ℕ) → d1 ≡ unlinkedFrom Directory (tables h d [] []) x .dirTable → length d1 ≡ length d
 same-dirs h d x d1 e = ap length e ∙ simp length-wrote
 
-pub same-dir-hash : (h d : List ℕ) (x : ℕ) (h1 : List ℕ) → h1 ≡ unlinkedDir (tables h d [] []) x .dirHash → length h1 ≡ length h
+pub same-dir-hash : (h d : List ℕ) (x : ℕ) (h1 : List ℕ) → h1 ≡ unlinkedFrom Directory (tables h d [] []) x .dirHash → length h1 ≡ length h
 same-dir-hash h d x h1 e = ap length e ∙ simp length-wrote
 
-pub same-files : (d h f : List ℕ) (x : ℕ) (f1 : List ℕ) → f1 ≡ unlinkedFile (tables [] d h f) x .fileTable → length f1 ≡ length f
+pub same-files : (d h f : List ℕ) (x : ℕ) (f1 : List ℕ) → f1 ≡ unlinkedFrom File (tables [] d h f) x .fileTable → length f1 ≡ length f
 same-files d h f x f1 e = ap length e ∙ simp length-wrote
 
-pub same-file-hash : (d h f : List ℕ) (x : ℕ) (h1 : List ℕ) → h1 ≡ unlinkedFile (tables [] d h f) x .fileHash → length h1 ≡ length h
+pub same-file-hash : (d h f : List ℕ) (x : ℕ) (h1 : List ℕ) → h1 ≡ unlinkedFrom File (tables [] d h f) x .fileHash → length h1 ≡ length h
 same-file-hash d h f x h1 e = ap length e ∙ simp length-wrote
 
-pub same-file-dirs : (d h f : List ℕ) (x : ℕ) (d1 : List ℕ) → d1 ≡ unlinkedFile (tables [] d h f) x .dirTable → length d1 ≡ length d
+pub same-file-dirs : (d h f : List ℕ) (x : ℕ) (d1 : List ℕ) → d1 ≡ unlinkedFrom File (tables [] d h f) x .dirTable → length d1 ≡ length d
 same-file-dirs d h f x d1 e = ap length e ∙ simp length-wrote
 
 pub other-key : (v : View) (x : ℕ) {k k′ : List ℕ} {r : Bool} → k ≡ k′ → Tells (HasOther v x k) r → Tells (HasOther v x k′) r
@@ -260,21 +264,21 @@ other-key v x {k} {k′} {r} e T = subst (λ z. Tells (HasOther v x z) r) e T
 
 -- what the tests that passed say
 module _ (s : Tables) (R : Ready s) (opens : List ℕ) (x : ℕ) where
-  module _ (n : None (deleteTests (files s) opens x)) where
+  module _ (n : None (onceTests (files s) opens x)) where
     gone-file : LiveIn (files s) x
     gone-file = live-sure 48 (s .fileTable) x (n .0)
 
     pub delete-file-asks : Single (s .fileHash) (s .fileTable) 48 × LiveAt 48 (s .fileTable) x × Listed (s .dirTable) 28 (s .fileTable) 48 x
     delete-file-asks = (file-single s R, gone-file, file-listed s R x gone-file)
 
-    pub give-file-asks : {f1 : List ℕ} → f1 ≡ unlinkedFile (tables [] (s .dirTable) (s .fileHash) (s .fileTable)) x .fileTable → (x * 48 + 48 ≤ length f1) × (4 ≤ 48) × (0 < x)
+    pub give-file-asks : {f1 : List ℕ} → f1 ≡ unlinkedFrom File (tables [] (s .dirTable) (s .fileHash) (s .fileTable)) x .fileTable → (x * 48 + 48 ≤ length f1) × (4 ≤ 48) × (0 < x)
     give-file-asks {f1} e =
         (omega (arith, file-listed s R x gone-file .inside, same-files (s .dirTable) (s .fileHash) (s .fileTable) x f1 e), omega arith, gone-file .0)
 
-    pub file-opens : length (s .fileTable) / 48 ≤ length opens → (i : ℕ) → i ≡ x → i < length opens
-    file-opens room i q = let l : x < field 48 (s .fileTable) 0 1 = gone-file .1 in omega (arith, R .sound .files .table .count-max, R .sound .files .table .max-room)
+    pub file-counted : AllCounted opens (kindRoom File s) → Counted opens x
+    file-counted room = let l : x < field 48 (s .fileTable) 0 1 = gone-file .1 in omega (arith, R .sound .files .table .count-max, R .sound .files .table .max-room)
 
-  module _ (n : None (deleteDirTests s opens x)) where
+  module _ (n : None (deleteTests Directory s opens x)) where
     gone-dir : LiveIn (dirs s) x
     gone-dir = live-sure 40 (s .dirTable) x (n .0)
 
@@ -284,15 +288,15 @@ module _ (s : Tables) (R : Ready s) (opens : List ℕ) (x : ℕ) where
     pub delete-dir-asks : Single (s .dirHash) (s .dirTable) 40 × LiveAt 40 (s .dirTable) x × Listed (s .dirTable) 24 (s .dirTable) 40 x
     delete-dir-asks = (dir-single s R, gone-dir, dir-listed s R x gone-dir not-root)
 
-    pub give-dir-asks : {d1 : List ℕ} → d1 ≡ unlinkedDir (tables (s .dirHash) (s .dirTable) [] []) x .dirTable → (x * 40 + 40 ≤ length d1) × (4 ≤ 40) × (0 < x)
+    pub give-dir-asks : {d1 : List ℕ} → d1 ≡ unlinkedFrom Directory (tables (s .dirHash) (s .dirTable) [] []) x .dirTable → (x * 40 + 40 ≤ length d1) × (4 ≤ 40) × (0 < x)
     give-dir-asks {d1} e =
         (omega (arith, dir-listed s R x gone-dir not-root .inside, same-dirs (s .dirHash) (s .dirTable) x d1 e), omega arith, gone-dir .0)
 
-    pub dir-opens : length (s .dirTable) / 40 ≤ length opens → (i : ℕ) → i ≡ x → i < length opens
-    dir-opens room i q = let l : x < field 40 (s .dirTable) 0 1 = gone-dir .1 in omega (arith, R .sound .dirs .below .table .count-max, R .sound .dirs .below .table .max-room)
+    pub dir-counted : AllCounted opens (kindRoom Directory s) → Counted opens x
+    dir-counted room = let l : x < field 40 (s .dirTable) 0 1 = gone-dir .1 in omega (arith, R .sound .dirs .below .table .count-max, R .sound .dirs .below .table .max-room)
 
   module _ (p : ℕ) (name : List ℕ) where
-    module _ (n : None (renameFileTests s opens x p name)) where
+    module _ (n : None (renameTests File s opens x p name)) where
       moved-file : LiveIn (files s) x
       moved-file = live-sure 48 (s .fileTable) x (n .0)
 
@@ -305,7 +309,7 @@ module _ (s : Tables) (R : Ready s) (opens : List ℕ) (x : ℕ) where
       abbrev before-file : Tables
       before-file = tables [] (s .dirTable) (s .fileHash) (s .fileTable)
 
-      pub link-file-asks : {d1 h1 f1 : List ℕ} → d1 ≡ unlinkedFile before-file x .dirTable → h1 ≡ unlinkedFile before-file x .fileHash → f1 ≡ unlinkedFile before-file x .fileTable
+      pub link-file-asks : {d1 h1 f1 : List ℕ} → d1 ≡ unlinkedFrom File before-file x .dirTable → h1 ≡ unlinkedFrom File before-file x .fileHash → f1 ≡ unlinkedFrom File before-file x .fileTable
           → (x * 48 + 48 ≤ length f1) × (p * 40 + 40 ≤ length d1) × (0 < length h1 / 4)
       link-file-asks {d1} {h1} {f1} qd qh qf =
           let ed = same-file-dirs (s .dirTable) (s .fileHash) (s .fileTable) x d1 qd in
@@ -316,7 +320,7 @@ module _ (s : Tables) (R : Ready s) (opens : List ℕ) (x : ℕ) where
             subst (λ z. 0 < z / 4) (sym eh) (R .file-buckets),
           )
 
-    module _ (n : None (renameDirTests s opens x p name)) where
+    module _ (n : None (renameTests Directory s opens x p name)) where
       moved-dir : LiveIn (dirs s) x
       moved-dir = live-sure 40 (s .dirTable) x (n .0)
 
@@ -329,7 +333,7 @@ module _ (s : Tables) (R : Ready s) (opens : List ℕ) (x : ℕ) where
       abbrev before-dir : Tables
       before-dir = tables (s .dirHash) (s .dirTable) [] []
 
-      pub link-dir-asks : {h1 d1 : List ℕ} → h1 ≡ unlinkedDir before-dir x .dirHash → d1 ≡ unlinkedDir before-dir x .dirTable
+      pub link-dir-asks : {h1 d1 : List ℕ} → h1 ≡ unlinkedFrom Directory before-dir x .dirHash → d1 ≡ unlinkedFrom Directory before-dir x .dirTable
           → (x * 40 + 40 ≤ length d1) × (p * 40 + 40 ≤ length d1) × (0 < length h1 / 4)
       link-dir-asks {h1} {d1} qh qd =
           let eh = same-dir-hash (s .dirHash) (s .dirTable) x h1 qh in
@@ -338,3 +342,34 @@ module _ (s : Tables) (R : Ready s) (opens : List ℕ) (x : ℕ) where
             omega (arith, inside (s .dirTable) 40 p (field 40 (s .dirTable) 0 1) (dir-goal .1) (all-fit (s .dirHash) (s .dirTable) 40 (dir-single s R))),
             subst (λ z. 0 < z / 4) (sym eh) (R .dir-buckets),
           )
+
+-- ---- the ends of delete, for `search`: what the tests that passed, the steps and the open counts give together
+
+module _ (dh d h f opens : List ℕ) (x : ℕ) (j : Judged) where
+  pub delete-file-counted : ReadyOpens File (tables dh d h f) opens → JudgedBy (onceTests (alone 48 f) opens x) j → j ≡ Go → Counted opens x
+  delete-file-counted R J go = file-counted (tables dh d h f) (R .ready) opens x (passed (onceTests (alone 48 f) opens x) j J go) (R .counted)
+
+  pub delete-dir-counted : ReadyOpens Directory (tables dh d h f) opens → JudgedBy (deleteTests Directory (tables dh d [] []) opens x) j → j ≡ Go → Counted opens x
+  delete-dir-counted R J go = dir-counted (tables dh d h f) (R .ready) opens x (passed (deleteTests Directory (tables dh d [] []) opens x) j J go) (R .counted)
+
+module _ (dh d h f opens : List ℕ) (x : ℕ) (j : Judged) (go : j ≡ Go) where
+  abbrev here : Tables
+  here = tables dh d h f
+
+  module _ (J : JudgedBy (onceTests (files here) opens x) j) where
+    pub delete-file-done : (d′ h′ f1 f2 opens′ : List ℕ)
+        → (d′ ≡ unlinkedFrom File (tables [] d h f) x .dirTable) × (h′ ≡ unlinkedFrom File (tables [] d h f) x .fileHash) × (f1 ≡ unlinkedFrom File (tables [] d h f) x .fileTable)
+        → f2 ≡ wrote 48 f1 (giveWrites 48 (field 48 f1) x) → opens′ ≡ withOpen opens x 0
+        → First (deleteRows File here opens x) (deleteDone File here opens x) (changeGives Done (tables dh d′ h′ f2) opens′)
+    delete-file-done d′ h′ f1 f2 opens′ u e eo =
+        call-done (λ a. changeGives a here opens) (deleteDone File here opens x) (changeGives Done (tables dh d′ h′ f2) opens′) (onceTests (files here) opens x)
+        (passed (onceTests (files here) opens x) j J go) (deleted-file dh d h f d′ h′ f1 f2 opens opens′ x (u .0) (u .1) (u .2) e eo)
+
+  module _ (J : JudgedBy (deleteTests Directory here opens x) j) where
+    pub delete-dir-done : (h′ d1 d2 opens′ : List ℕ)
+        → (h′ ≡ unlinkedFrom Directory (tables dh d [] []) x .dirHash) × (d1 ≡ unlinkedFrom Directory (tables dh d [] []) x .dirTable)
+        → d2 ≡ wrote 40 d1 (giveWrites 40 (field 40 d1) x) → opens′ ≡ withOpen opens x 0
+        → First (deleteRows Directory here opens x) (deleteDone Directory here opens x) (changeGives Done (tables h′ d2 h f) opens′)
+    delete-dir-done h′ d1 d2 opens′ u e eo =
+        call-done (λ a. changeGives a here opens) (deleteDone Directory here opens x) (changeGives Done (tables h′ d2 h f) opens′) (deleteTests Directory here opens x)
+        (passed (deleteTests Directory here opens x) j J go) (deleted-dir dh d h f h′ d1 d2 opens opens′ x (u .0) (u .1) e eo)

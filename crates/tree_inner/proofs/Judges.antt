@@ -7,8 +7,8 @@ use Prim.Native.Nat.{ℕ, zero, suc, _+_, _-_, _*_, _/_, _%_, _≤_, _<_}
 use native.Mathlib.Omega.{arith}
 use native.Mathlib.Decide.{decLt}
 use lib.Dec.{eqb, leb}
-use lib.ListN.{length, getD}
-use borrow.Author.Tests.{eq-eqb, ne-eqb, eqb-true, eqb-false, le-leb, leb-true}
+use lib.ListN.{length}
+use borrow.Author.Tests.{not-true, not-false, eq-eqb, ne-eqb, le-leb, leb-true}
 use Rattle.order.specs.First.{Row, row, First}
 use Rattle.order.specs.Given.{Given, None}
 use Rattle.order.specs.declared.Answer.{Answer}
@@ -23,11 +23,14 @@ use Rattle.tree_table.specs.Steps.{freeOf}
 use Rattle.tree_table.specs.Chain.{linkAt, listAt, Ends, seekIn}
 use Rattle.tree_table.specs.declared.Hit.{Hit}
 use Rattle.tree_sound.specs.Sizes.{buckets}
-use Rattle.tree_promises.specs.Tables.{Tables, tables, dirs, files, HasOther, Has}
+use Rattle.tree_sound.specs.Tables.{Tables, tables}
+use Rattle.tree_promises.specs.declared.Kind.the-variants.{Directory}
+use Rattle.tree_promises.specs.Has.{HasOther, Has}
 use Rattle.order.specs.Giving.{giving}
-use Rattle.tree_promises.specs.Calls.{heldTests, deleteTests, deleteDirTests, opened}
-use Rattle.tree_promises.specs.Ready.{LiveAt, Single, alone, hashed}
-use Rattle.tree_inner.specs.Judge.{JudgedBy}
+use Rattle.tree_promises.specs.Calls.{heldTests, onceTests, deleteTests}
+use Rattle.tree_opens.specs.Opens.{opened, Counted}
+use Rattle.tree_promises.specs.inner.Ready.{LiveAt, Single, SingleOpens, alone, hashed}
+use Rattle.tree_inner.specs.inner.Judge.{JudgedBy}
 use Rattle.tree_inner.specs.declared.judge.Judged.{Judged}
 use Rattle.tree_inner.specs.declared.judge.Judged.the-variants.{Go, Refused}
 use Rattle.tree_inner.proofs.Lists.{inside, all-fit, bucket-ends, bucket-list, bucket-is}
@@ -83,51 +86,52 @@ pub live-sure : (w : ℕ) (t : List ℕ) (x : ℕ) → ((LiveAt w t x → ⊥) �
 live-sure w t x n =
     (less-sure 0 x (λ k. n (λ l. k (l .0))), less-sure x (field w t 0 1) (λ k. n (λ l. k (l .1))), λ m. n (λ l. l .2 m))
 
-module _ {h t : List ℕ} {w : ℕ} (S : Single h t w) (opens : List ℕ) (x : ℕ) where
-  pub held-none : {r : Bool} → Tells (LiveAt w t x) r → r ≡ false → Given (heldTests (alone w t) opens x) NotFound
-  held-none T e = inl (tells-not T e, refl)
+module _ (t : List ℕ) (w x : ℕ) (opens : List ℕ) (r : Bool) (T : Tells (LiveAt w t x) r) where
+  pub held-none : not r ≡ true → Given (heldTests (alone w t) opens x) NotFound
+  held-none e = inl (tells-not T (not-true r e), refl)
 
-  pub held-shut : {r : Bool} (i : ℕ) → Tells (LiveAt w t x) r → r ≡ true → i ≡ x → getD opens i 0 ≡ 0 → Given (heldTests (alone w t) opens x) NotOpen
-  held-shut i T e q g = inr (λ n. n (T .yes e), inl (subst (λ z. getD opens z 0 ≡ 0) q g, refl))
+  module _ (n : ℕ) (e : not r ≡ false) (count : n ≡ opened opens x) where
+    pub held-shut : n ≡ 0 → Given (heldTests (alone w t) opens x) NotOpen
+    held-shut g = inr (λ k. k (T .yes (not-false r e)), inl (sym count ∙ g, refl))
 
-  pub held-go : {r : Bool} (i : ℕ) → Tells (LiveAt w t x) r → r ≡ true → i ≡ x → (getD opens i 0 ≡ 0 → ⊥) → None (heldTests (alone w t) opens x)
-  held-go i T e q g = (λ n. n (T .yes e), (λ z. g (ap (λ y. getD opens y 0) q ∙ z), tt))
+    pub held-go : (n ≡ 0 → ⊥) → None (heldTests (alone w t) opens x)
+    held-go g = (λ k. k (T .yes (not-false r e)), (λ z. g (count ∙ z), tt))
 
-  module _ (n : None (heldTests (alone w t) opens x)) where
-    held-live : LiveAt w t x
-    held-live = live-sure w t x (n .0)
+module _ (t : List ℕ) (w x : ℕ) (opens : List ℕ) (j : Judged) (J : JudgedBy (heldTests (alone w t) opens x) j) (go : j ≡ Go) where
+  held : None (heldTests (alone w t) opens x)
+  held = passed (heldTests (alone w t) opens x) j J go
 
-    pub held-opens : length t / w ≤ length opens → (i : ℕ) → i ≡ x → i < length opens
-    held-opens room i q = let l : x < field w t 0 1 = held-live .1 in omega (arith, S .table .count-max, S .table .max-room)
+  pub held-counted : (h : List ℕ) → SingleOpens h t w opens → Counted opens x
+  held-counted h S =
+      let l : x < field w t 0 1 = live-sure w t x (held .0) .1 in omega (arith, S .single .table .count-max, S .single .table .max-room, S .counted)
 
-    pub once-busy : (i : ℕ) → i ≡ x → 1 < getD opens i 0 → Given (deleteTests (alone w t) opens x) Busy
-    once-busy i q g = given-behind (heldTests (alone w t) opens x) (row (1 < opened opens x) Busy ∷ []) Busy n (inl (subst (λ z. 1 < getD opens z 0) q g, refl))
+  module _ (n : ℕ) (count : n ≡ opened opens x) where
+    pub once-busy : 1 < n → Given (onceTests (alone w t) opens x) Busy
+    once-busy g = given-behind (heldTests (alone w t) opens x) (row (1 < opened opens x) Busy ∷ []) Busy held (inl (omega arith, refl))
 
-    pub once-go : (i : ℕ) → i ≡ x → getD opens i 0 ≤ 1 → None (deleteTests (alone w t) opens x)
-    once-go i q g =
-        none-both (heldTests (alone w t) opens x) (row (1 < opened opens x) Busy ∷ []) n
-        (λ (k : 1 < getD opens x 0). omega (arith, ap (λ z. getD opens z 0) q), tt)
+    pub once-go : n ≤ 1 → None (onceTests (alone w t) opens x)
+    once-go g = none-both (heldTests (alone w t) opens x) (row (1 < opened opens x) Busy ∷ []) held (λ (k : 1 < opened opens x). omega arith, tt)
 
 -- the tests of one table by itself are those of the table among the four
-module _ {h d : List ℕ} (S : Single h d 40) (opens : List ℕ) (x : ℕ) (n : None (deleteTests (alone 40 d) opens x)) where
+module _ {h d : List ℕ} (S : Single h d 40) (opens : List ℕ) (x : ℕ) (n : None (onceTests (alone 40 d) opens x)) where
   abbrev s : Tables
   s = tables h d [] []
 
   pub once-fits : x * 40 + 40 ≤ length d
   once-fits = let l = live-sure 40 d x (n .0) in inside d 40 x (field 40 d 0 1) (l .1) (all-fit h d 40 S)
 
-  pub dir-root : x ≡ 1 → Given (deleteDirTests s opens x) DeletingRoot
+  pub dir-root : x ≡ 1 → Given (deleteTests Directory s opens x) DeletingRoot
   dir-root e = inr (n .0, inr (n .1 .0, inr (n .1 .1 .0, inl (e, refl))))
 
-  pub dir-dirs : (u : ℕ) → (x ≡ 1 → ⊥) → u ≡ linkAt d 40 24 x → (u ≡ 0 → ⊥) → Given (deleteDirTests s opens x) NotEmpty
+  pub dir-dirs : (u : ℕ) → (x ≡ 1 → ⊥) → u ≡ linkAt d 40 24 x → (u ≡ 0 → ⊥) → Given (deleteTests Directory s opens x) NotEmpty
   unfolding field
   dir-dirs u r e z = inr (n .0, inr (n .1 .0, inr (n .1 .1 .0, inr (r, inl (inl (omega arith), refl)))))
 
-  pub dir-files : (u : ℕ) → (x ≡ 1 → ⊥) → u ≡ linkAt d 40 28 x → (u ≡ 0 → ⊥) → Given (deleteDirTests s opens x) NotEmpty
+  pub dir-files : (u : ℕ) → (x ≡ 1 → ⊥) → u ≡ linkAt d 40 28 x → (u ≡ 0 → ⊥) → Given (deleteTests Directory s opens x) NotEmpty
   unfolding field
   dir-files u r e z = inr (n .0, inr (n .1 .0, inr (n .1 .1 .0, inr (r, inl (inr (omega arith), refl)))))
 
-  pub dir-go : (u v : ℕ) → (x ≡ 1 → ⊥) → u ≡ linkAt d 40 24 x → u ≡ 0 → v ≡ linkAt d 40 28 x → v ≡ 0 → None (deleteDirTests s opens x)
+  pub dir-go : (u v : ℕ) → (x ≡ 1 → ⊥) → u ≡ linkAt d 40 24 x → u ≡ 0 → v ≡ linkAt d 40 28 x → v ≡ 0 → None (deleteTests Directory s opens x)
   unfolding field
   dir-go u v r eu zu ev zv =
       (n .0, (n .1 .0, (n .1 .1 .0, (r, (⊎-elim (λ (k : 0 < linkAt d 40 24 x). omega arith) (λ (k : 0 < linkAt d 40 28 x). omega arith), tt)))))

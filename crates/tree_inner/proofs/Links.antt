@@ -15,10 +15,11 @@ use Rattle.tree_table.specs.View.{hashAt, place, parent}
 use Rattle.tree_table.specs.Steps.{enterWrites, cutWrites, headWrites, bucketBefore, childBefore}
 use Rattle.tree_table.specs.Chain.{linkAt}
 use Rattle.tree_table.proofs.Cases.{wrote-append}
-use Rattle.tree_promises.specs.Tables.{Tables, tables, dirs, files}
-use Rattle.tree_promises.specs.Steps.{linkedDir, linkedFile, unlinkedDir, unlinkedFile}
-use Rattle.tree_promises.specs.Ready.{hashed}
-use Rattle.tree_inner.specs.Seat.{headOf, InBucket, InList}
+use Rattle.tree_sound.specs.Tables.{Tables, tables, dirs, files}
+use Rattle.tree_promises.specs.declared.Kind.the-variants.{Directory, File}
+use Rattle.tree_promises.specs.Steps.{linkedTo, unlinkedFrom}
+use Rattle.tree_promises.specs.inner.Ready.{hashed}
+use Rattle.tree_inner.specs.inner.Seat.{headOf, InBucket, InList}
 use Rattle.tree_inner.specs.declared.step.Seat.{Seat}
 use Rattle.tree_inner.specs.declared.step.Child.{Child}
 
@@ -46,7 +47,7 @@ module _ (h d h′ d1 d2 : List ℕ) (x : ℕ) (b : Seat) (l : Child) (B : InBuc
   abbrev s : Tables
   s = tables h d [] []
 
-  pub unlinked-dir : (h′ ≡ unlinkedDir (tables h d [] []) x .dirHash) × (d2 ≡ unlinkedDir (tables h d [] []) x .dirTable)
+  pub unlinked-dir : (h′ ≡ unlinkedFrom Directory (tables h d [] []) x .dirHash) × (d2 ≡ unlinkedFrom Directory (tables h d [] []) x .dirTable)
   unfolding field
   unlinked-dir = (
     eh ∙ cut-hash h (B .before) (B .bucket) (B .after),
@@ -70,7 +71,7 @@ module _ (h d f h′ d′ f1 f2 : List ℕ) (x : ℕ) (b : Seat) (l : Child) (B 
   abbrev q : Tables
   q = tables [] d h f
 
-  pub unlinked-file : (d′ ≡ unlinkedFile (tables [] d h f) x .dirTable) × (h′ ≡ unlinkedFile (tables [] d h f) x .fileHash) × (f2 ≡ unlinkedFile (tables [] d h f) x .fileTable)
+  pub unlinked-file : (d′ ≡ unlinkedFrom File (tables [] d h f) x .dirTable) × (h′ ≡ unlinkedFrom File (tables [] d h f) x .fileHash) × (f2 ≡ unlinkedFrom File (tables [] d h f) x .fileTable)
   unfolding field
   unlinked-file = (
     ed ∙ head-list 40 d 8 (L .before) (L .up) (L .after),
@@ -105,13 +106,13 @@ module _ (h h′ : List ℕ) (x p b first next : ℕ) (name : List ℕ) (key : S
 
   pub linked-dir : (d d1 d2 : List ℕ) → next ≡ linkAt d 40 24 p
       → d1 ≡ wrote 40 d (enterWrites x (key .parent) (key .name0) (key .name1) (key .name2) (key .name3) next first) → d2 ≡ putWord d1 (p * 40 + 24) x
-      → (h′ ≡ linkedDir (tables h d [] []) x p name .dirHash) × (d2 ≡ linkedDir (tables h d [] []) x p name .dirTable)
+      → (h′ ≡ linkedTo Directory (tables h d [] []) x p name .dirHash) × (d2 ≡ linkedTo Directory (tables h d [] []) x p name .dirTable)
   unfolding field
   linked-dir d d1 d2 en e1 e2 =
       (hash-is, e2 ∙ ap (λ z. putWord z (p * 40 + 24) x) (e1 ∙ entered-is 40 d (linkAt d 40 24 p) en))
 
   pub linked-file : (d d′ f f1 : List ℕ) → next ≡ linkAt d 40 28 p
       → f1 ≡ wrote 48 f (enterWrites x (key .parent) (key .name0) (key .name1) (key .name2) (key .name3) next first) → d′ ≡ putWord d (p * 40 + 28) x
-      → (d′ ≡ linkedFile (tables [] d h f) x p name .dirTable) × (h′ ≡ linkedFile (tables [] d h f) x p name .fileHash) × (f1 ≡ linkedFile (tables [] d h f) x p name .fileTable)
+      → (d′ ≡ linkedTo File (tables [] d h f) x p name .dirTable) × (h′ ≡ linkedTo File (tables [] d h f) x p name .fileHash) × (f1 ≡ linkedTo File (tables [] d h f) x p name .fileTable)
   unfolding field
   linked-file d d′ f f1 en e1 ed = (ed, hash-is, e1 ∙ entered-is 48 f (linkAt d 40 28 p) en)

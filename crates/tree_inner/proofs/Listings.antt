@@ -18,8 +18,8 @@ use Rattle.tree_table.specs.View.{View, childrenOf, removedOf, LiveIn}
 use Rattle.tree_table.specs.Steps.{freeOf}
 use Rattle.tree_table.specs.Chain.{listAt, Ends}
 use Rattle.order.specs.Tells.{Tells}
-use Rattle.tree_promises.specs.Tables.{Tables, dirs, files}
-use Rattle.tree_promises.specs.Ready.{Ready, LiveAt, Single, alone}
+use Rattle.tree_sound.specs.Tables.{Tables, dirs, files}
+use Rattle.tree_promises.specs.inner.Ready.{Ready, LiveAt, Single, alone}
 use Rattle.tree_promises.specs.Calls.{Listing, listGives, shortRows, listedDone, ListDirs, ListFiles, part}
 use Rattle.tree_inner.proofs.Lists.{inside, all-fit, removed-ends, removed-list, child-ends, child-list, dir-single, file-single}
 use Rattle.tree_inner.proofs.Live.{count-word, first-fits}

@@ -13,10 +13,11 @@ use Rattle.tree_table.specs.Field.{field}
 use Rattle.tree_table.specs.View.{View, viewOf, hashAt, removedOf, bucketOf, childrenOf, LiveIn}
 use Rattle.tree_table.specs.Chain.{linkAt, listAt, Ends}
 use Rattle.tree_table.proofs.Chain.{list-is, ends}
-use Rattle.tree_sound.specs.Sound.{Table, Sound, up}
-use Rattle.tree_promises.specs.Tables.{Tables, dirs, files, above}
+use Rattle.tree_sound.specs.Sound.{Table, up}
+use Rattle.tree_sound.specs.Tables.{Tables, dirs, files}
+use Rattle.tree_promises.specs.Has.{above}
 use Rattle.tree_sound.specs.Sizes.{buckets}
-use Rattle.tree_promises.specs.Ready.{Ready, LiveAt, Single}
+use Rattle.tree_promises.specs.inner.Ready.{Ready, LiveAt, Single}
 
 -- entry y of a table with room for more lies in it
 pub inside : (t : List ℕ) (w y count : ℕ) → y < count → count * w ≤ length t → y * w + w ≤ length t

@@ -18,7 +18,7 @@ use Rattle.tree_table.proofs.Chain.{key-part, member-in, in-member}
 use Rattle.tree_sound.specs.Sizes.{buckets}
 use Rattle.order.specs.Tells.{Tells}
 use Rattle.tree_test.proofs.Cases.{told-false}
-use Rattle.tree_promises.specs.Ready.{LiveAt, Single}
+use Rattle.tree_promises.specs.inner.Ready.{LiveAt, Single}
 use Rattle.tree_inner.proofs.Lists.{inside, all-fit, bucket-ends, bucket-list, bucket-is}
 
 pub hash-word : (h : List ℕ) (b : ℕ) → word h (b * 4) ≡ hashAt h b

@@ -20,8 +20,8 @@ use Rattle.tree_table.specs.View.{View, keyAt, hashAt, bucketOf, place, LiveIn}
 use Rattle.tree_table.specs.Chain.{listAt, seekIn}
 use Rattle.tree_table.specs.declared.Hit.{Hit}
 use Rattle.tree_sound.specs.Sizes.{buckets}
-use Rattle.tree_promises.specs.Tables.{Has}
-use Rattle.tree_promises.specs.Ready.{LiveAt, Single, hashed}
+use Rattle.tree_promises.specs.Has.{Has}
+use Rattle.tree_promises.specs.inner.Ready.{LiveAt, Single, hashed}
 use Rattle.tree_promises.specs.Calls.{Lookup, lookupRows, lookupDone, lookupGives}
 use Rattle.tree_inner.proofs.Lists.{bucket-list, bucket-is}
 use Rattle.tree_inner.proofs.Live.{hash-word, in-hash}

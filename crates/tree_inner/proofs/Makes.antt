@@ -7,7 +7,8 @@ use Prim.Native.Nat.{ℕ, zero, suc, _+_, _-_, _*_, _/_, _%_, _≤_, _<_}
 use native.Mathlib.Omega.{arith}
 use native.Mathlib.Nat.{mul-le-mul-right, suc-mul, div-mul-le-self}
 use lib.Dec.{eqb}
-use lib.ListN.{length, set}
+use lib.ListN.{length}
+use Rattle.order.specs.First.{First}
 use Rattle.order.specs.Given.{None}
 use Rattle.order.specs.declared.Answer.the-variants.{Done}
 use Rattle.words.specs.Word.{putWord}
@@ -19,14 +20,21 @@ use Rattle.tree_table.specs.Field.{field, write, wrote}
 use Rattle.tree_table.specs.View.{removedOf, LiveIn}
 use Rattle.tree_table.specs.Steps.{taken, takeWrites, freeOf}
 use Rattle.tree_table.proofs.Field.{length-wrote}
-use Rattle.tree_promises.specs.Tables.{Tables, tables, dirs, files}
-use Rattle.tree_promises.specs.Steps.{linkedDir, linkedFile, carriedDir, carriedFile, childless, madeDir, madeFile}
-use Rattle.tree_promises.specs.Calls.{makeTests, makeGives, makeDirDone, makeFileDone}
-use Rattle.tree_promises.specs.Ready.{Ready, LiveAt, Single, alone, hashed}
-use Rattle.tree_inner.specs.Take.{Takes}
+use Rattle.tree_opens.specs.Opens.{withOpen, Counted, AllCounted}
+use Rattle.tree_promises.specs.Kinds.{kindRoom}
+use Rattle.tree_sound.specs.Tables.{Tables, tables, dirs, files}
+use Rattle.tree_promises.specs.declared.Kind.the-variants.{Directory, File}
+use Rattle.tree_promises.specs.Steps.{linkedTo, withCarried, childless, made}
+use Rattle.tree_promises.specs.Calls.{makeTests, makeRows, makeGives, makeDone}
+use Rattle.tree_promises.specs.inner.Ready.{Ready, ReadyOpens, LiveAt, Single, alone, hashed}
+use Rattle.tree_inner.specs.inner.Take.{Takes}
 use Rattle.tree_inner.proofs.Lists.{inside, all-fit, dir-single, file-single}
 use Rattle.tree_inner.proofs.Live.{first-fits}
-use Rattle.tree_inner.proofs.Judges.{live-sure}
+use Rattle.tree_inner.specs.inner.Judge.{JudgedBy}
+use Rattle.tree_inner.specs.declared.judge.Judged.{Judged}
+use Rattle.tree_inner.specs.declared.judge.Judged.the-variants.{Go}
+use Rattle.tree_inner.proofs.Judges.{live-sure, passed}
+use Rattle.tree_inner.proofs.Changes.{call-done}
 
 -- a list that does not start at 0 holds its first entry
 first-in : (next : ℕ → ℕ) (h : ℕ) (xs : List ℕ) → Links next h xs → h ≢ 0 → h ∈ xs
@@ -89,11 +97,11 @@ module _ (s : Tables) (R : Ready s) (p : ℕ) (k : List ℕ) where
   pub new-dir-asks : None (makeTests s (dirs s) p k) → Takes 40 (s .dirTable) × (p * 40 + 40 ≤ length (s .dirTable)) × (0 < length (s .dirHash) / 4)
   new-dir-asks n = (takes (dir-single s R) (n .1 .1 .0), parent-fits (live-sure 40 (s .dirTable) p (n .0)), R .dir-buckets)
 
-  pub new-file-opens : None (makeTests s (files s) p k) → (opens : List ℕ) → length (s .fileTable) / 48 ≤ length opens → (x i : ℕ) → x ≡ taken (files s) → i ≡ x → i < length opens
-  new-file-opens n opens room x i ex ei = omega (arith, takes (file-single s R) (n .1 .1 .0) .low)
+  pub new-file-counted : None (makeTests s (files s) p k) → (opens : List ℕ) → AllCounted opens (kindRoom File s) → (x : ℕ) → x ≡ taken (files s) → Counted opens x
+  new-file-counted n opens room x ex = omega (arith, takes (file-single s R) (n .1 .1 .0) .low)
 
-  pub new-dir-opens : None (makeTests s (dirs s) p k) → (opens : List ℕ) → length (s .dirTable) / 40 ≤ length opens → (x i : ℕ) → x ≡ taken (dirs s) → i ≡ x → i < length opens
-  new-dir-opens n opens room x i ex ei = omega (arith, takes (dir-single s R) (n .1 .1 .0) .low)
+  pub new-dir-counted : None (makeTests s (dirs s) p k) → (opens : List ℕ) → AllCounted opens (kindRoom Directory s) → (x : ℕ) → x ≡ taken (dirs s) → Counted opens x
+  new-dir-counted n opens room x ex = omega (arith, takes (dir-single s R) (n .1 .1 .0) .low)
 
 -- what the code has made
 
@@ -107,44 +115,85 @@ pub taken-fits : (w : ℕ) (t t1 : List ℕ) (x : ℕ) → Takes w t → x ≡ t
 taken-fits w t t1 x T ex e = omega (arith, subst (λ z. z * w + w ≤ length t) (sym ex) (T .inside), same-took w t t1 e)
 
 pub made-file : (d h f f1 d2 h2 f2 f3 : List ℕ) (x p : ℕ) (name carried : List ℕ) → x ≡ taken (alone 48 f) → f1 ≡ took 48 f
-    → d2 ≡ linkedFile (tables [] d h f1) x p name .dirTable → h2 ≡ linkedFile (tables [] d h f1) x p name .fileHash → f2 ≡ linkedFile (tables [] d h f1) x p name .fileTable
-    → f3 ≡ carriedFile (tables [] [] [] f2) x carried .fileTable
-    → (d2 ≡ madeFile (tables [] d h f) p name carried .dirTable) × (h2 ≡ madeFile (tables [] d h f) p name carried .fileHash) × (f3 ≡ madeFile (tables [] d h f) p name carried .fileTable)
+    → d2 ≡ linkedTo File (tables [] d h f1) x p name .dirTable → h2 ≡ linkedTo File (tables [] d h f1) x p name .fileHash → f2 ≡ linkedTo File (tables [] d h f1) x p name .fileTable
+    → f3 ≡ withCarried File (tables [] [] [] f2) x carried .fileTable
+    → (d2 ≡ made File (tables [] d h f) p name carried .dirTable) × (h2 ≡ made File (tables [] d h f) p name carried .fileHash) × (f3 ≡ made File (tables [] d h f) p name carried .fileTable)
 made-file d h f f1 d2 h2 f2 f3 x p name carried ex e1 ed eh ef e3 = (
-  ed ∙ ap₂ (λ y z. linkedFile (tables [] d h y) z p name .dirTable) e1 ex,
-  eh ∙ ap₂ (λ y z. linkedFile (tables [] d h y) z p name .fileHash) e1 ex,
+  ed ∙ ap₂ (λ y z. linkedTo File (tables [] d h y) z p name .dirTable) e1 ex,
+  eh ∙ ap₂ (λ y z. linkedTo File (tables [] d h y) z p name .fileHash) e1 ex,
   e3
-      ∙ ap (λ z. carriedFile (tables [] [] [] z) x carried .fileTable) (ef ∙ ap₂ (λ y z. linkedFile (tables [] d h y) z p name .fileTable) e1 ex)
-      ∙ ap (λ z. carriedFile (tables [] [] [] (linkedFile (tables [] d h (took 48 f)) (taken (alone 48 f)) p name .fileTable)) z carried .fileTable) ex,
+      ∙ ap (λ z. withCarried File (tables [] [] [] z) x carried .fileTable) (ef ∙ ap₂ (λ y z. linkedTo File (tables [] d h y) z p name .fileTable) e1 ex)
+      ∙ ap (λ z. withCarried File (tables [] [] [] (linkedTo File (tables [] d h (took 48 f)) (taken (alone 48 f)) p name .fileTable)) z carried .fileTable) ex,
 )
 
 pub made-dir : (h d d1 d2 h3 d3 d4 : List ℕ) (x p : ℕ) (name padding : List ℕ) → x ≡ taken (alone 40 d) → d1 ≡ took 40 d
     → d2 ≡ wrote 40 d1 (write x 7 0 ∷ write x 8 0 ∷ [])
-    → h3 ≡ linkedDir (tables h d2 [] []) x p name .dirHash → d3 ≡ linkedDir (tables h d2 [] []) x p name .dirTable
-    → d4 ≡ carriedDir (tables [] d3 [] []) x padding .dirTable
-    → (h3 ≡ madeDir (tables h d [] []) p name padding .dirHash) × (d4 ≡ madeDir (tables h d [] []) p name padding .dirTable)
+    → h3 ≡ linkedTo Directory (tables h d2 [] []) x p name .dirHash → d3 ≡ linkedTo Directory (tables h d2 [] []) x p name .dirTable
+    → d4 ≡ withCarried Directory (tables [] d3 [] []) x padding .dirTable
+    → (h3 ≡ made Directory (tables h d [] []) p name padding .dirHash) × (d4 ≡ made Directory (tables h d [] []) p name padding .dirTable)
 made-dir h d d1 d2 h3 d3 d4 x p name padding ex e1 e2 eh ed e4 =
     let c : d2 ≡ wrote 40 (took 40 d) (write (taken (alone 40 d)) 7 0 ∷ write (taken (alone 40 d)) 8 0 ∷ []) =
     e2 ∙ ap₂ (λ y z. wrote 40 y (write z 7 0 ∷ write z 8 0 ∷ [])) e1 ex in (
-      eh ∙ ap₂ (λ y z. linkedDir (tables h y [] []) z p name .dirHash) c ex,
+      eh ∙ ap₂ (λ y z. linkedTo Directory (tables h y [] []) z p name .dirHash) c ex,
       e4
-          ∙ ap₂ (λ y z. carriedDir (tables [] y [] []) z padding .dirTable) (ed ∙ ap₂ (λ y z. linkedDir (tables h y [] []) z p name .dirTable) c ex) ex,
+          ∙ ap₂ (λ y z. withCarried Directory (tables [] y [] []) z padding .dirTable) (ed ∙ ap₂ (λ y z. linkedTo Directory (tables h y [] []) z p name .dirTable) c ex) ex,
     )
 
 -- and what the call gives
-pub gave-file : (dh d h f d′ h′ f′ opens : List ℕ) (x i p : ℕ) (name carried : List ℕ) → x ≡ taken (alone 48 f) → i ≡ x
-    → d′ ≡ madeFile (tables [] d h f) p name carried .dirTable → h′ ≡ madeFile (tables [] d h f) p name carried .fileHash → f′ ≡ madeFile (tables [] d h f) p name carried .fileTable
-    → makeGives Done x (tables dh d′ h′ f′) (set opens i 1) ≡ makeFileDone (tables dh d h f) opens p name carried
-gave-file dh d h f d′ h′ f′ opens x i p name carried ex ei ed eh ef =
-    ap (λ z. makeGives Done x (tables dh d′ h′ f′) (set opens z 1)) ei
-    ∙ ap (λ z. makeGives Done z (tables dh d′ h′ f′) (set opens z 1)) ex
-    ∙ ap (λ z. makeGives Done (taken (alone 48 f)) (tables dh z h′ f′) (set opens (taken (alone 48 f)) 1)) ed
-    ∙ ap₂ (λ y z. makeGives Done (taken (alone 48 f)) (tables dh (madeFile (tables [] d h f) p name carried .dirTable) y z) (set opens (taken (alone 48 f)) 1)) eh ef
+pub gave-file : (dh d h f d′ h′ f′ opens opens′ : List ℕ) (x p : ℕ) (name carried : List ℕ) → x ≡ taken (alone 48 f)
+    → d′ ≡ made File (tables [] d h f) p name carried .dirTable → h′ ≡ made File (tables [] d h f) p name carried .fileHash → f′ ≡ made File (tables [] d h f) p name carried .fileTable
+    → opens′ ≡ withOpen opens x 1
+    → makeGives Done x (tables dh d′ h′ f′) opens′ ≡ makeDone File (tables dh d h f) opens p name carried
+gave-file dh d h f d′ h′ f′ opens opens′ x p name carried ex ed eh ef eo =
+    ap (λ z. makeGives Done x (tables dh d′ h′ f′) z) eo
+    ∙ ap (λ z. makeGives Done z (tables dh d′ h′ f′) (withOpen opens z 1)) ex
+    ∙ ap (λ z. makeGives Done (taken (alone 48 f)) (tables dh z h′ f′) (withOpen opens (taken (alone 48 f)) 1)) ed
+    ∙ ap₂ (λ y z. makeGives Done (taken (alone 48 f)) (tables dh (made File (tables [] d h f) p name carried .dirTable) y z) (withOpen opens (taken (alone 48 f)) 1)) eh ef
 
-pub gave-dir : (h d fh f h′ d′ opens : List ℕ) (x i p : ℕ) (name padding : List ℕ) → x ≡ taken (alone 40 d) → i ≡ x
-    → h′ ≡ madeDir (tables h d [] []) p name padding .dirHash → d′ ≡ madeDir (tables h d [] []) p name padding .dirTable
-    → makeGives Done x (tables h′ d′ fh f) (set opens i 1) ≡ makeDirDone (tables h d fh f) opens p name padding
-gave-dir h d fh f h′ d′ opens x i p name padding ex ei eh ed =
-    ap (λ z. makeGives Done x (tables h′ d′ fh f) (set opens z 1)) ei
-    ∙ ap (λ z. makeGives Done z (tables h′ d′ fh f) (set opens z 1)) ex
-    ∙ ap₂ (λ y z. makeGives Done (taken (alone 40 d)) (tables y z fh f) (set opens (taken (alone 40 d)) 1)) eh ed
+pub gave-dir : (h d fh f h′ d′ opens opens′ : List ℕ) (x p : ℕ) (name padding : List ℕ) → x ≡ taken (alone 40 d)
+    → h′ ≡ made Directory (tables h d [] []) p name padding .dirHash → d′ ≡ made Directory (tables h d [] []) p name padding .dirTable
+    → opens′ ≡ withOpen opens x 1
+    → makeGives Done x (tables h′ d′ fh f) opens′ ≡ makeDone Directory (tables h d fh f) opens p name padding
+gave-dir h d fh f h′ d′ opens opens′ x p name padding ex eh ed eo =
+    ap (λ z. makeGives Done x (tables h′ d′ fh f) z) eo
+    ∙ ap (λ z. makeGives Done z (tables h′ d′ fh f) (withOpen opens z 1)) ex
+    ∙ ap₂ (λ y z. makeGives Done (taken (alone 40 d)) (tables y z fh f) (withOpen opens (taken (alone 40 d)) 1)) eh ed
+
+-- ---- the ends of make, for `search`
+
+module _ (dh d h f opens : List ℕ) (p : ℕ) (name : List ℕ) (j : Judged) (x : ℕ) where
+  pub make-file-counted : ReadyOpens File (tables dh d h f) opens → JudgedBy (makeTests (tables dh d [] []) (hashed 48 h f) p (nameKey p name)) j → j ≡ Go
+      → x ≡ taken (alone 48 f) → Counted opens x
+  make-file-counted R J go e =
+      new-file-counted (tables dh d h f) (R .ready) p (nameKey p name) (passed (makeTests (tables dh d [] []) (hashed 48 h f) p (nameKey p name)) j J go) opens
+      (R .counted) x e
+
+  pub make-dir-counted : ReadyOpens Directory (tables dh d h f) opens → JudgedBy (makeTests (tables dh d [] []) (hashed 40 dh d) p (nameKey p name)) j → j ≡ Go
+      → x ≡ taken (alone 40 d) → Counted opens x
+  make-dir-counted R J go e =
+      new-dir-counted (tables dh d h f) (R .ready) p (nameKey p name) (passed (makeTests (tables dh d [] []) (hashed 40 dh d) p (nameKey p name)) j J go) opens
+      (R .counted) x e
+
+module _ (dh d h f opens : List ℕ) (p : ℕ) (name : List ℕ) (j : Judged) (go : j ≡ Go) where
+  abbrev here : Tables
+  here = tables dh d h f
+
+  module _ (J : JudgedBy (makeTests here (files here) p (nameKey p name)) j) (d′ h′ f′ : List ℕ) (x : ℕ) (carried : List ℕ)
+      (new : (x ≡ taken (alone 48 f)) × (d′ ≡ made File (tables [] d h f) p name carried .dirTable)
+      × (h′ ≡ made File (tables [] d h f) p name carried .fileHash) × (f′ ≡ made File (tables [] d h f) p name carried .fileTable)) where
+    pub make-file-done : (opens′ : List ℕ) → opens′ ≡ withOpen opens x 1
+        → First (makeRows here (files here) opens p (nameKey p name)) (makeDone File here opens p name carried) (makeGives Done x (tables dh d′ h′ f′) opens′)
+    make-file-done opens′ eo =
+        call-done (λ a. makeGives a 0 here opens) (makeDone File here opens p name carried) (makeGives Done x (tables dh d′ h′ f′) opens′)
+        (makeTests here (files here) p (nameKey p name)) (passed (makeTests here (files here) p (nameKey p name)) j J go)
+        (gave-file dh d h f d′ h′ f′ opens opens′ x p name carried (new .0) (new .1) (new .2) (new .3) eo)
+
+  module _ (J : JudgedBy (makeTests here (dirs here) p (nameKey p name)) j) (h′ d′ : List ℕ) (x : ℕ) (padding : List ℕ)
+      (new : (x ≡ taken (alone 40 d)) × (h′ ≡ made Directory (tables dh d [] []) p name padding .dirHash)
+      × (d′ ≡ made Directory (tables dh d [] []) p name padding .dirTable)) where
+    pub make-dir-done : (opens′ : List ℕ) → opens′ ≡ withOpen opens x 1
+        → First (makeRows here (dirs here) opens p (nameKey p name)) (makeDone Directory here opens p name padding) (makeGives Done x (tables h′ d′ h f) opens′)
+    make-dir-done opens′ eo =
+        call-done (λ a. makeGives a 0 here opens) (makeDone Directory here opens p name padding) (makeGives Done x (tables h′ d′ h f) opens′)
+        (makeTests here (dirs here) p (nameKey p name)) (passed (makeTests here (dirs here) p (nameKey p name)) j J go)
+        (gave-dir dh d h f h′ d′ opens opens′ x p name padding (new .0) (new .1) (new .2) eo)

@@ -1,52 +1,55 @@
 -- The rows of open and close, by the places of their code.
 use mathlib.Core.Path.{_≡_, refl, sym, ap, _∙_, subst}
-use mathlib.Core.Bool.{Bool, true, false}
+use mathlib.Core.Bool.{Bool, true, false, not}
 use mathlib.Core.List.{List, [], _∷_}
 use mathlib.Core.Logic.{_⊎_, inl, inr}
 use Prim.Native.Nat.{ℕ, _+_, _-_, _*_, _/_, _≤_, _<_}
-use native.Mathlib.Nat.{lt-of-not-le}
 use native.Mathlib.Omega.{arith}
-use lib.ListN.{length, getD, set, take, drop}
-use Rattle.order.specs.First.{First, row}
+use borrow.Author.Tests.{not-true, not-false}
+use lib.ListN.{length, take, drop}
+use Rattle.order.specs.First.{Row, First}
+use Rattle.order.specs.Giving.{giving}
 use Rattle.order.specs.declared.Answer.{Answer}
 use Rattle.order.specs.declared.Answer.the-variants.{Done, NotFound, NotOpen, TooManyOpens}
 use Rattle.tree_table.specs.Field.{field}
 use Rattle.order.specs.Tells.{Tells}
 use Rattle.tree_test.proofs.Cases.{tells-not}
-use Rattle.tree_promises.specs.Tables.{Tables, tables, dirs, files}
-use Rattle.tree_promises.specs.Steps.{carriedDir, carriedFile}
-use Rattle.tree_promises.specs.Ready.{LiveAt, Single, alone, setGives}
-use Rattle.tree_promises.specs.Calls.{openRows, openDone, closeRows, closeDone, openingGives, part, shownRows, shownGives, carryRows, carryGives, carryDirDone, carryFileDone}
+use Rattle.tree_opens.specs.Opens.{opened, withOpen, Counted}
+use Rattle.tree_sound.specs.Tables.{Tables, tables, dirs, files}
+use Rattle.tree_promises.specs.declared.Kind.the-variants.{Directory, File}
+use Rattle.tree_promises.specs.Steps.{withCarried}
+use Rattle.tree_promises.specs.inner.Ready.{LiveAt, Single, SingleOpens, alone, SetOne, setGives, setRows}
+use Rattle.tree_promises.specs.Calls.{liveTests, openRows, openDone, closeRows, closeDone, openingGives, part, shownRows, shownGives, carryRows, carryGives, carryDone}
 use Rattle.tree_inner.proofs.Lists.{inside, all-fit}
 
-module _ {h t : List ℕ} {w : ℕ} (S : Single h t w) (opens : List ℕ) (room : length t / w ≤ length opens) (x : ℕ) where
-  -- a live inode has an open count
-  pub in-opens : {r : Bool} (i : ℕ) → Tells (LiveAt w t x) r → r ≡ true → i ≡ x → i < length opens
-  in-opens i T e q = let l : x < field w t 0 1 = T .yes e .1 in omega (arith, S .table .count-max, S .table .max-room)
+-- a live inode has an open count
+pub live-counted : (h t : List ℕ) (w : ℕ) (opens : List ℕ) (x : ℕ) (r : Bool) → SingleOpens h t w opens → Tells (LiveAt w t x) r → not r ≡ false → Counted opens x
+live-counted h t w opens x r S T e =
+    let l : x < field w t 0 1 = T .yes (not-false r e) .1 in omega (arith, S .single .table .count-max, S .single .table .max-room, S .counted)
 
-  pub open-none : {r : Bool} → Tells (LiveAt w t x) r → r ≡ false → First (openRows (alone w t) opens x) (openDone opens x) (openingGives NotFound opens)
-  open-none T e = inl (tells-not T e, refl)
+module _ (t : List ℕ) (w x : ℕ) (opens : List ℕ) (r : Bool) (T : Tells (LiveAt w t x) r) where
+  pub open-none : not r ≡ true → First (openRows (alone w t) opens x) (openDone opens x) (openingGives NotFound opens)
+  open-none e = inl (tells-not T (not-true r e), refl)
 
-  pub open-full : {r : Bool} (i : ℕ) → Tells (LiveAt w t x) r → r ≡ true → i ≡ x → 65535 ≤ getD opens i 0
-      → First (openRows (alone w t) opens x) (openDone opens x) (openingGives TooManyOpens opens)
-  open-full i T e q g = inr (λ n. n (T .yes e), inl (subst (λ z. 65535 ≤ getD opens z 0) q g, refl))
+  pub close-none : not r ≡ true → First (closeRows (alone w t) opens x) (closeDone opens x) (openingGives NotFound opens)
+  close-none e = inl (tells-not T (not-true r e), refl)
 
-  pub open-done : {r : Bool} (i : ℕ) → Tells (LiveAt w t x) r → r ≡ true → i ≡ x → getD opens i 0 < 65535
-      → First (openRows (alone w t) opens x) (openDone opens x) (openingGives Done (set opens i (getD opens i 0 + 1)))
-  open-done i T e q g =
-      inr (λ n. n (T .yes e), inr (λ k. omega (arith, ap (λ z. getD opens z 0) q), ap (λ z. openingGives Done (set opens z (getD opens z 0 + 1))) q))
+  module _ (n : ℕ) (e : not r ≡ false) (count : n ≡ opened opens x) where
+    pub open-full : 65535 ≤ n → First (openRows (alone w t) opens x) (openDone opens x) (openingGives TooManyOpens opens)
+    open-full g = inr (λ k. k (T .yes (not-false r e)), inl (omega arith, refl))
 
-  pub close-none : {r : Bool} → Tells (LiveAt w t x) r → r ≡ false → First (closeRows (alone w t) opens x) (closeDone opens x) (openingGives NotFound opens)
-  close-none T e = inl (tells-not T e, refl)
+    pub open-done : (opens′ : List ℕ) → n < 65535 → opens′ ≡ withOpen opens x (n + 1)
+        → First (openRows (alone w t) opens x) (openDone opens x) (openingGives Done opens′)
+    open-done opens′ g q =
+        inr (λ k. k (T .yes (not-false r e)), inr (λ k. omega arith, ap (openingGives Done) (q ∙ ap (λ z. withOpen opens x (z + 1)) count)))
 
-  pub close-shut : {r : Bool} (i : ℕ) → Tells (LiveAt w t x) r → r ≡ true → i ≡ x → getD opens i 0 ≡ 0
-      → First (closeRows (alone w t) opens x) (closeDone opens x) (openingGives NotOpen opens)
-  close-shut i T e q g = inr (λ n. n (T .yes e), inl (subst (λ z. getD opens z 0 ≡ 0) q g, refl))
+    pub close-shut : n ≡ 0 → First (closeRows (alone w t) opens x) (closeDone opens x) (openingGives NotOpen opens)
+    close-shut g = inr (λ k. k (T .yes (not-false r e)), inl (sym count ∙ g, refl))
 
-  pub close-done : {r : Bool} (i : ℕ) → Tells (LiveAt w t x) r → r ≡ true → i ≡ x → (getD opens i 0 ≡ 0 → ⊥)
-      → First (closeRows (alone w t) opens x) (closeDone opens x) (openingGives Done (set opens i (getD opens i 0 - 1)))
-  close-done i T e q g =
-      inr (λ n. n (T .yes e), inr (λ k. g (ap (λ z. getD opens z 0) q ∙ k), ap (λ z. openingGives Done (set opens z (getD opens z 0 - 1))) q))
+    pub close-done : (opens′ : List ℕ) → (n ≡ 0 → ⊥) → opens′ ≡ withOpen opens x (n - 1)
+        → First (closeRows (alone w t) opens x) (closeDone opens x) (openingGives Done opens′)
+    close-done opens′ g q =
+        inr (λ k. k (T .yes (not-false r e)), inr (λ k. g (count ∙ k), ap (openingGives Done) (q ∙ ap (λ z. withOpen opens x (z - 1)) count)))
 
 module _ {h t : List ℕ} {w : ℕ} (S : Single h t w) (x i : ℕ) {r : Bool} (T : Tells (LiveAt w t x) r) (yes : r ≡ true) (e : i ≡ x) where
   -- a live entry lies in the table
@@ -59,19 +62,23 @@ module _ {h t : List ℕ} {w : ℕ} (S : Single h t w) (x i : ℕ) {r : Bool} (T
   shown at many bytes none q =
       inr (λ n. n (T .yes yes), ap (shownGives Done) (q ∙ ap (λ z. take many (drop (z * w + at) t)) e))
 
--- open counts that are not too short
-pub enough : {P : Type 0} (a b : ℕ) → (P ⊎ (a < b) → ⊥) → b ≤ a
-enough a b f = let h : b < a + 1 = lt-of-not-le (λ (k : a + 1 ≤ b). f (inr (omega arith))) in omega arith
+-- what is given, seen otherwise: the rows stay
+seen : {A B : Type 0} (look : A → B) (g : Answer → A) (tests : List (Row Answer)) (d o : A) → First (giving g tests) d o → First (giving (λ a. look (g a)) tests) (look d) (look o)
+seen look g [] d o p = ap look p
+seen look g (r ∷ rs) d o (inl p) = inl (p .0, ap look (p .1))
+seen look g (r ∷ rs) d o (inr p) = inr (p .0, seen look g rs d o (p .1))
 
 -- carried bytes set in one table, as a change of the four
 pub set-dir : (s : Tables) (x : ℕ) (bytes : List ℕ) (a : Answer) (t : List ℕ)
-    → First (row (LiveAt 40 (s .dirTable) x → ⊥) (setGives NotFound (s .dirTable)) ∷ []) (setGives Done (carriedDir (tables [] (s .dirTable) [] []) x bytes .dirTable)) (setGives a t)
-    → First (carryRows s (dirs s) x) (carryDirDone s x bytes) (carryGives a (tables (s .dirHash) t (s .fileHash) (s .fileTable)))
-set-dir s x bytes a t (inl p) = inl (p .0, ap (λ z. carryGives (z .answer) (tables (s .dirHash) (z .table) (s .fileHash) (s .fileTable))) (p .1))
-set-dir s x bytes a t (inr p) = inr (p .0, ap (λ z. carryGives (z .answer) (tables (s .dirHash) (z .table) (s .fileHash) (s .fileTable))) (p .1))
+    → First (setRows 40 (s .dirTable) x) (setGives Done (withCarried Directory (tables [] (s .dirTable) [] []) x bytes .dirTable)) (setGives a t)
+    → First (carryRows s (dirs s) x) (carryDone Directory s x bytes) (carryGives a (tables (s .dirHash) t (s .fileHash) (s .fileTable)))
+set-dir s x bytes a t p =
+    seen (λ (z : SetOne). carryGives (z .answer) (tables (s .dirHash) (z .table) (s .fileHash) (s .fileTable))) (λ a. setGives a (s .dirTable)) (liveTests (dirs s) x)
+    (setGives Done (withCarried Directory (tables [] (s .dirTable) [] []) x bytes .dirTable)) (setGives a t) p
 
 pub set-file : (s : Tables) (x : ℕ) (bytes : List ℕ) (a : Answer) (t : List ℕ)
-    → First (row (LiveAt 48 (s .fileTable) x → ⊥) (setGives NotFound (s .fileTable)) ∷ []) (setGives Done (carriedFile (tables [] [] [] (s .fileTable)) x bytes .fileTable)) (setGives a t)
-    → First (carryRows s (files s) x) (carryFileDone s x bytes) (carryGives a (tables (s .dirHash) (s .dirTable) (s .fileHash) t))
-set-file s x bytes a t (inl p) = inl (p .0, ap (λ z. carryGives (z .answer) (tables (s .dirHash) (s .dirTable) (s .fileHash) (z .table))) (p .1))
-set-file s x bytes a t (inr p) = inr (p .0, ap (λ z. carryGives (z .answer) (tables (s .dirHash) (s .dirTable) (s .fileHash) (z .table))) (p .1))
+    → First (setRows 48 (s .fileTable) x) (setGives Done (withCarried File (tables [] [] [] (s .fileTable)) x bytes .fileTable)) (setGives a t)
+    → First (carryRows s (files s) x) (carryDone File s x bytes) (carryGives a (tables (s .dirHash) (s .dirTable) (s .fileHash) t))
+set-file s x bytes a t p =
+    seen (λ (z : SetOne). carryGives (z .answer) (tables (s .dirHash) (s .dirTable) (s .fileHash) (z .table))) (λ a. setGives a (s .fileTable)) (liveTests (files s) x)
+    (setGives Done (withCarried File (tables [] [] [] (s .fileTable)) x bytes .fileTable)) (setGives a t) p

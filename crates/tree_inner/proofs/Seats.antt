@@ -18,8 +18,8 @@ use Rattle.tree_table.specs.Steps.{bucketBefore}
 use Rattle.tree_table.specs.Chain.{linkAt, listAt, Ends}
 use Rattle.tree_table.proofs.Chain.{key-part}
 use Rattle.tree_sound.specs.Sizes.{buckets}
-use Rattle.tree_promises.specs.Ready.{LiveAt, Single, hashed}
-use Rattle.tree_inner.specs.Seat.{headOf, Listed, InBucket, InList}
+use Rattle.tree_promises.specs.inner.Ready.{LiveAt, Single, hashed}
+use Rattle.tree_inner.specs.inner.Seat.{headOf, Listed, InBucket, InList}
 use Rattle.tree_inner.specs.declared.step.Seat.{Seat}
 use Rattle.tree_inner.proofs.Lists.{inside, all-fit, bucket-ends, bucket-list, bucket-is}
 use Rattle.tree_inner.proofs.Live.{first-fits, in-hash}

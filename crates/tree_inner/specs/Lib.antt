@@ -1,3 +1,1 @@
-pub mod Judge
-pub mod Seat
-pub mod Take
+pub mod inner

@@ -4,11 +4,12 @@ ghost use mathlib.Core.List.{[], _∷_};
 ghost use Prim.Native.Nat.{_+_, _*_, _≤_};
 ghost use lib.ListN.{length, take, drop, replicate};
 ghost use Rattle.words.specs.Word.{word, putWord};
-ghost use Rattle.order.specs.First.{First, row};
-ghost use Rattle.order.specs.declared.Answer.the-variants.{Done, NotFound};
-ghost use Rattle.tree_promises.specs.Tables.{tables};
-ghost use Rattle.tree_promises.specs.Steps.{carriedDir, carriedFile};
-ghost use Rattle.tree_promises.specs.Ready.{LiveAt, Single, alone, setGives};
+ghost use Rattle.order.specs.First.{First};
+ghost use Rattle.order.specs.declared.Answer.the-variants.{Done};
+ghost use Rattle.tree_sound.specs.Tables.{Tables, tables};
+ghost use Rattle.tree_promises.specs.declared.Kind.the-variants.{Directory, File};
+ghost use Rattle.tree_promises.specs.Steps.{withCarried};
+ghost use Rattle.tree_promises.specs.inner.Ready.{Single, alone, setGives, setRows};
 ghost use Rattle.tree_promises.specs.Calls.{part, shownRows, shownGives};
 use crate::look::live;
 use order::Answer;
@@ -40,7 +41,7 @@ fn bytes4(table: &[u8], at: usize) -> [u8; 4]
 // Writes the four bytes that a directory carries.
 pub fn put_carried_dir(dirs: &mut [u8], x: u32, padding: &[u8; 4])
     requires { ⌜ x * 40 + 40 ≤ length (now dirs) ⌝ }
-    ensures { λ _. ⌜ now (dirs .exit) ≡ carriedDir (tables [] (now (dirs .entry)) [] []) x (now (padding .entry)) .dirTable ⌝ }
+    ensures { λ _. ⌜ now (dirs .exit) ≡ withCarried Directory (tables [] (now (dirs .entry)) [] []) x (now (padding .entry)) .dirTable ⌝ }
 {
     let v = words::get_u32(padding, 0);
     tree_table::put_link(dirs, SaveExtDirEntry::WIDTH, SaveExtDirEntry::CARRIED, x, v);
@@ -64,7 +65,7 @@ fn put_part(files: &mut [u8], x: u32, carried: &[u8; 20], i: usize)
 // Writes the twenty bytes that a file carries.
 pub fn put_carried_file(files: &mut [u8], x: u32, carried: &[u8; 20])
     requires { ⌜ x * 48 + 48 ≤ length (now files) ⌝ }
-    ensures { λ _. ⌜ now (files .exit) ≡ carriedFile (tables [] [] [] (now (files .entry))) x (now (carried .entry)) .fileTable ⌝ }
+    ensures { λ _. ⌜ now (files .exit) ≡ withCarried File (tables [] [] [] (now (files .entry))) x (now (carried .entry)) .fileTable ⌝ }
 {
     put_part(files, x, carried, 0);
     put_part(files, x, carried, 4);
@@ -124,7 +125,8 @@ pub fn carried_file(hash: &[u8], table: &[u8], x: u32) -> CarriedFile
 // Writes the four bytes that directory x carries.
 pub fn set_carried_dir(hash: &[u8], table: &mut [u8], x: u32, padding: [u8; 4]) -> Answer
     requires { ⌜ Single (now hash) (now table) 40 ⌝ }
-    ensures { λ r. ⌜ First (row (LiveAt 40 (now (table .entry)) x → ⊥) (setGives NotFound (now (table .entry))) ∷ []) (setGives Done (carriedDir (tables [] (now (table .entry)) [] []) x padding .dirTable)) (setGives r (now (table .exit))) ⌝ }
+    ensures { λ r. ⌜ (let s : Tables = tables [] (now (table .entry)) [] [] in
+        First (setRows 40 (now (table .entry)) x) (setGives Done (withCarried Directory s x padding .dirTable)) (setGives r (now (table .exit)))) ⌝ }
 {
     if !live(hash, table, SaveExtDirEntry::WIDTH, x) {
         return Answer::NotFound;
@@ -136,7 +138,8 @@ pub fn set_carried_dir(hash: &[u8], table: &mut [u8], x: u32, padding: [u8; 4]) 
 // Writes the twenty bytes that file x carries.
 pub fn set_carried_file(hash: &[u8], table: &mut [u8], x: u32, carried: [u8; 20]) -> Answer
     requires { ⌜ Single (now hash) (now table) 48 ⌝ }
-    ensures { λ r. ⌜ First (row (LiveAt 48 (now (table .entry)) x → ⊥) (setGives NotFound (now (table .entry))) ∷ []) (setGives Done (carriedFile (tables [] [] [] (now (table .entry))) x carried .fileTable)) (setGives r (now (table .exit))) ⌝ }
+    ensures { λ r. ⌜ (let s : Tables = tables [] [] [] (now (table .entry)) in
+        First (setRows 48 (now (table .entry)) x) (setGives Done (withCarried File s x carried .fileTable)) (setGives r (now (table .exit)))) ⌝ }
 {
     if !live(hash, table, SaveExtFileEntry::WIDTH, x) {
         return Answer::NotFound;

@@ -4,9 +4,10 @@ ghost use mathlib.Core.List.{[], _∷_};
 ghost use Prim.Native.Nat.{_+_, _*_, _/_, _≤_, _<_};
 ghost use lib.ListN.{length};
 ghost use Rattle.order.specs.First.{First};
-ghost use Rattle.tree_promises.specs.Tables.{tables};
-ghost use Rattle.tree_promises.specs.Calls.{changeGives, deleteFileRows, deleteFileDone, deleteDirRows, deleteDirDone, renameFileRows, renameFileDone, renameDirRows, renameDirDone};
-ghost use Rattle.tree_promises.specs.Ready.{Ready};
+ghost use Rattle.tree_sound.specs.Tables.{Tables, tables};
+ghost use Rattle.tree_promises.specs.declared.Kind.the-variants.{Directory, File};
+ghost use Rattle.tree_promises.specs.Calls.{changeGives, deleteRows, deleteDone, renameRows, renameDone};
+ghost use Rattle.tree_promises.specs.inner.Ready.{ReadyOpens};
 use crate::judge::Judged;
 use crate::judge::judge_delete;
 use crate::judge::judge_delete_dir;
@@ -29,9 +30,9 @@ pub fn delete_file(
     opens: &mut [u32],
     x: u32,
 ) -> Answer
-    requires { ⌜ Ready (tables (now «dir_hash») (now dirs) (now hash) (now files)) × (length (now files) / 48 ≤ length (now opens)) ⌝ }
-    ensures { λ r. ⌜ First (deleteFileRows (tables (now («dir_hash» .entry)) (now (dirs .entry)) (now (hash .entry)) (now (files .entry))) (now (opens .entry)) x)
-        (deleteFileDone (tables (now («dir_hash» .entry)) (now (dirs .entry)) (now (hash .entry)) (now (files .entry))) (now (opens .entry)) x)
+    requires { ⌜ ReadyOpens File (tables (now «dir_hash») (now dirs) (now hash) (now files)) (now opens) ⌝ }
+    ensures { λ r. ⌜ First (deleteRows File (tables (now («dir_hash» .entry)) (now (dirs .entry)) (now (hash .entry)) (now (files .entry))) (now (opens .entry)) x)
+        (deleteDone File (tables (now («dir_hash» .entry)) (now (dirs .entry)) (now (hash .entry)) (now (files .entry))) (now (opens .entry)) x)
         (changeGives r (tables (now («dir_hash» .entry)) (now (dirs .exit)) (now (hash .exit)) (now (files .exit))) (now (opens .exit))) ⌝ }
 {
     let judged = judge_delete(hash, files, SaveExtFileEntry::WIDTH, opens, x);
@@ -40,7 +41,7 @@ pub fn delete_file(
         Judged::Go => {
             unlink_file(dirs, hash, files, x);
             tree_table::give(files, SaveExtFileEntry::WIDTH, x);
-            opens[tree_table::index(x)] = 0;
+            tree_opens::put_record(opens, x, 0);
             Answer::Done
         }
     }
@@ -55,9 +56,9 @@ pub fn delete_dir(
     opens: &mut [u32],
     x: u32,
 ) -> Answer
-    requires { ⌜ Ready (tables (now hash) (now dirs) (now «file_hash») (now files)) × (length (now dirs) / 40 ≤ length (now opens)) ⌝ }
-    ensures { λ r. ⌜ First (deleteDirRows (tables (now (hash .entry)) (now (dirs .entry)) (now («file_hash» .entry)) (now (files .entry))) (now (opens .entry)) x)
-        (deleteDirDone (tables (now (hash .entry)) (now (dirs .entry)) (now («file_hash» .entry)) (now (files .entry))) (now (opens .entry)) x)
+    requires { ⌜ ReadyOpens Directory (tables (now hash) (now dirs) (now «file_hash») (now files)) (now opens) ⌝ }
+    ensures { λ r. ⌜ First (deleteRows Directory (tables (now (hash .entry)) (now (dirs .entry)) (now («file_hash» .entry)) (now (files .entry))) (now (opens .entry)) x)
+        (deleteDone Directory (tables (now (hash .entry)) (now (dirs .entry)) (now («file_hash» .entry)) (now (files .entry))) (now (opens .entry)) x)
         (changeGives r (tables (now (hash .exit)) (now (dirs .exit)) (now («file_hash» .entry)) (now (files .entry))) (now (opens .exit))) ⌝ }
 {
     let judged = judge_delete_dir(hash, dirs, opens, x);
@@ -66,7 +67,7 @@ pub fn delete_dir(
         Judged::Go => {
             unlink_dir(hash, dirs, x);
             tree_table::give(dirs, SaveExtDirEntry::WIDTH, x);
-            opens[tree_table::index(x)] = 0;
+            tree_opens::put_record(opens, x, 0);
             Answer::Done
         }
     }
@@ -83,10 +84,11 @@ pub fn rename_file(
     parent: u32,
     name: &[u8; 16],
 ) -> Answer
-    requires { ⌜ Ready (tables (now «dir_hash») (now dirs) (now hash) (now files)) × (length (now files) / 48 ≤ length (now opens)) ⌝ }
-    ensures { λ r. ⌜ First (renameFileRows (tables (now («dir_hash» .entry)) (now (dirs .entry)) (now (hash .entry)) (now (files .entry))) (now (opens .entry)) x parent (now (name .entry)))
-        (renameFileDone (tables (now («dir_hash» .entry)) (now (dirs .entry)) (now (hash .entry)) (now (files .entry))) (now (opens .entry)) x parent (now (name .entry)))
-        (changeGives r (tables (now («dir_hash» .entry)) (now (dirs .exit)) (now (hash .exit)) (now (files .exit))) (now (opens .entry))) ⌝ }
+    requires { ⌜ ReadyOpens File (tables (now «dir_hash») (now dirs) (now hash) (now files)) (now opens) ⌝ }
+    ensures { λ r. ⌜ (let s : Tables = tables (now («dir_hash» .entry)) (now (dirs .entry)) (now (hash .entry)) (now (files .entry)) in
+        First (renameRows File s (now (opens .entry)) x parent (now (name .entry)))
+        (renameDone File s (now (opens .entry)) x parent (now (name .entry)))
+        (changeGives r (tables (now («dir_hash» .entry)) (now (dirs .exit)) (now (hash .exit)) (now (files .exit))) (now (opens .entry)))) ⌝ }
 {
     let judged = judge_rename_file(dir_hash, dirs, hash, files, opens, x, parent, name);
     match judged {
@@ -110,10 +112,11 @@ pub fn rename_dir(
     parent: u32,
     name: &[u8; 16],
 ) -> Answer
-    requires { ⌜ Ready (tables (now hash) (now dirs) (now «file_hash») (now files)) × (length (now dirs) / 40 ≤ length (now opens)) ⌝ }
-    ensures { λ r. ⌜ First (renameDirRows (tables (now (hash .entry)) (now (dirs .entry)) (now («file_hash» .entry)) (now (files .entry))) (now (opens .entry)) x parent (now (name .entry)))
-        (renameDirDone (tables (now (hash .entry)) (now (dirs .entry)) (now («file_hash» .entry)) (now (files .entry))) (now (opens .entry)) x parent (now (name .entry)))
-        (changeGives r (tables (now (hash .exit)) (now (dirs .exit)) (now («file_hash» .entry)) (now (files .entry))) (now (opens .entry))) ⌝ }
+    requires { ⌜ ReadyOpens Directory (tables (now hash) (now dirs) (now «file_hash») (now files)) (now opens) ⌝ }
+    ensures { λ r. ⌜ (let s : Tables = tables (now (hash .entry)) (now (dirs .entry)) (now («file_hash» .entry)) (now (files .entry)) in
+        First (renameRows Directory s (now (opens .entry)) x parent (now (name .entry)))
+        (renameDone Directory s (now (opens .entry)) x parent (now (name .entry)))
+        (changeGives r (tables (now (hash .exit)) (now (dirs .exit)) (now («file_hash» .entry)) (now (files .entry))) (now (opens .entry)))) ⌝ }
 {
     let judged = judge_rename_dir(hash, dirs, file_hash, files, opens, x, parent, name);
     match judged {

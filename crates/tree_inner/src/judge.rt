@@ -7,10 +7,12 @@ ghost use Rattle.tree_key.specs.Key.{keyWords, nameKey};
 ghost use Rattle.order.specs.Tells.{Tells};
 ghost use Rattle.tree_table.specs.Field.{field};
 ghost use Rattle.tree_table.specs.Steps.{freeOf};
-ghost use Rattle.tree_promises.specs.Tables.{tables, dirs, files, HasOther};
-ghost use Rattle.tree_promises.specs.Calls.{heldTests, deleteTests, deleteDirTests, renameFileTests, renameDirTests, makeTests};
-ghost use Rattle.tree_promises.specs.Ready.{Ready, Single, alone, hashed};
-ghost use Rattle.tree_inner.specs.Judge.{JudgedBy};
+ghost use Rattle.tree_sound.specs.Tables.{Tables, tables, dirs, files};
+ghost use Rattle.tree_promises.specs.declared.Kind.the-variants.{Directory, File};
+ghost use Rattle.tree_promises.specs.Has.{HasOther};
+ghost use Rattle.tree_promises.specs.Calls.{heldTests, onceTests, deleteTests, renameTests, makeTests};
+ghost use Rattle.tree_promises.specs.inner.Ready.{ReadyOpens, Single, SingleOpens, alone, hashed};
+ghost use Rattle.tree_inner.specs.inner.Judge.{JudgedBy};
 use crate::look::live;
 use order::Answer;
 use tree_key::SaveExtDirEntry;
@@ -25,7 +27,7 @@ pub enum Judged {
 
 // Whether inode x is live and open: NotFound, NotOpen.
 pub fn judge_held(hash: &[u8], table: &[u8], w: usize, opens: &[u32], x: u32) -> Judged
-    requires { ⌜ Single (now hash) (now table) w × (length (now table) / w ≤ length (now opens)) ⌝ }
+    requires { ⌜ SingleOpens (now hash) (now table) w (now opens) ⌝ }
     ensures { λ r. ⌜ JudgedBy (heldTests (alone w (now (table .entry))) (now (opens .entry)) x) r ⌝ }
 {
     if !live(hash, table, w, x) {
@@ -33,7 +35,7 @@ pub fn judge_held(hash: &[u8], table: &[u8], w: usize, opens: &[u32], x: u32) ->
             answer: Answer::NotFound,
         };
     }
-    if opens[tree_table::index(x)] == 0 {
+    if tree_opens::record_of(opens, x) == 0 {
         return Judged::Refused {
             answer: Answer::NotOpen,
         };
@@ -43,14 +45,14 @@ pub fn judge_held(hash: &[u8], table: &[u8], w: usize, opens: &[u32], x: u32) ->
 
 // Whether inode x is live and opened once: NotFound, NotOpen, Busy.
 pub fn judge_delete(hash: &[u8], table: &[u8], w: usize, opens: &[u32], x: u32) -> Judged
-    requires { ⌜ Single (now hash) (now table) w × (length (now table) / w ≤ length (now opens)) ⌝ }
-    ensures { λ r. ⌜ JudgedBy (deleteTests (alone w (now (table .entry))) (now (opens .entry)) x) r ⌝ }
+    requires { ⌜ SingleOpens (now hash) (now table) w (now opens) ⌝ }
+    ensures { λ r. ⌜ JudgedBy (onceTests (alone w (now (table .entry))) (now (opens .entry)) x) r ⌝ }
 {
     let held = judge_held(hash, table, w, opens, x);
     let Judged::Go = held else {
         return held;
     };
-    if opens[tree_table::index(x)] > 1 {
+    if tree_opens::record_of(opens, x) > 1 {
         return Judged::Refused {
             answer: Answer::Busy,
         };
@@ -60,8 +62,8 @@ pub fn judge_delete(hash: &[u8], table: &[u8], w: usize, opens: &[u32], x: u32) 
 
 // Whether directory x can be deleted: as judge_delete, then DeletingRoot, NotEmpty.
 pub fn judge_delete_dir(hash: &[u8], dirs: &[u8], opens: &[u32], x: u32) -> Judged
-    requires { ⌜ Single (now hash) (now dirs) 40 × (length (now dirs) / 40 ≤ length (now opens)) ⌝ }
-    ensures { λ r. ⌜ JudgedBy (deleteDirTests (tables (now (hash .entry)) (now (dirs .entry)) [] []) (now (opens .entry)) x) r ⌝ }
+    requires { ⌜ SingleOpens (now hash) (now dirs) 40 (now opens) ⌝ }
+    ensures { λ r. ⌜ JudgedBy (deleteTests Directory (tables (now (hash .entry)) (now (dirs .entry)) [] []) (now (opens .entry)) x) r ⌝ }
 {
     let once = judge_delete(hash, dirs, SaveExtDirEntry::WIDTH, opens, x);
     let Judged::Go = once else {
@@ -121,8 +123,9 @@ pub fn judge_rename_file(
     parent: u32,
     name: &[u8; 16],
 ) -> Judged
-    requires { ⌜ Ready (tables (now «dir_hash») (now dirs) (now hash) (now files)) × (length (now files) / 48 ≤ length (now opens)) ⌝ }
-    ensures { λ r. ⌜ JudgedBy (renameFileTests (tables (now («dir_hash» .entry)) (now (dirs .entry)) (now (hash .entry)) (now (files .entry))) (now (opens .entry)) x parent (now (name .entry))) r ⌝ }
+    requires { ⌜ ReadyOpens File (tables (now «dir_hash») (now dirs) (now hash) (now files)) (now opens) ⌝ }
+    ensures { λ r. ⌜ (let s : Tables = tables (now («dir_hash» .entry)) (now (dirs .entry)) (now (hash .entry)) (now (files .entry)) in
+        JudgedBy (renameTests File s (now (opens .entry)) x parent (now (name .entry))) r) ⌝ }
 {
     let held = judge_held(hash, files, SaveExtFileEntry::WIDTH, opens, x);
     let Judged::Go = held else {
@@ -158,8 +161,9 @@ pub fn judge_rename_dir(
     parent: u32,
     name: &[u8; 16],
 ) -> Judged
-    requires { ⌜ Ready (tables (now hash) (now dirs) (now «file_hash») (now files)) × (length (now dirs) / 40 ≤ length (now opens)) ⌝ }
-    ensures { λ r. ⌜ JudgedBy (renameDirTests (tables (now (hash .entry)) (now (dirs .entry)) (now («file_hash» .entry)) (now (files .entry))) (now (opens .entry)) x parent (now (name .entry))) r ⌝ }
+    requires { ⌜ ReadyOpens Directory (tables (now hash) (now dirs) (now «file_hash») (now files)) (now opens) ⌝ }
+    ensures { λ r. ⌜ (let s : Tables = tables (now (hash .entry)) (now (dirs .entry)) (now («file_hash» .entry)) (now (files .entry)) in
+        JudgedBy (renameTests Directory s (now (opens .entry)) x parent (now (name .entry))) r) ⌝ }
 {
     let held = judge_held(hash, dirs, SaveExtDirEntry::WIDTH, opens, x);
     let Judged::Go = held else {
@@ -205,7 +209,8 @@ pub fn judge_make(
     name: &[u8; 16],
 ) -> Judged
     requires { ⌜ Single (now «dir_hash») (now dirs) 40 × Single (now hash) (now table) w ⌝ }
-    ensures { λ r. ⌜ JudgedBy (makeTests (tables (now («dir_hash» .entry)) (now (dirs .entry)) [] []) (hashed w (now (hash .entry)) (now (table .entry))) parent (nameKey parent (now (name .entry)))) r ⌝ }
+    ensures { λ r. ⌜ (let s : Tables = tables (now («dir_hash» .entry)) (now (dirs .entry)) [] [] in
+        JudgedBy (makeTests s (hashed w (now (hash .entry)) (now (table .entry))) parent (nameKey parent (now (name .entry)))) r) ⌝ }
 {
     if !live(dir_hash, dirs, SaveExtDirEntry::WIDTH, parent) {
         return Judged::Refused {

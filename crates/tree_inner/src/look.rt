@@ -7,9 +7,9 @@ ghost use Rattle.tree_promises.specs.Calls.{openRows, openDone, closeRows, clos
 ghost use Rattle.order.specs.Tells.{Tells};
 ghost use Rattle.tree_table.specs.Chain.{listAt, Ends};
 ghost use Rattle.tree_table.specs.Steps.{freeOf};
-ghost use Rattle.tree_promises.specs.Tables.{tables};
+ghost use Rattle.tree_sound.specs.Tables.{Tables, tables};
 ghost use Rattle.tree_key.specs.Key.{keyWords};
-ghost use Rattle.tree_promises.specs.Ready.{Ready, LiveAt, Single, alone, hashed};
+ghost use Rattle.tree_promises.specs.inner.Ready.{Ready, LiveAt, Single, SingleOpens, alone, hashed};
 use order::Answer;
 use tree_key::SaveExtDirEntry;
 use tree_key::SaveExtFileEntry;
@@ -36,35 +36,33 @@ pub fn live(hash: &[u8], table: &[u8], w: usize, x: u32) -> bool
 
 // Adds 1 to the open count of inode x.
 pub fn open(hash: &[u8], table: &[u8], w: usize, opens: &mut [u32], x: u32) -> Answer
-    requires { ⌜ Single (now hash) (now table) w × (length (now table) / w ≤ length (now opens)) ⌝ }
+    requires { ⌜ SingleOpens (now hash) (now table) w (now opens) ⌝ }
     ensures { λ r. ⌜ First (openRows (alone w (now (table .entry))) (now (opens .entry)) x) (openDone (now (opens .entry)) x) (openingGives r (now (opens .exit))) ⌝ }
 {
     if !live(hash, table, w, x) {
         return Answer::NotFound;
     }
-    let i = tree_table::index(x);
-    let n = opens[i];
+    let n = tree_opens::record_of(opens, x);
     if n >= 65535 {
         return Answer::TooManyOpens;
     }
-    opens[i] = n + 1;
+    tree_opens::put_record(opens, x, n + 1);
     Answer::Done
 }
 
 // Takes 1 from the open count of inode x.
 pub fn close(hash: &[u8], table: &[u8], w: usize, opens: &mut [u32], x: u32) -> Answer
-    requires { ⌜ Single (now hash) (now table) w × (length (now table) / w ≤ length (now opens)) ⌝ }
+    requires { ⌜ SingleOpens (now hash) (now table) w (now opens) ⌝ }
     ensures { λ r. ⌜ First (closeRows (alone w (now (table .entry))) (now (opens .entry)) x) (closeDone (now (opens .entry)) x) (openingGives r (now (opens .exit))) ⌝ }
 {
     if !live(hash, table, w, x) {
         return Answer::NotFound;
     }
-    let i = tree_table::index(x);
-    let n = opens[i];
+    let n = tree_opens::record_of(opens, x);
     if n == 0 {
         return Answer::NotOpen;
     }
-    opens[i] = n - 1;
+    tree_opens::put_record(opens, x, n - 1);
     Answer::Done
 }
 
@@ -132,7 +130,8 @@ pub fn list_dirs(
     list: &mut [u32],
 ) -> Listed
     requires { ⌜ Ready (tables (now «dir_hash») (now «dir_table») (now «file_hash») (now «file_table»)) ⌝ }
-    ensures { λ r. ⌜ ListDirs (tables (now («dir_hash» .entry)) (now («dir_table» .entry)) (now («file_hash» .entry)) (now («file_table» .entry))) inode (now (list .entry)) (listGives (r .answer) (r .count) (now (list .exit))) ⌝ }
+    ensures { λ r. ⌜ (let s : Tables = tables (now («dir_hash» .entry)) (now («dir_table» .entry)) (now («file_hash» .entry)) (now («file_table» .entry)) in
+        ListDirs s inode (now (list .entry)) (listGives (r .answer) (r .count) (now (list .exit)))) ⌝ }
 {
     if !live(dir_hash, dir_table, SaveExtDirEntry::WIDTH, inode) {
         return Listed {
@@ -155,7 +154,8 @@ pub fn list_files(
     list: &mut [u32],
 ) -> Listed
     requires { ⌜ Ready (tables (now «dir_hash») (now «dir_table») (now «file_hash») (now «file_table»)) ⌝ }
-    ensures { λ r. ⌜ ListFiles (tables (now («dir_hash» .entry)) (now («dir_table» .entry)) (now («file_hash» .entry)) (now («file_table» .entry))) inode (now (list .entry)) (listGives (r .answer) (r .count) (now (list .exit))) ⌝ }
+    ensures { λ r. ⌜ (let s : Tables = tables (now («dir_hash» .entry)) (now («dir_table» .entry)) (now («file_hash» .entry)) (now («file_table» .entry)) in
+        ListFiles s inode (now (list .entry)) (listGives (r .answer) (r .count) (now (list .exit)))) ⌝ }
 {
     if !live(dir_hash, dir_table, SaveExtDirEntry::WIDTH, inode) {
         return Listed {
@@ -199,7 +199,8 @@ pub struct MetaStat {
 
 pub fn stat(dir_hash: &[u8], dir_table: &[u8], file_hash: &[u8], file_table: &[u8]) -> MetaStat
     requires { ⌜ Ready (tables (now «dir_hash») (now «dir_table») (now «file_hash») (now «file_table»)) ⌝ }
-    ensures { λ r. ⌜ statGives (r .answer) (r .«dir_total») (r .«dir_free») (r .«file_total») (r .«file_free») ≡ statDone (tables (now («dir_hash» .entry)) (now («dir_table» .entry)) (now («file_hash» .entry)) (now («file_table» .entry))) ⌝ }
+    ensures { λ r. ⌜ (let s : Tables = tables (now («dir_hash» .entry)) (now («dir_table» .entry)) (now («file_hash» .entry)) (now («file_table» .entry)) in
+        statGives (r .answer) (r .«dir_total») (r .«dir_free») (r .«file_total») (r .«file_free») ≡ statDone s) ⌝ }
 {
     MetaStat {
         answer: Answer::Done,

@@ -5,14 +5,15 @@ ghost use Prim.Native.Nat.{_+_, _*_, _/_, _≤_, _<_};
 ghost use lib.ListN.{length};
 ghost use Rattle.order.specs.First.{First};
 ghost use Rattle.tree_key.specs.Key.{nameKey};
-ghost use Rattle.tree_table.specs.Field.{write, wrote};
+ghost use Rattle.tree_table.specs.Field.{write, wrote, subDirField, subFileField};
 ghost use Rattle.tree_table.specs.Steps.{taken};
-ghost use Rattle.tree_promises.specs.Tables.{tables};
-ghost use Rattle.tree_promises.specs.Tables as views;
-ghost use Rattle.tree_promises.specs.Steps.{madeDir, madeFile};
-ghost use Rattle.tree_promises.specs.Calls.{makeGives, makeRows, makeDirDone, makeFileDone};
-ghost use Rattle.tree_promises.specs.Ready.{Ready, alone};
-ghost use Rattle.tree_inner.specs.Take.{Takes};
+ghost use Rattle.tree_sound.specs.Tables.{Tables, tables};
+ghost use Rattle.tree_sound.specs.Tables as views;
+ghost use Rattle.tree_promises.specs.declared.Kind.the-variants.{Directory, File};
+ghost use Rattle.tree_promises.specs.Steps.{made};
+ghost use Rattle.tree_promises.specs.Calls.{makeGives, makeRows, makeDone};
+ghost use Rattle.tree_promises.specs.inner.Ready.{ReadyOpens, alone};
+ghost use Rattle.tree_inner.specs.inner.Take.{Takes};
 use crate::carry::put_carried_dir;
 use crate::carry::put_carried_file;
 use crate::judge::Judged;
@@ -39,10 +40,10 @@ fn new_file(
     carried: &[u8; 20],
 ) -> u32
     requires { ⌜ Takes 48 (now files) × (parent * 40 + 40 ≤ length (now dirs)) × (0 < length (now hash) / 4) ⌝ }
-    ensures { λ r. ⌜ (r ≡ taken (alone 48 (now (files .entry))))
-        × (now (dirs .exit) ≡ madeFile (tables [] (now (dirs .entry)) (now (hash .entry)) (now (files .entry))) parent (now (name .entry)) (now (carried .entry)) .dirTable)
-        × (now (hash .exit) ≡ madeFile (tables [] (now (dirs .entry)) (now (hash .entry)) (now (files .entry))) parent (now (name .entry)) (now (carried .entry)) .fileHash)
-        × (now (files .exit) ≡ madeFile (tables [] (now (dirs .entry)) (now (hash .entry)) (now (files .entry))) parent (now (name .entry)) (now (carried .entry)) .fileTable) ⌝ }
+    ensures { λ r. ⌜ (let s : Tables = tables [] (now (dirs .entry)) (now (hash .entry)) (now (files .entry)) in
+        (r ≡ taken (alone 48 (now (files .entry)))) × (now (dirs .exit) ≡ made File s parent (now (name .entry)) (now (carried .entry)) .dirTable)
+        × (now (hash .exit) ≡ made File s parent (now (name .entry)) (now (carried .entry)) .fileHash)
+        × (now (files .exit) ≡ made File s parent (now (name .entry)) (now (carried .entry)) .fileTable)) ⌝ }
 {
     let x = tree_table::take(files, SaveExtFileEntry::WIDTH);
     link_file(dirs, hash, files, x, parent, name);
@@ -53,7 +54,7 @@ fn new_file(
 // A new directory has no children.
 fn put_childless(dirs: &mut [u8], x: u32)
     requires { ⌜ x * 40 + 40 ≤ length (now dirs) ⌝ }
-    ensures { λ _. ⌜ now (dirs .exit) ≡ wrote 40 (now (dirs .entry)) (write x 7 0 ∷ write x 8 0 ∷ []) ⌝ }
+    ensures { λ _. ⌜ now (dirs .exit) ≡ wrote 40 (now (dirs .entry)) (write x subDirField 0 ∷ write x subFileField 0 ∷ []) ⌝ }
 {
     tree_table::put_link(dirs, SaveExtDirEntry::WIDTH, SaveExtDirEntry::SUB_DIR, x, 0);
     tree_table::put_link(
@@ -69,8 +70,8 @@ fn put_childless(dirs: &mut [u8], x: u32)
 fn new_dir(hash: &mut [u8], dirs: &mut [u8], parent: u32, name: &[u8; 16], padding: &[u8; 4]) -> u32
     requires { ⌜ Takes 40 (now dirs) × (parent * 40 + 40 ≤ length (now dirs)) × (0 < length (now hash) / 4) ⌝ }
     ensures { λ r. ⌜ (r ≡ taken (alone 40 (now (dirs .entry))))
-        × (now (hash .exit) ≡ madeDir (tables (now (hash .entry)) (now (dirs .entry)) [] []) parent (now (name .entry)) (now (padding .entry)) .dirHash)
-        × (now (dirs .exit) ≡ madeDir (tables (now (hash .entry)) (now (dirs .entry)) [] []) parent (now (name .entry)) (now (padding .entry)) .dirTable) ⌝ }
+        × (now (hash .exit) ≡ made Directory (tables (now (hash .entry)) (now (dirs .entry)) [] []) parent (now (name .entry)) (now (padding .entry)) .dirHash)
+        × (now (dirs .exit) ≡ made Directory (tables (now (hash .entry)) (now (dirs .entry)) [] []) parent (now (name .entry)) (now (padding .entry)) .dirTable) ⌝ }
 {
     let x = tree_table::take(dirs, SaveExtDirEntry::WIDTH);
     put_childless(dirs, x);
@@ -90,10 +91,11 @@ pub fn make_file(
     name: &[u8; 16],
     carried: &[u8; 20],
 ) -> Made
-    requires { ⌜ Ready (tables (now «dir_hash») (now dirs) (now hash) (now files)) × (length (now files) / 48 ≤ length (now opens)) ⌝ }
-    ensures { λ r. ⌜ First (makeRows (tables (now («dir_hash» .entry)) (now (dirs .entry)) (now (hash .entry)) (now (files .entry))) (views.files (tables (now («dir_hash» .entry)) (now (dirs .entry)) (now (hash .entry)) (now (files .entry)))) (now (opens .entry)) parent (nameKey parent (now (name .entry))))
-        (makeFileDone (tables (now («dir_hash» .entry)) (now (dirs .entry)) (now (hash .entry)) (now (files .entry))) (now (opens .entry)) parent (now (name .entry)) (now (carried .entry)))
-        (makeGives (r .answer) (r .inode) (tables (now («dir_hash» .entry)) (now (dirs .exit)) (now (hash .exit)) (now (files .exit))) (now (opens .exit))) ⌝ }
+    requires { ⌜ ReadyOpens File (tables (now «dir_hash») (now dirs) (now hash) (now files)) (now opens) ⌝ }
+    ensures { λ r. ⌜ (let s : Tables = tables (now («dir_hash» .entry)) (now (dirs .entry)) (now (hash .entry)) (now (files .entry)) in
+        First (makeRows s (views.files s) (now (opens .entry)) parent (nameKey parent (now (name .entry))))
+        (makeDone File s (now (opens .entry)) parent (now (name .entry)) (now (carried .entry)))
+        (makeGives (r .answer) (r .inode) (tables (now («dir_hash» .entry)) (now (dirs .exit)) (now (hash .exit)) (now (files .exit))) (now (opens .exit)))) ⌝ }
 {
     let judged = judge_make(
         dir_hash,
@@ -108,7 +110,7 @@ pub fn make_file(
         Judged::Refused { answer } => Made { answer, inode: 0 },
         Judged::Go => {
             let x = new_file(dirs, hash, files, parent, name, carried);
-            opens[tree_table::index(x)] = 1;
+            tree_opens::put_record(opens, x, 1);
             Made {
                 answer: Answer::Done,
                 inode: x,
@@ -128,17 +130,18 @@ pub fn make_dir(
     name: &[u8; 16],
     padding: &[u8; 4],
 ) -> Made
-    requires { ⌜ Ready (tables (now hash) (now dirs) (now «file_hash») (now files)) × (length (now dirs) / 40 ≤ length (now opens)) ⌝ }
-    ensures { λ r. ⌜ First (makeRows (tables (now (hash .entry)) (now (dirs .entry)) (now («file_hash» .entry)) (now (files .entry))) (views.dirs (tables (now (hash .entry)) (now (dirs .entry)) (now («file_hash» .entry)) (now (files .entry)))) (now (opens .entry)) parent (nameKey parent (now (name .entry))))
-        (makeDirDone (tables (now (hash .entry)) (now (dirs .entry)) (now («file_hash» .entry)) (now (files .entry))) (now (opens .entry)) parent (now (name .entry)) (now (padding .entry)))
-        (makeGives (r .answer) (r .inode) (tables (now (hash .exit)) (now (dirs .exit)) (now («file_hash» .entry)) (now (files .entry))) (now (opens .exit))) ⌝ }
+    requires { ⌜ ReadyOpens Directory (tables (now hash) (now dirs) (now «file_hash») (now files)) (now opens) ⌝ }
+    ensures { λ r. ⌜ (let s : Tables = tables (now (hash .entry)) (now (dirs .entry)) (now («file_hash» .entry)) (now (files .entry)) in
+        First (makeRows s (views.dirs s) (now (opens .entry)) parent (nameKey parent (now (name .entry))))
+        (makeDone Directory s (now (opens .entry)) parent (now (name .entry)) (now (padding .entry)))
+        (makeGives (r .answer) (r .inode) (tables (now (hash .exit)) (now (dirs .exit)) (now («file_hash» .entry)) (now (files .entry))) (now (opens .exit)))) ⌝ }
 {
     let judged = judge_make(hash, dirs, hash, dirs, SaveExtDirEntry::WIDTH, parent, name);
     match judged {
         Judged::Refused { answer } => Made { answer, inode: 0 },
         Judged::Go => {
             let x = new_dir(hash, dirs, parent, name, padding);
-            opens[tree_table::index(x)] = 1;
+            tree_opens::put_record(opens, x, 1);
             Made {
                 answer: Answer::Done,
                 inode: x,

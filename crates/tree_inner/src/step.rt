@@ -1,15 +1,17 @@
 // The steps on the four tables: an entry leaves its bucket and its parent's list, or enters them. Each asks for what soundness gives, and tests nothing.
+// A directory's entry and its parent's stand in one table, which can't be lent twice: so the steps of directories take it once, those of files take both.
 ghost use mathlib.Core.Path.{_≡_};
 ghost use mathlib.Core.List.{[], _∷_, _++_};
 ghost use Prim.Native.Nat.{_+_, _*_, _/_, _≤_, _<_};
 ghost use lib.ListN.{length};
-ghost use Rattle.tree_promises.specs.Tables.{tables};
-ghost use Rattle.tree_promises.specs.Steps.{linkedDir, linkedFile, unlinkedDir, unlinkedFile};
-ghost use Rattle.tree_promises.specs.Ready.{LiveAt, Single};
-ghost use Rattle.tree_table.specs.Field.{field, wrote};
+ghost use Rattle.tree_sound.specs.Tables.{tables};
+ghost use Rattle.tree_promises.specs.declared.Kind.the-variants.{Directory, File};
+ghost use Rattle.tree_promises.specs.Steps.{linkedTo, unlinkedFrom};
+ghost use Rattle.tree_promises.specs.inner.Ready.{LiveAt, Single};
+ghost use Rattle.tree_table.specs.Field.{wrote, nextField, subDirField, subFileField};
 ghost use Rattle.tree_table.specs.Steps.{cutWrites, headWrites};
 ghost use lib.Dec.{eqb};
-ghost use Rattle.tree_inner.specs.Seat.{Listed, InBucket, InList};
+ghost use Rattle.tree_inner.specs.inner.Seat.{Listed, InBucket, InList};
 use tree_key::SaveExtDirEntry;
 use tree_key::SaveExtFileEntry;
 use tree_key::SaveExtKey;
@@ -62,7 +64,7 @@ fn in_parent(dirs: &[u8], at: usize, table: &[u8], w: usize, x: u32) -> Child
 // A directory leaves its parent's list: what follows it is written to the one before it, or to its parent.
 fn leave_dir(dirs: &mut [u8], up: u32, before: u32, after: u32)
     requires { ⌜ (up * 40 + 40 ≤ length (now dirs)) × (before * 40 + 40 ≤ length (now dirs)) ⌝ }
-    ensures { λ _. ⌜ now (dirs .exit) ≡ wrote 40 (now (dirs .entry)) (cutWrites (eqb before 0) before 6 after ++ headWrites (eqb before 0) up 7 after) ⌝ }
+    ensures { λ _. ⌜ now (dirs .exit) ≡ wrote 40 (now (dirs .entry)) (cutWrites (eqb before 0) before nextField after ++ headWrites (eqb before 0) up subDirField after) ⌝ }
 {
     if before == 0 {
         tree_table::put_link(
@@ -86,8 +88,8 @@ fn leave_dir(dirs: &mut [u8], up: u32, before: u32, after: u32)
 // A file leaves its parent's list.
 fn leave_file(dirs: &mut [u8], files: &mut [u8], up: u32, before: u32, after: u32)
     requires { ⌜ (up * 40 + 40 ≤ length (now dirs)) × (before * 48 + 48 ≤ length (now files)) ⌝ }
-    ensures { λ _. ⌜ (now (dirs .exit) ≡ wrote 40 (now (dirs .entry)) (headWrites (eqb before 0) up 8 after))
-        × (now (files .exit) ≡ wrote 48 (now (files .entry)) (cutWrites (eqb before 0) before 6 after)) ⌝ }
+    ensures { λ _. ⌜ (now (dirs .exit) ≡ wrote 40 (now (dirs .entry)) (headWrites (eqb before 0) up subFileField after))
+        × (now (files .exit) ≡ wrote 48 (now (files .entry)) (cutWrites (eqb before 0) before nextField after)) ⌝ }
 {
     if before == 0 {
         tree_table::put_link(
@@ -111,8 +113,8 @@ fn leave_file(dirs: &mut [u8], files: &mut [u8], up: u32, before: u32, after: u3
 // Directory x leaves its bucket and its parent's list.
 pub fn unlink_dir(hash: &mut [u8], dirs: &mut [u8], x: u32)
     requires { ⌜ Single (now hash) (now dirs) 40 × LiveAt 40 (now dirs) x × Listed (now dirs) 24 (now dirs) 40 x ⌝ }
-    ensures { λ _. ⌜ (now (hash .exit) ≡ unlinkedDir (tables (now (hash .entry)) (now (dirs .entry)) [] []) x .dirHash)
-        × (now (dirs .exit) ≡ unlinkedDir (tables (now (hash .entry)) (now (dirs .entry)) [] []) x .dirTable) ⌝ }
+    ensures { λ _. ⌜ (now (hash .exit) ≡ unlinkedFrom Directory (tables (now (hash .entry)) (now (dirs .entry)) [] []) x .dirHash)
+        × (now (dirs .exit) ≡ unlinkedFrom Directory (tables (now (hash .entry)) (now (dirs .entry)) [] []) x .dirTable) ⌝ }
 {
     let b = in_bucket(hash, dirs, SaveExtDirEntry::WIDTH, x);
     let l = in_parent(
@@ -136,9 +138,9 @@ pub fn unlink_dir(hash: &mut [u8], dirs: &mut [u8], x: u32)
 // File x leaves its bucket and its parent's list.
 pub fn unlink_file(dirs: &mut [u8], hash: &mut [u8], files: &mut [u8], x: u32)
     requires { ⌜ Single (now hash) (now files) 48 × LiveAt 48 (now files) x × Listed (now dirs) 28 (now files) 48 x ⌝ }
-    ensures { λ _. ⌜ (now (dirs .exit) ≡ unlinkedFile (tables [] (now (dirs .entry)) (now (hash .entry)) (now (files .entry))) x .dirTable)
-        × (now (hash .exit) ≡ unlinkedFile (tables [] (now (dirs .entry)) (now (hash .entry)) (now (files .entry))) x .fileHash)
-        × (now (files .exit) ≡ unlinkedFile (tables [] (now (dirs .entry)) (now (hash .entry)) (now (files .entry))) x .fileTable) ⌝ }
+    ensures { λ _. ⌜ (now (dirs .exit) ≡ unlinkedFrom File (tables [] (now (dirs .entry)) (now (hash .entry)) (now (files .entry))) x .dirTable)
+        × (now (hash .exit) ≡ unlinkedFrom File (tables [] (now (dirs .entry)) (now (hash .entry)) (now (files .entry))) x .fileHash)
+        × (now (files .exit) ≡ unlinkedFrom File (tables [] (now (dirs .entry)) (now (hash .entry)) (now (files .entry))) x .fileTable) ⌝ }
 {
     let b = in_bucket(hash, files, SaveExtFileEntry::WIDTH, x);
     let l = in_parent(
@@ -162,8 +164,8 @@ pub fn unlink_file(dirs: &mut [u8], hash: &mut [u8], files: &mut [u8], x: u32)
 // Entry x gets its key, and is the first directory of its parent and of its bucket.
 pub fn link_dir(hash: &mut [u8], dirs: &mut [u8], x: u32, parent: u32, name: &[u8; 16])
     requires { ⌜ (x * 40 + 40 ≤ length (now dirs)) × (parent * 40 + 40 ≤ length (now dirs)) × (0 < length (now hash) / 4) ⌝ }
-    ensures { λ _. ⌜ (now (hash .exit) ≡ linkedDir (tables (now (hash .entry)) (now (dirs .entry)) [] []) x parent (now (name .entry)) .dirHash)
-        × (now (dirs .exit) ≡ linkedDir (tables (now (hash .entry)) (now (dirs .entry)) [] []) x parent (now (name .entry)) .dirTable) ⌝ }
+    ensures { λ _. ⌜ (now (hash .exit) ≡ linkedTo Directory (tables (now (hash .entry)) (now (dirs .entry)) [] []) x parent (now (name .entry)) .dirHash)
+        × (now (dirs .exit) ≡ linkedTo Directory (tables (now (hash .entry)) (now (dirs .entry)) [] []) x parent (now (name .entry)) .dirTable) ⌝ }
 {
     let key = SaveExtKey::new(parent, name);
     let b = tree_key::hash(key, hash.len() / 4);
@@ -195,9 +197,9 @@ pub fn link_file(
     name: &[u8; 16],
 )
     requires { ⌜ (x * 48 + 48 ≤ length (now files)) × (parent * 40 + 40 ≤ length (now dirs)) × (0 < length (now hash) / 4) ⌝ }
-    ensures { λ _. ⌜ (now (dirs .exit) ≡ linkedFile (tables [] (now (dirs .entry)) (now (hash .entry)) (now (files .entry))) x parent (now (name .entry)) .dirTable)
-        × (now (hash .exit) ≡ linkedFile (tables [] (now (dirs .entry)) (now (hash .entry)) (now (files .entry))) x parent (now (name .entry)) .fileHash)
-        × (now (files .exit) ≡ linkedFile (tables [] (now (dirs .entry)) (now (hash .entry)) (now (files .entry))) x parent (now (name .entry)) .fileTable) ⌝ }
+    ensures { λ _. ⌜ (now (dirs .exit) ≡ linkedTo File (tables [] (now (dirs .entry)) (now (hash .entry)) (now (files .entry))) x parent (now (name .entry)) .dirTable)
+        × (now (hash .exit) ≡ linkedTo File (tables [] (now (dirs .entry)) (now (hash .entry)) (now (files .entry))) x parent (now (name .entry)) .fileHash)
+        × (now (files .exit) ≡ linkedTo File (tables [] (now (dirs .entry)) (now (hash .entry)) (now (files .entry))) x parent (now (name .entry)) .fileTable) ⌝ }
 {
     let key = SaveExtKey::new(parent, name);
     let b = tree_key::hash(key, hash.len() / 4);

@@ -18,8 +18,9 @@ use Rattle.tree_table.proofs.Agree.{Agree, agree-trans, table-alike, live-agree
 use Rattle.tree_table.proofs.Steps.{gave-field, gave-agrees}
 use Rattle.tree_sound.specs.Sound.{up}
 use Rattle.tree_sound.proofs.Tree.{Tree, heads, fewer-dirs, childless, not-above, root-up}
-use Rattle.tree_promises.specs.Tables.{Tables, tables}
-use Rattle.tree_promises.specs.Steps.{unlinkedDir}
+use Rattle.tree_sound.specs.Tables.{Tables, tables}
+use Rattle.tree_promises.specs.declared.Kind.the-variants.{Directory}
+use Rattle.tree_promises.specs.Steps.{unlinkedFrom}
 use Rattle.tree_kept.proofs.Tables.{field-lt, after}
 use Rattle.tree_kept.proofs.Loose.{entry-fits, fit-append, fit-copy, removed-agree}
 use Rattle.tree_kept.proofs.Files.{Fine}
@@ -33,7 +34,7 @@ module _ (dh d fh f : List ℕ) (Q : Fine dh d fh f) (RD RF : List ℕ) (T : Tre
   F = fileView d fh f
 
   abbrev s1 : Tables
-  s1 = unlinkedDir (tables dh d fh f) x
+  s1 = unlinkedFrom Directory (tables dh d fh f) x
 
   abbrev d1 : List ℕ
   d1 = s1 .dirTable

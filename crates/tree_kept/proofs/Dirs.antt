@@ -23,8 +23,9 @@ use Rattle.tree_table.proofs.Agree.{Agree, agree-trans, link-agree, table-alike
 use Rattle.tree_table.proofs.Steps.{reads-append, unlink-agrees, link-writes}
 use Rattle.tree_sound.specs.Sound.{up}
 use Rattle.tree_sound.proofs.Tree.{Tree, renamed-dir}
-use Rattle.tree_promises.specs.Tables.{Tables, tables}
-use Rattle.tree_promises.specs.Steps.{cut, entered, unlinkedDir, linkedDir, carriedDir, renamedDir}
+use Rattle.tree_sound.specs.Tables.{Tables, tables}
+use Rattle.tree_promises.specs.declared.Kind.the-variants.{Directory}
+use Rattle.tree_promises.specs.Steps.{cut, entered, unlinkedFrom, linkedTo, withCarried, renamed}
 use Rattle.tree_kept.proofs.Tables.{field-lt, after, put-other, dirs-past, heads-after}
 use Rattle.tree_kept.proofs.Loose.{entry-fits, before-low, fit-append, fit-cut, tree-files}
 use Rattle.tree_kept.proofs.Files.{Fine, fine-wrote, dir-low}
@@ -89,7 +90,7 @@ module _ (dh d fh f : List ℕ) (Q : Fine dh d fh f) (RD RF : List ℕ) (T : Tre
       before-low D (Live (D .count) RD) RD (T .dirs) (D .next) (D .head p) (λ y. parent (D .key y) ≡ p) H x (H .2 x .1 ((lx, not-zero (lx .0)), refl))
 
   abbrev s1 : Tables
-  s1 = unlinkedDir (tables dh d fh f) x
+  s1 = unlinkedFrom Directory (tables dh d fh f) x
 
   abbrev ws : List Write
   ws = cut D x ++ headWrites (eqb (childBefore D x) 0) p 7 (D .next x)
@@ -141,7 +142,7 @@ module _ (dh d fh f : List ℕ) (Q : Fine dh d fh f) (x p : ℕ) (name : List �
   D1 = dirView dh d
 
   abbrev s2 : Tables
-  s2 = linkedDir (tables dh d fh f) x p name
+  s2 = linkedTo Directory (tables dh d fh f) x p name
 
   x-lt : x < 2 ^ 32
   x-lt = let a = Q .dir-few in omega arith
@@ -193,10 +194,10 @@ module _ (dh d fh f : List ℕ) (Q : Fine dh d fh f) (x p : ℕ) (name : List �
 module _ (dh d fh f : List ℕ) (Q : Fine dh d fh f) (RD RF : List ℕ) (T : Tree (dirView dh d) (fileView d fh f) RD RF) where
   module _ (x : ℕ) (lx : Live (dirView dh d .count) RD x) (n1 : x ≢ 1) (p : ℕ) (lp : Live (dirView dh d .count) RD p) (name : List ℕ) (bn : Bytes name) where
     abbrev t1 : Tables
-    t1 = unlinkedDir (tables dh d fh f) x
+    t1 = unlinkedFrom Directory (tables dh d fh f) x
 
     abbrev t2 : Tables
-    t2 = renamedDir (tables dh d fh f) x p name
+    t2 = renamed Directory (tables dh d fh f) x p name
 
     A : Agree (unlink (dirView dh d) x) (dirView (t1 .dirHash) (t1 .dirTable))
     A = unlinked-dir dh d fh f Q RD RF T x lx n1
@@ -228,9 +229,9 @@ module _ (dh d fh f : List ℕ) (Q : Fine dh d fh f) (RD RF : List ℕ) (T : Tre
         (λ y. linked-heads (t1 .dirHash) (t1 .dirTable) fh f fine x p name bn (lx .0) in-room p-room y ∙ unlinked-heads dh d fh f Q RD RF T x lx n1 y 8 (omega arith) (omega arith)))
 
   pub carried-dir-kept : (x : ℕ) → Live (dirView dh d .count) RD x → (bytes : List ℕ) → Bytes bytes
-      → Tree (dirView dh (carriedDir (tables dh d fh f) x bytes .dirTable)) (fileView (carriedDir (tables dh d fh f) x bytes .dirTable) fh f) RD RF
+      → Tree (dirView dh (withCarried Directory (tables dh d fh f) x bytes .dirTable)) (fileView (withCarried Directory (tables dh d fh f) x bytes .dirTable) fh f) RD RF
   carried-dir-kept x lx bytes bb =
       let e = entry-fits 40 d x (dir-low dh d fh f Q RD RF T x (lx .1)) in
-      tree-agree (dirView dh d) (dirView dh (carriedDir (tables dh d fh f) x bytes .dirTable)) (fileView d fh f) (fileView (carriedDir (tables dh d fh f) x bytes .dirTable) fh f) RD RF T
+      tree-agree (dirView dh d) (dirView dh (withCarried Directory (tables dh d fh f) x bytes .dirTable)) (fileView d fh f) (fileView (withCarried Directory (tables dh d fh f) x bytes .dirTable) fh f) RD RF T
       (dirs-past dh d x 9 (word bytes 0) (omega arith) (omega arith) e (word-lt bytes bb 0))
-      (files-same d (carriedDir (tables dh d fh f) x bytes .dirTable) fh f (λ y. after 40 d (write x 9 (word bytes 0) ∷ []) ((e, omega arith, word-lt bytes bb 0), tt) y 8 (omega arith)))
+      (files-same d (withCarried Directory (tables dh d fh f) x bytes .dirTable) fh f (λ y. after 40 d (write x 9 (word bytes 0) ∷ []) ((e, omega arith, word-lt bytes bb 0), tt) y 8 (omega arith)))

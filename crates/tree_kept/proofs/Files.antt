@@ -21,8 +21,9 @@ use Rattle.tree_table.proofs.Table.{Sound, link, linked, unlink, unlinked, give
 use Rattle.tree_table.proofs.Agree.{Agree, agree-refl, agree-trans, table-alike, live-agree, sound-agree}
 use Rattle.tree_table.proofs.Steps.{unlink-agrees, link-writes, gave-agrees}
 use Rattle.tree_sound.proofs.Tree.{Tree}
-use Rattle.tree_promises.specs.Tables.{Tables, tables}
-use Rattle.tree_promises.specs.Steps.{cut, entered, unlinkedFile, linkedFile, deletedFile, renamedFile}
+use Rattle.tree_sound.specs.Tables.{Tables, tables}
+use Rattle.tree_promises.specs.declared.Kind.the-variants.{File}
+use Rattle.tree_promises.specs.Steps.{cut, entered, unlinkedFrom, linkedTo, deleted, renamed}
 use Rattle.tree_kept.proofs.Tables.{bytes-wrote, field-lt, after, dirs-past, heads-after}
 use Rattle.tree_kept.proofs.Loose.{entry-fits, before-low, fit-append, fit-cut, fit-copy, tree-files, removed-agree}
 
@@ -76,7 +77,7 @@ module _ (dh d fh f : List ℕ) (Q : Fine dh d fh f) (RD RF : List ℕ) (T : Tre
         before-low F (Live (D .count) RD) RF (T .files) (F .next) (F .head p) (λ y. parent (F .key y) ≡ p) H x (H .2 x .1 ((lx, not-zero (lx .0)), refl))
 
     abbrev s1 : Tables
-    s1 = unlinkedFile (tables dh d fh f) x
+    s1 = unlinkedFrom File (tables dh d fh f) x
 
     pub unlinked-dirs : Agree D (dirView dh (s1 .dirTable))
     unlinked-dirs = go (eqb (childBefore F x) 0)
@@ -120,7 +121,7 @@ module _ (dh d fh f : List ℕ) (Q : Fine dh d fh f) (x p : ℕ) (name : List �
   F1 = fileView d fh f
 
   abbrev s2 : Tables
-  s2 = linkedFile (tables dh d fh f) x p name
+  s2 = linkedTo File (tables dh d fh f) x p name
 
   x-lt : x < 2 ^ 32
   x-lt = let a = Q .file-few in omega arith
@@ -185,7 +186,7 @@ fine-wrote dh d fh f a b c e Q = record {
 
 module _ (dh d fh f : List ℕ) (Q : Fine dh d fh f) (RD RF : List ℕ) (T : Tree (dirView dh d) (fileView d fh f) RD RF) (x : ℕ) (lx : Live (fileView d fh f .count) RF x) where
   abbrev t1 : Tables
-  t1 = unlinkedFile (tables dh d fh f) x
+  t1 = unlinkedFrom File (tables dh d fh f) x
 
   abbrev G : View
   G = fileView (t1 .dirTable) (t1 .fileHash) (t1 .fileTable)
@@ -230,8 +231,8 @@ module _ (dh d fh f : List ℕ) (Q : Fine dh d fh f) (RD RF : List ℕ) (T : Tre
       refl (ap (λ n. n / 48) (length-wrote 48 (giveWrites 48 (field 48 (t1 .fileTable)) x) (t1 .fileTable)))
       (λ y g h. after 48 (t1 .fileTable) (giveWrites 48 (field 48 (t1 .fileTable)) x) give-fit y g (omega arith)) (λ b. refl) (λ q. refl))
 
-  pub deleted-file-kept : Tree (dirView dh (deletedFile (tables dh d fh f) x .dirTable))
-      (fileView (deletedFile (tables dh d fh f) x .dirTable) (deletedFile (tables dh d fh f) x .fileHash) (deletedFile (tables dh d fh f) x .fileTable)) RD (x ∷ RF)
+  pub deleted-file-kept : Tree (dirView dh (deleted File (tables dh d fh f) x .dirTable))
+      (fileView (deleted File (tables dh d fh f) x .dirTable) (deleted File (tables dh d fh f) x .fileHash) (deleted File (tables dh d fh f) x .fileTable)) RD (x ∷ RF)
   deleted-file-kept =
       tree-files (dirView dh d) (dirView dh (t1 .dirTable)) (fileView d fh f) G2 RD RF (x ∷ RF) T (unlinked-dirs dh d fh f Q RD RF T x lx) refl
       (sound-agree (give G x) G2 gave-same (x ∷ RF) 0 (Live (dirView dh d .count) RD) (Live (dirView dh d .count) RD) (λ p. (λ l. l, λ l. l)) (λ p l. l .0)
@@ -250,7 +251,7 @@ module _ (dh d fh f : List ℕ) (Q : Fine dh d fh f) (RD RF : List ℕ) (T : Tre
   module _ (p : ℕ) (lp : Live (dirView dh d .count) RD p) (name : List ℕ) (bn : Bytes name)
       (fresh : (y : ℕ) → Live (fileView d fh f .count) RF y → y ≢ x → fileView d fh f .key y ≢ nameKey p name) where
     abbrev t2 : Tables
-    t2 = renamedFile (tables dh d fh f) x p name
+    t2 = renamed File (tables dh d fh f) x p name
 
     p-room : p < length (t1 .dirTable) / 40
     p-room =

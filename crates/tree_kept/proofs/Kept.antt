@@ -17,8 +17,10 @@ use Rattle.tree_table.proofs.Table.{Space, rest}
 use Rattle.tree_sound.specs.Sound.{Sound, up}
 use Rattle.tree_sound.proofs.Tree.{Tree}
 use Rattle.tree_sound.proofs.Equal.{tree-of, sound-of}
-use Rattle.tree_promises.specs.Tables.{Tables, dirs, files, Has, HasOther, above}
-use Rattle.tree_promises.specs.Steps.{madeDir, madeFile, deletedDir, deletedFile, renamedDir, renamedFile, carriedDir, carriedFile}
+use Rattle.tree_sound.specs.Tables.{Tables, dirs, files, SoundIn}
+use Rattle.tree_promises.specs.declared.Kind.the-variants.{Directory, File}
+use Rattle.tree_promises.specs.Has.{Has, HasOther, above}
+use Rattle.tree_promises.specs.Steps.{made, deleted, renamed, withCarried}
 use Rattle.tree_sound.proofs.Bounds.{way-up}
 use Rattle.tree_kept.proofs.Files.{Fine, deleted-file-kept, deleted-file-removed, deleted-file-count, deleted-file-maximum, renamed-file-kept}
 use Rattle.tree_kept.proofs.MakeFile.{carried-file-kept, made-file-kept}
@@ -43,34 +45,34 @@ space v n =
 one-more : (v v′ : View) (x : ℕ) → v′ .count ≡ v .count → v′ .maximum ≡ v .maximum → removedOf v′ ≡ x ∷ removedOf v → freeOf v′ ≡ freeOf v + 1
 one-more v v′ x c m r = let l : length (removedOf v′) ≡ suc (length (removedOf v)) = ap length r in omega arith
 
-module _ (s : Tables) (Q : Fine (s .dirHash) (s .dirTable) (s .fileHash) (s .fileTable)) (S : Sound (dirs s) (files s)) where
+module _ (s : Tables) (Q : Fine (s .dirHash) (s .dirTable) (s .fileHash) (s .fileTable)) (S : SoundIn s) where
   T : Tree (dirs s) (files s) (removedOf (dirs s)) (removedOf (files s))
   T = tree-of (dirs s) (files s) refl refl S
 
   pub kept-make-dir : (p : ℕ) (name padding : List ℕ) → Bytes name → Bytes padding → LiveIn (dirs s) p → (Has (dirs s) (nameKey p name) → ⊥) → (freeOf (dirs s) ≡ 0 → ⊥)
-      → Sound (dirs (madeDir s p name padding)) (files (madeDir s p name padding))
+      → SoundIn (made Directory s p name padding)
   kept-make-dir p name padding bn bp lp free full =
-      sound-of (dirs (madeDir s p name padding)) (files (madeDir s p name padding)) (rest (removedOf (dirs s))) (removedOf (files s))
+      sound-of (dirs (made Directory s p name padding)) (files (made Directory s p name padding)) (rest (removedOf (dirs s))) (removedOf (files s))
       (made-dir-kept (s .dirHash) (s .dirTable) (s .fileHash) (s .fileTable) Q (removedOf (dirs s)) (removedOf (files s)) T p lp name padding bn bp (space (dirs s) full)
       (λ y l e. free (y, l, e)))
 
   pub kept-make-file : (p : ℕ) (name carried : List ℕ) → Bytes name → Bytes carried → LiveIn (dirs s) p → (Has (files s) (nameKey p name) → ⊥) → (freeOf (files s) ≡ 0 → ⊥)
-      → Sound (dirs (madeFile s p name carried)) (files (madeFile s p name carried))
+      → SoundIn (made File s p name carried)
   kept-make-file p name carried bn bc lp free full =
-      sound-of (dirs (madeFile s p name carried)) (files (madeFile s p name carried)) (removedOf (dirs s)) (rest (removedOf (files s)))
+      sound-of (dirs (made File s p name carried)) (files (made File s p name carried)) (removedOf (dirs s)) (rest (removedOf (files s)))
       (made-file-kept (s .dirHash) (s .dirTable) (s .fileHash) (s .fileTable) Q (removedOf (dirs s)) (removedOf (files s)) T p lp name carried bn bc (space (files s) full)
       (λ y l e. free (y, l, e)))
 
-  pub kept-delete-dir : (x : ℕ) → LiveIn (dirs s) x → (x ≡ 1 → ⊥) → ((0 < dirs s .head x) ⊎ (0 < files s .head x) → ⊥) → Sound (dirs (deletedDir s x)) (files (deletedDir s x))
+  pub kept-delete-dir : (x : ℕ) → LiveIn (dirs s) x → (x ≡ 1 → ⊥) → ((0 < dirs s .head x) ⊎ (0 < files s .head x) → ⊥) → SoundIn (deleted Directory s x)
   kept-delete-dir x lx n1 none =
       let a : dirs s .head x ≡ 0 = ⊎-elim (λ (z : dirs s .head x ≡ 0). z) (λ (z : dirs s .head x ≢ 0). absurd (none (inl (omega arith)))) (same-or (dirs s .head x) 0) in
       let b : files s .head x ≡ 0 = ⊎-elim (λ (z : files s .head x ≡ 0). z) (λ (z : files s .head x ≢ 0). absurd (none (inr (omega arith)))) (same-or (files s .head x) 0) in
-      sound-of (dirs (deletedDir s x)) (files (deletedDir s x)) (x ∷ removedOf (dirs s)) (removedOf (files s))
+      sound-of (dirs (deleted Directory s x)) (files (deleted Directory s x)) (x ∷ removedOf (dirs s)) (removedOf (files s))
       (deleted-dir-kept (s .dirHash) (s .dirTable) (s .fileHash) (s .fileTable) Q (removedOf (dirs s)) (removedOf (files s)) T x lx n1 a b)
 
-  pub kept-delete-file : (x : ℕ) → LiveIn (files s) x → Sound (dirs (deletedFile s x)) (files (deletedFile s x))
+  pub kept-delete-file : (x : ℕ) → LiveIn (files s) x → SoundIn (deleted File s x)
   kept-delete-file x lx =
-      sound-of (dirs (deletedFile s x)) (files (deletedFile s x)) (removedOf (dirs s)) (x ∷ removedOf (files s))
+      sound-of (dirs (deleted File s x)) (files (deleted File s x)) (removedOf (dirs s)) (x ∷ removedOf (files s))
       (deleted-file-kept (s .dirHash) (s .dirTable) (s .fileHash) (s .fileTable) Q (removedOf (dirs s)) (removedOf (files s)) T x lx)
 
   -- the way up from p is the list that `above` walks: so what is not in it is not above p
@@ -78,37 +80,37 @@ module _ (s : Tables) (Q : Fine (s .dirHash) (s .dirTable) (s .fileHash) (s .fil
   not-above x p lp free qs l m = free (subst (λ zs. x ∈ zs) (sym (way-up (dirs s) (S .dirs) p lp qs l)) m)
 
   pub kept-rename-dir : (x p : ℕ) (name : List ℕ) → Bytes name → LiveIn (dirs s) x → (x ≡ 1 → ⊥) → LiveIn (dirs s) p → (x ∈ above (dirs s) p → ⊥)
-      → (HasOther (dirs s) x (nameKey p name) → ⊥) → Sound (dirs (renamedDir s x p name)) (files (renamedDir s x p name))
+      → (HasOther (dirs s) x (nameKey p name) → ⊥) → SoundIn (renamed Directory s x p name)
   kept-rename-dir x p name bn lx n1 lp out free =
-      sound-of (dirs (renamedDir s x p name)) (files (renamedDir s x p name)) (removedOf (dirs s)) (removedOf (files s))
+      sound-of (dirs (renamed Directory s x p name)) (files (renamed Directory s x p name)) (removedOf (dirs s)) (removedOf (files s))
       (renamed-dir-kept (s .dirHash) (s .dirTable) (s .fileHash) (s .fileTable) Q (removedOf (dirs s)) (removedOf (files s)) T x lx n1 p lp name bn
       (λ y l n e. free (y, l, n, e)) (not-above x p lp out))
 
   pub kept-rename-file : (x p : ℕ) (name : List ℕ) → Bytes name → LiveIn (files s) x → LiveIn (dirs s) p → (HasOther (files s) x (nameKey p name) → ⊥)
-      → Sound (dirs (renamedFile s x p name)) (files (renamedFile s x p name))
+      → SoundIn (renamed File s x p name)
   kept-rename-file x p name bn lx lp free =
-      sound-of (dirs (renamedFile s x p name)) (files (renamedFile s x p name)) (removedOf (dirs s)) (removedOf (files s))
+      sound-of (dirs (renamed File s x p name)) (files (renamed File s x p name)) (removedOf (dirs s)) (removedOf (files s))
       (renamed-file-kept (s .dirHash) (s .dirTable) (s .fileHash) (s .fileTable) Q (removedOf (dirs s)) (removedOf (files s)) T x lx p lp name bn (λ y l n e. free (y, l, n, e)))
 
-  pub kept-carry-dir : (x : ℕ) (bytes : List ℕ) → Bytes bytes → LiveIn (dirs s) x → Sound (dirs (carriedDir s x bytes)) (files (carriedDir s x bytes))
+  pub kept-carry-dir : (x : ℕ) (bytes : List ℕ) → Bytes bytes → LiveIn (dirs s) x → SoundIn (withCarried Directory s x bytes)
   kept-carry-dir x bytes bb lx =
-      sound-of (dirs (carriedDir s x bytes)) (files (carriedDir s x bytes)) (removedOf (dirs s)) (removedOf (files s))
+      sound-of (dirs (withCarried Directory s x bytes)) (files (withCarried Directory s x bytes)) (removedOf (dirs s)) (removedOf (files s))
       (carried-dir-kept (s .dirHash) (s .dirTable) (s .fileHash) (s .fileTable) Q (removedOf (dirs s)) (removedOf (files s)) T x lx bytes bb)
 
-  pub kept-carry-file : (x : ℕ) (bytes : List ℕ) → Bytes bytes → LiveIn (files s) x → Sound (dirs (carriedFile s x bytes)) (files (carriedFile s x bytes))
+  pub kept-carry-file : (x : ℕ) (bytes : List ℕ) → Bytes bytes → LiveIn (files s) x → SoundIn (withCarried File s x bytes)
   kept-carry-file x bytes bb lx =
-      sound-of (dirs (carriedFile s x bytes)) (files (carriedFile s x bytes)) (removedOf (dirs s)) (removedOf (files s))
+      sound-of (dirs (withCarried File s x bytes)) (files (withCarried File s x bytes)) (removedOf (dirs s)) (removedOf (files s))
       (carried-file-kept (s .dirHash) (s .dirTable) (s .fileHash) (s .fileTable) Q (removedOf (dirs s)) (removedOf (files s)) T x lx bytes bb)
 
   -- an entry that is given up is one more that make can use; of a directory whether or not it has children
-  pub given-dir-free : (x : ℕ) → LiveIn (dirs s) x → (x ≡ 1 → ⊥) → freeOf (dirs (deletedDir s x)) ≡ freeOf (dirs s) + 1
+  pub given-dir-free : (x : ℕ) → LiveIn (dirs s) x → (x ≡ 1 → ⊥) → freeOf (dirs (deleted Directory s x)) ≡ freeOf (dirs s) + 1
   given-dir-free x lx n1 =
-      one-more (dirs s) (dirs (deletedDir s x)) x (deleted-dir-count (s .dirHash) (s .dirTable) (s .fileHash) (s .fileTable) Q (removedOf (dirs s)) (removedOf (files s)) T x lx n1)
+      one-more (dirs s) (dirs (deleted Directory s x)) x (deleted-dir-count (s .dirHash) (s .dirTable) (s .fileHash) (s .fileTable) Q (removedOf (dirs s)) (removedOf (files s)) T x lx n1)
       (deleted-dir-maximum (s .dirHash) (s .dirTable) (s .fileHash) (s .fileTable) Q (removedOf (dirs s)) (removedOf (files s)) T x lx n1)
       (deleted-dir-removed (s .dirHash) (s .dirTable) (s .fileHash) (s .fileTable) Q (removedOf (dirs s)) (removedOf (files s)) T x lx n1)
 
-  pub given-file-free : (x : ℕ) → LiveIn (files s) x → freeOf (files (deletedFile s x)) ≡ freeOf (files s) + 1
+  pub given-file-free : (x : ℕ) → LiveIn (files s) x → freeOf (files (deleted File s x)) ≡ freeOf (files s) + 1
   given-file-free x lx =
-      one-more (files s) (files (deletedFile s x)) x (deleted-file-count (s .dirHash) (s .dirTable) (s .fileHash) (s .fileTable) Q (removedOf (dirs s)) (removedOf (files s)) T x lx)
+      one-more (files s) (files (deleted File s x)) x (deleted-file-count (s .dirHash) (s .dirTable) (s .fileHash) (s .fileTable) Q (removedOf (dirs s)) (removedOf (files s)) T x lx)
       (deleted-file-maximum (s .dirHash) (s .dirTable) (s .fileHash) (s .fileTable) Q (removedOf (dirs s)) (removedOf (files s)) T x lx)
       (deleted-file-removed (s .dirHash) (s .dirTable) (s .fileHash) (s .fileTable) Q (removedOf (dirs s)) (removedOf (files s)) T x lx)

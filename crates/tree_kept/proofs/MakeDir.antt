@@ -18,8 +18,9 @@ use Rattle.tree_table.proofs.Field.{Has, Fit, putAt, length-wrote}
 use Rattle.tree_table.proofs.Table.{link, take, took, took-live, rest, Space, Took}
 use Rattle.tree_table.proofs.Agree.{Agree, agree-trans, link-agree, table-alike}
 use Rattle.tree_sound.proofs.Tree.{Tree, heads, makeDir, makeDirFiles, made-dir}
-use Rattle.tree_promises.specs.Tables.{Tables, tables}
-use Rattle.tree_promises.specs.Steps.{linkedDir, madeDir}
+use Rattle.tree_sound.specs.Tables.{Tables, tables}
+use Rattle.tree_promises.specs.declared.Kind.the-variants.{Directory}
+use Rattle.tree_promises.specs.Steps.{linkedTo, made}
 use Rattle.tree_kept.proofs.Tables.{field-lt, after, put-other, dirs-past}
 use Rattle.tree_kept.proofs.Loose.{entry-fits}
 use Rattle.tree_kept.proofs.Files.{Fine, fine-wrote, dir-low}
@@ -54,10 +55,10 @@ module _ (dh d fh f : List ℕ) (Q : Fine dh d fh f) (RD RF : List ℕ) (T : Tre
   k = nameKey p name
 
   abbrev s3 : Tables
-  s3 = linkedDir (tables dh d2 fh f) x p name
+  s3 = linkedTo Directory (tables dh d2 fh f) x p name
 
   abbrev s4 : Tables
-  s4 = madeDir (tables dh d fh f) p name padding
+  s4 = made Directory (tables dh d fh f) p name padding
 
   Tk : Took D RD (rest RD) (taken D) (take D .count)
   Tk = took-live D (Live (D .count) RD) RD (T .dirs)

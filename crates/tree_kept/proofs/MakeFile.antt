@@ -20,8 +20,9 @@ use Rattle.tree_table.proofs.Table.{Sound, link, linked, take, took, took-live,
 use Rattle.tree_table.proofs.Agree.{Agree, agree-refl, table-alike, live-agree, sound-agree}
 use Rattle.tree_table.proofs.Steps.{takeT}
 use Rattle.tree_sound.proofs.Tree.{Tree}
-use Rattle.tree_promises.specs.Tables.{Tables, tables}
-use Rattle.tree_promises.specs.Steps.{linkedFile, takenFile, carriedFile, madeFile}
+use Rattle.tree_sound.specs.Tables.{Tables, tables}
+use Rattle.tree_promises.specs.declared.Kind.the-variants.{File}
+use Rattle.tree_promises.specs.Steps.{linkedTo, takenFrom, withCarried, made}
 use Rattle.tree_kept.proofs.Tables.{field-lt, after, put-other}
 use Rattle.tree_kept.proofs.Loose.{entry-fits, tree-files}
 use Rattle.tree_kept.proofs.Files.{Fine, fine-wrote, file-low, dir-low, linked-dirs, linked-files}
@@ -110,10 +111,10 @@ module _ (dh d fh f : List ℕ) (Q : Fine dh d fh f) (RD RF : List ℕ) (T : Tre
   F = fileView d fh f
 
   pub carried-file-kept : (x : ℕ) → Live (F .count) RF x → (carried : List ℕ) → Bytes carried
-      → Tree (dirView dh d) (fileView d fh (carriedFile (tables dh d fh f) x carried .fileTable)) RD RF
+      → Tree (dirView dh d) (fileView d fh (withCarried File (tables dh d fh f) x carried .fileTable)) RD RF
   carried-file-kept x lx carried bc =
-      tree-files (dirView dh d) (dirView dh d) F (fileView d fh (carriedFile (tables dh d fh f) x carried .fileTable)) RD RF RF T (agree-refl (dirView dh d)) refl
-      (sound-agree F (fileView d fh (carriedFile (tables dh d fh f) x carried .fileTable)) (carried-files d fh f x (file-low dh d fh f Q RD RF T x (lx .1)) carried bc) RF 0
+      tree-files (dirView dh d) (dirView dh d) F (fileView d fh (withCarried File (tables dh d fh f) x carried .fileTable)) RD RF RF T (agree-refl (dirView dh d)) refl
+      (sound-agree F (fileView d fh (withCarried File (tables dh d fh f) x carried .fileTable)) (carried-files d fh f x (file-low dh d fh f Q RD RF T x (lx .1)) carried bc) RF 0
       (Live (dirView dh d .count) RD) (Live (dirView dh d .count) RD) (λ p. (λ l. l, λ l. l)) (λ p l. l .0) (T .files))
 
   module _ (p : ℕ) (lp : Live (dirView dh d .count) RD p) (name carried : List ℕ) (bn : Bytes name) (bc : Bytes carried) (sp : Space F)
@@ -122,16 +123,16 @@ module _ (dh d fh f : List ℕ) (Q : Fine dh d fh f) (RD RF : List ℕ) (T : Tre
     x = taken F
 
     abbrev f1 : List ℕ
-    f1 = takenFile (tables dh d fh f) .fileTable
+    f1 = takenFrom File (tables dh d fh f) .fileTable
 
     abbrev G : View
     G = fileView d fh f1
 
     abbrev t2 : Tables
-    t2 = linkedFile (tables dh d fh f1) x p name
+    t2 = linkedTo File (tables dh d fh f1) x p name
 
     abbrev t3 : Tables
-    t3 = madeFile (tables dh d fh f) p name carried
+    t3 = made File (tables dh d fh f) p name carried
 
     Tk : Took F RF (rest RF) (taken F) (take F .count)
     Tk = took-live F (Live (dirView dh d .count) RD) RF (T .files)

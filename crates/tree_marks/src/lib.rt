@@ -4,7 +4,7 @@ ghost use mathlib.Core.List.{List};
 ghost use Prim.Native.Nat.{ℕ, _+_, _-_, _*_, _≤_, _<_};
 ghost use lib.ListN.{length, getD};
 ghost use Rattle.tree_table.specs.Chain.{linkAt};
-ghost use Rattle.tree_table.specs.Field.{start, next};
+ghost use Rattle.tree_table.specs.Field.{start, nextField};
 ghost use Rattle.order.specs.Tells.{Tells};
 ghost use Rattle.tree_marks.specs.inner.Marks.{gone, markAt, markOf, Within, Marked, ListMarked, ListCounted};
 ghost use Rattle.tree_table.specs.View.{Live};
@@ -75,7 +75,7 @@ fn mark_dir(
 ) -> bool
     requires { ⌜ (p * 40 + 40 ≤ length (now dirs)) × (head + 4 ≤ 40) × (0 < p) × (p < length (now work))
         × (count * w ≤ length (now table)) × (24 ≤ w) × (off + count ≤ length (now work)) ⌝ }
-    ensures { λ r. ⌜ DirMarked (linkAt (now (table .entry)) w (start w next)) count (linkAt (now (dirs .entry)) 40 head) p off (now (work .entry)) (now (work .exit)) r ⌝ }
+    ensures { λ r. ⌜ DirMarked (linkAt (now (table .entry)) w (start w nextField)) count (linkAt (now (dirs .entry)) 40 head) p off (now (work .entry)) (now (work .exit)) r ⌝ }
 {
     let i = tree_table::index(p);
     if work[i] == GONE {
@@ -109,8 +109,8 @@ pub fn mark_children(
     requires { ⌜ (bound * 40 ≤ length (now dirs)) × (head + 4 ≤ 40) × (1 ≤ bound) × (bound ≤ 65536) × (bound ≤ length (now work))
         × (count * w ≤ length (now table)) × (24 ≤ w) × (off + count ≤ length (now work)) ⌝ }
     ensures { λ r. ⌜ ((RD R : List ℕ) → GoneMarked bound RD (now (work .entry))
-        → Gathered (linkAt (now (table .entry)) w (start w next)) count (linkAt (now (dirs .entry)) 40 head) (Live bound RD) R 1 (markAt (now (work .entry)) off)
-        → Gathers (linkAt (now (table .entry)) w (start w next)) count (linkAt (now (dirs .entry)) 40 head) (Live bound RD) bound off R (now (work .exit)) r)
+        → Gathered (linkAt (now (table .entry)) w (start w nextField)) count (linkAt (now (dirs .entry)) 40 head) (Live bound RD) R 1 (markAt (now (work .entry)) off)
+        → Gathers (linkAt (now (table .entry)) w (start w nextField)) count (linkAt (now (dirs .entry)) 40 head) (Live bound RD) bound off R (now (work .exit)) r)
         × Within off count (now (work .entry)) (now (work .exit)) ⌝ }
 {
     let mut p: u32 = 1;

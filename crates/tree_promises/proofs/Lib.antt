@@ -1,2 +1,2 @@
-pub mod Public
+pub mod Gated
 pub mod Unique

@@ -1,5 +1,5 @@
--- Each tree call's promise and its input leave one answer, with one of every lent buffer. Lookup and listing are said of a view: the directories or the
--- files.
+-- Each tree call's promise and its input leave one answer, with one of every lent buffer. Lookup and listing are said of a view, the other calls of a
+-- kind: the directories or the files.
 use mathlib.Core.Path.{_≡_}
 use mathlib.Core.List.{List, [], _++_}
 use Prim.Native.Nat.{ℕ}
@@ -11,11 +11,12 @@ use Rattle.order.specs.declared.Answer.the-variants.{Done}
 use Rattle.order.proofs.One.{one}
 use Rattle.tree_key.specs.Key.{nameKey}
 use Rattle.tree_table.specs.View.{View}
-use Rattle.tree_sound.specs.Sizes.{dirRoom, fileRoom}
 use Rattle.tree_test.specs.Gate.{treeGate, openGate}
-use Rattle.tree_promises.specs.Tables.{Tables, dirs, files}
+use Rattle.tree_sound.specs.Tables.{Tables}
+use Rattle.tree_promises.specs.declared.Kind.{Kind}
+use Rattle.tree_promises.specs.Kinds.{carriedMany, kindView, kindRoom}
 use Rattle.tree_promises.specs.Calls as calls
-use Rattle.tree_promises.specs.Promise.{worked, TreePromise, DirPromise, FilePromise}
+use Rattle.tree_promises.specs.Promise.{worked, TreePromise, OpensPromise}
 use Rattle.tree_promises.specs.Format.{formatRows, formatted, FormatPromise}
 use Rattle.tree_promises.specs.Public as promised
 
@@ -29,19 +30,13 @@ one-promised front work own done o o′ p q = one (front ++ within work own) (be
 
 module _ {A : Type 0} (refuse : Answer → A) (s : Tables) where
   pub one-tree : (work : List ℕ) (own : List (Row A)) (done : A) → One (TreePromise refuse s work own done)
-  one-tree work own done =
-      one-promised (treeGate (λ a w. beside (refuse a) w) (s .dirHash) (s .dirTable) (s .fileHash) (s .fileTable) work) (worked s work) own done
+  unfolding TreePromise
+  one-tree work own done = one-promised (treeGate (λ a w. beside (refuse a) w) s work) (worked s work) own done
 
-  module _ (opens work : List ℕ) (own : List (Row A)) (done : A) where
-    open-one : (room : ℕ) → One (Promised (openGate (λ a w. beside (refuse a) w) (s .dirHash) (s .dirTable) (s .fileHash) (s .fileTable) (length opens) room work) (worked s work) own done)
-    open-one room =
-        one-promised (openGate (λ a w. beside (refuse a) w) (s .dirHash) (s .dirTable) (s .fileHash) (s .fileTable) (length opens) room work) (worked s work) own done
-
-    pub one-dir : One (DirPromise refuse s opens work own done)
-    one-dir = open-one (dirRoom (s .dirTable))
-
-    pub one-file : One (FilePromise refuse s opens work own done)
-    one-file = open-one (fileRoom (s .fileTable))
+  pub one-opens : (kind : Kind) (opens work : List ℕ) (own : List (Row A)) (done : A) → One (OpensPromise kind refuse s opens work own done)
+  unfolding OpensPromise
+  one-opens kind opens work own done =
+      one-promised (openGate (λ a w. beside (refuse a) w) s (length opens) (kindRoom kind s) work) (worked s work) own done
 
 -- ---- the calls
 
@@ -58,49 +53,31 @@ module _ (s : Tables) (work : List ℕ) where
   pub one-stat : One (promised.StatPromise s work)
   one-stat = one-tree (λ a. calls.statGives a 0 0 0 0) s work [] (calls.statDone s)
 
-  module _ (x : ℕ) where
-    pub one-carried-dir : One (promised.CarriedDirPromise s work x)
-    one-carried-dir = one-tree (λ a. calls.shownGives a (replicate 4 0)) s work (calls.shownRows (dirs s) x (replicate 4 0)) (calls.dirCarriedDone s x)
+-- directories and files alike
+module _ (kind : Kind) (s : Tables) (work : List ℕ) where
+  pub one-carried : (x : ℕ) → One (promised.CarriedPromise kind s work x)
+  one-carried x =
+      one-tree (λ a. calls.shownGives a (replicate (carriedMany kind) 0)) s work (calls.shownRows (kindView kind s) x (replicate (carriedMany kind) 0))
+      (calls.carriedDone kind s x)
 
-    pub one-carried-file : One (promised.CarriedFilePromise s work x)
-    one-carried-file = one-tree (λ a. calls.shownGives a (replicate 20 0)) s work (calls.shownRows (files s) x (replicate 20 0)) (calls.fileCarriedDone s x)
+  pub one-set-carried : (x : ℕ) (bytes : List ℕ) → One (promised.SetCarriedPromise kind s work x bytes)
+  one-set-carried x bytes = one-tree (λ a. calls.carryGives a s) s work (calls.carryRows s (kindView kind s) x) (calls.carryDone kind s x bytes)
 
-    pub one-set-carried-dir : (padding : List ℕ) → One (promised.SetCarriedDirPromise s work x padding)
-    one-set-carried-dir padding = one-tree (λ a. calls.carryGives a s) s work (calls.carryRows s (dirs s) x) (calls.carryDirDone s x padding)
+  module _ (opens : List ℕ) where
+    pub one-make : (p : ℕ) (name bytes : List ℕ) → One (promised.MakePromise kind s opens work p name bytes)
+    one-make p name bytes =
+        one-opens (λ a. calls.makeGives a 0 s opens) s kind opens work (calls.makeRows s (kindView kind s) opens p (nameKey p name))
+        (calls.makeDone kind s opens p name bytes)
 
-    pub one-set-carried-file : (carried : List ℕ) → One (promised.SetCarriedFilePromise s work x carried)
-    one-set-carried-file carried = one-tree (λ a. calls.carryGives a s) s work (calls.carryRows s (files s) x) (calls.carryFileDone s x carried)
+    pub one-rename : (x p : ℕ) (name : List ℕ) → One (promised.RenamePromise kind s opens work x p name)
+    one-rename x p name =
+        one-opens (λ a. calls.changeGives a s opens) s kind opens work (calls.renameRows kind s opens x p name) (calls.renameDone kind s opens x p name)
 
-module _ (s : Tables) (opens work : List ℕ) where
-  pub one-make-dir : (p : ℕ) (name padding : List ℕ) → One (promised.MakeDirPromise s opens work p name padding)
-  one-make-dir p name padding =
-      one-dir (λ a. calls.makeGives a 0 s opens) s opens work (calls.makeRows s (dirs s) opens p (nameKey p name)) (calls.makeDirDone s opens p name padding)
+    pub one-delete : (x : ℕ) → One (promised.DeletePromise kind s opens work x)
+    one-delete x = one-opens (λ a. calls.changeGives a s opens) s kind opens work (calls.deleteRows kind s opens x) (calls.deleteDone kind s opens x)
 
-  pub one-make-file : (p : ℕ) (name carried : List ℕ) → One (promised.MakeFilePromise s opens work p name carried)
-  one-make-file p name carried =
-      one-file (λ a. calls.makeGives a 0 s opens) s opens work (calls.makeRows s (files s) opens p (nameKey p name)) (calls.makeFileDone s opens p name carried)
+    pub one-open : (x : ℕ) → One (promised.OpenPromise kind s opens work x)
+    one-open x = one-opens (λ a. calls.openingGives a opens) s kind opens work (calls.openRows (kindView kind s) opens x) (calls.openDone opens x)
 
-  module _ (x : ℕ) where
-    pub one-rename-dir : (p : ℕ) (name : List ℕ) → One (promised.RenameDirPromise s opens work x p name)
-    one-rename-dir p name = one-dir (λ a. calls.changeGives a s opens) s opens work (calls.renameDirRows s opens x p name) (calls.renameDirDone s opens x p name)
-
-    pub one-rename-file : (p : ℕ) (name : List ℕ) → One (promised.RenameFilePromise s opens work x p name)
-    one-rename-file p name = one-file (λ a. calls.changeGives a s opens) s opens work (calls.renameFileRows s opens x p name) (calls.renameFileDone s opens x p name)
-
-    pub one-delete-dir : One (promised.DeleteDirPromise s opens work x)
-    one-delete-dir = one-dir (λ a. calls.changeGives a s opens) s opens work (calls.deleteDirRows s opens x) (calls.deleteDirDone s opens x)
-
-    pub one-delete-file : One (promised.DeleteFilePromise s opens work x)
-    one-delete-file = one-file (λ a. calls.changeGives a s opens) s opens work (calls.deleteFileRows s opens x) (calls.deleteFileDone s opens x)
-
-    pub one-open-dir : One (promised.OpenDirPromise s opens work x)
-    one-open-dir = one-dir (λ a. calls.openingGives a opens) s opens work (calls.openRows (dirs s) opens x) (calls.openDone opens x)
-
-    pub one-open-file : One (promised.OpenFilePromise s opens work x)
-    one-open-file = one-file (λ a. calls.openingGives a opens) s opens work (calls.openRows (files s) opens x) (calls.openDone opens x)
-
-    pub one-close-dir : One (promised.CloseDirPromise s opens work x)
-    one-close-dir = one-dir (λ a. calls.openingGives a opens) s opens work (calls.closeRows (dirs s) opens x) (calls.closeDone opens x)
-
-    pub one-close-file : One (promised.CloseFilePromise s opens work x)
-    one-close-file = one-file (λ a. calls.openingGives a opens) s opens work (calls.closeRows (files s) opens x) (calls.closeDone opens x)
+    pub one-close : (x : ℕ) → One (promised.ClosePromise kind s opens work x)
+    one-close x = one-opens (λ a. calls.openingGives a opens) s kind opens work (calls.closeRows (kindView kind s) opens x) (calls.closeDone opens x)

@@ -4,7 +4,7 @@ use mathlib.Core.Path.{_≡_}
 use mathlib.Core.List.{List, [], _∷_, _++_}
 use mathlib.Core.Logic.{_⊎_}
 use Prim.Native.Nat.{ℕ, _+_, _-_, _*_, _<_, _≤_}
-use lib.ListN.{length, getD, set, take, drop}
+use lib.ListN.{length, take, drop}
 use Rattle.order.specs.First.{Row, row, First}
 use Rattle.order.specs.Giving.{giving}
 use Rattle.order.specs.declared.Answer.{Answer}
@@ -26,12 +26,17 @@ use Rattle.tree_key.specs.Key.{nameKey}
 use Rattle.tree_table.specs.View.{View, place, bucketOf, childrenOf, LiveIn}
 use Rattle.tree_table.specs.Steps.{taken, freeOf}
 use Rattle.tree_table.specs.Chain.{seekIn}
-use Rattle.tree_promises.specs.Tables.{Tables, dirs, files, Has, HasOther, above}
-use Rattle.tree_promises.specs.Steps.{carriedDir, carriedFile, madeDir, madeFile, deletedDir, deletedFile, renamedDir, renamedFile}
+use Rattle.tree_sound.specs.Tables.{Tables, dirs, files}
+use Rattle.tree_opens.specs.Opens.{opened, withOpen}
+use Rattle.tree_promises.specs.declared.Kind.{Kind}
+use Rattle.tree_promises.specs.declared.Kind.the-variants.{Directory, File}
+use Rattle.tree_promises.specs.Has.{Has, HasOther, above}
+use Rattle.tree_promises.specs.Kinds.{width, carriedAt, carriedMany, kindTable, kindView}
+use Rattle.tree_promises.specs.Steps.{withCarried, made, deleted, renamed}
 
--- the open count of inode x
-abbrev pub opened : List ℕ → ℕ → ℕ
-opened opens x = getD opens x 0
+-- inode x is live
+abbrev pub liveTests : (v : View) (x : ℕ) → List (Row Answer)
+liveTests v x = row (LiveIn v x → ⊥) NotFound ∷ []
 
 -- lookup -------------------------------------------------------------------------------------------------------------------------------------------
 
@@ -41,15 +46,15 @@ pub record Lookup : Type 0 where
   pub inode : ℕ
   pub compared : ℕ
 
-abbrev pub lookupGives : Answer → ℕ → ℕ → Lookup
+abbrev pub lookupGives : (answer : Answer) (inode compared : ℕ) → Lookup
 lookupGives answer inode compared = record { answer = answer; inode = inode; compared = compared }
 
 -- NotFound keeps the number compared, which is the bucket's length
-abbrev pub lookupRows : View → List ℕ → List (Row Lookup)
+abbrev pub lookupRows : (v : View) (key : List ℕ) → List (Row Lookup)
 lookupRows v k = row (Has v k → ⊥) (lookupGives NotFound 0 (length (bucketOf v (place v k)))) ∷ []
 
 -- the match, and its place in its bucket from 1
-abbrev pub lookupDone : View → List ℕ → Lookup
+abbrev pub lookupDone : (v : View) (key : List ℕ) → Lookup
 lookupDone v k =
     lookupGives Done (seekIn (v .key) k (bucketOf v (place v k)) 0 .inode) (seekIn (v .key) k (bucketOf v (place v k)) 0 .compared)
 
@@ -62,25 +67,24 @@ pub record Make : Type 0 where
   pub tables : Tables
   pub opens : List ℕ
 
-abbrev pub makeGives : Answer → ℕ → Tables → List ℕ → Make
+abbrev pub makeGives : (answer : Answer) (inode : ℕ) (tables : Tables) (opens : List ℕ) → Make
 makeGives answer inode tables opens = record { answer = answer; inode = inode; tables = tables; opens = opens }
 
 -- no entry never used and none removed: freeOf counts both
-abbrev pub makeTests : Tables → View → ℕ → List ℕ → List (Row Answer)
+abbrev pub makeTests : (s : Tables) (v : View) (p : ℕ) (key : List ℕ) → List (Row Answer)
 makeTests s v p k =
     row (LiveIn (dirs s) p → ⊥) NotFound
     ∷ row (Has v k) AlreadyExist
     ∷ row (freeOf v ≡ 0) NoSpace
     ∷ []
 
-abbrev pub makeRows : Tables → View → List ℕ → ℕ → List ℕ → List (Row Make)
+abbrev pub makeRows : (s : Tables) (v : View) (opens : List ℕ) (p : ℕ) (key : List ℕ) → List (Row Make)
 makeRows s v opens p k = giving (λ a. makeGives a 0 s opens) (makeTests s v p k)
 
-abbrev pub makeDirDone : Tables → List ℕ → ℕ → List ℕ → List ℕ → Make
-makeDirDone s opens p name padding = makeGives Done (taken (dirs s)) (madeDir s p name padding) (set opens (taken (dirs s)) 1)
-
-abbrev pub makeFileDone : Tables → List ℕ → ℕ → List ℕ → List ℕ → Make
-makeFileDone s opens p name carried = makeGives Done (taken (files s)) (madeFile s p name carried) (set opens (taken (files s)) 1)
+-- bytes are those that the entry carries
+abbrev pub makeDone : (kind : Kind) (s : Tables) (opens : List ℕ) (p : ℕ) (name bytes : List ℕ) → Make
+makeDone kind s opens p name bytes =
+    makeGives Done (taken (kindView kind s)) (made kind s p name bytes) (withOpen opens (taken (kindView kind s)) 1)
 
 -- rename, delete, open and close -------------------------------------------------------------------------------------------------------------------
 
@@ -90,92 +94,82 @@ pub record Change : Type 0 where
   pub tables : Tables
   pub opens : List ℕ
 
-abbrev pub changeGives : Answer → Tables → List ℕ → Change
+abbrev pub changeGives : (answer : Answer) (tables : Tables) (opens : List ℕ) → Change
 changeGives answer tables opens = record { answer = answer; tables = tables; opens = opens }
 
 -- inode x of the table v is live and open
-abbrev pub heldTests : View → List ℕ → ℕ → List (Row Answer)
-heldTests v opens x = row (LiveIn v x → ⊥) NotFound ∷ row (opened opens x ≡ 0) NotOpen ∷ []
+abbrev pub heldTests : (v : View) (opens : List ℕ) (x : ℕ) → List (Row Answer)
+heldTests v opens x = liveTests v x ++ (row (opened opens x ≡ 0) NotOpen ∷ [])
 
--- a directory: the root stays, and none goes to itself or below itself. The last row counts the entries after the subject's is given up
-abbrev pub renameDirTests : Tables → List ℕ → ℕ → ℕ → List ℕ → List (Row Answer)
-renameDirTests s opens x p name =
-    heldTests (dirs s) opens x
-    ++ (row (x ≡ 1) DeletingRoot
-    ∷ row (LiveIn (dirs s) p → ⊥) NotFound
-    ∷ row (x ∈ above (dirs s) p) IntoItself
-    ∷ row (HasOther (dirs s) x (nameKey p name)) AlreadyExist
-    ∷ row (freeOf (dirs s) + 1 ≡ 0) NoSpace
-    ∷ [])
+-- of a directory: the root stays, and none goes to itself or below itself
+abbrev pub rootTests : (kind : Kind) (x : ℕ) → List (Row Answer)
+rootTests Directory x = row (x ≡ 1) DeletingRoot ∷ []
+rootTests File x = []
 
-abbrev pub renameDirRows : Tables → List ℕ → ℕ → ℕ → List ℕ → List (Row Change)
-renameDirRows s opens x p name = giving (λ a. changeGives a s opens) (renameDirTests s opens x p name)
+abbrev pub ringTests : (kind : Kind) (s : Tables) (x p : ℕ) → List (Row Answer)
+ringTests Directory s x p = row (x ∈ above (dirs s) p) IntoItself ∷ []
+ringTests File s x p = []
 
-abbrev pub renameDirDone : Tables → List ℕ → ℕ → ℕ → List ℕ → Change
-renameDirDone s opens x p name = changeGives Done (renamedDir s x p name) opens
-
-abbrev pub renameFileTests : Tables → List ℕ → ℕ → ℕ → List ℕ → List (Row Answer)
-renameFileTests s opens x p name =
-    heldTests (files s) opens x
+-- the last row counts the entries after the subject's is given up
+abbrev pub renameTests : (kind : Kind) (s : Tables) (opens : List ℕ) (x p : ℕ) (name : List ℕ) → List (Row Answer)
+renameTests kind s opens x p name =
+    heldTests (kindView kind s) opens x
+    ++ (rootTests kind x
     ++ (row (LiveIn (dirs s) p → ⊥) NotFound
-    ∷ row (HasOther (files s) x (nameKey p name)) AlreadyExist
-    ∷ row (freeOf (files s) + 1 ≡ 0) NoSpace
-    ∷ [])
+    ∷ (ringTests kind s x p
+    ++ (row (HasOther (kindView kind s) x (nameKey p name)) AlreadyExist
+    ∷ row (freeOf (kindView kind s) + 1 ≡ 0) NoSpace
+    ∷ []))))
 
-abbrev pub renameFileRows : Tables → List ℕ → ℕ → ℕ → List ℕ → List (Row Change)
-renameFileRows s opens x p name = giving (λ a. changeGives a s opens) (renameFileTests s opens x p name)
+abbrev pub renameRows : (kind : Kind) (s : Tables) (opens : List ℕ) (x p : ℕ) (name : List ℕ) → List (Row Change)
+renameRows kind s opens x p name = giving (λ a. changeGives a s opens) (renameTests kind s opens x p name)
 
-abbrev pub renameFileDone : Tables → List ℕ → ℕ → ℕ → List ℕ → Change
-renameFileDone s opens x p name = changeGives Done (renamedFile s x p name) opens
+abbrev pub renameDone : (kind : Kind) (s : Tables) (opens : List ℕ) (x p : ℕ) (name : List ℕ) → Change
+renameDone kind s opens x p name = changeGives Done (renamed kind s x p name) opens
 
 -- delete needs exactly one open, and leaves 0
-abbrev pub deleteTests : View → List ℕ → ℕ → List (Row Answer)
-deleteTests v opens x = heldTests v opens x ++ (row (1 < opened opens x) Busy ∷ [])
+abbrev pub onceTests : (v : View) (opens : List ℕ) (x : ℕ) → List (Row Answer)
+onceTests v opens x = heldTests v opens x ++ (row (1 < opened opens x) Busy ∷ [])
 
-abbrev pub deleteDirTests : Tables → List ℕ → ℕ → List (Row Answer)
-deleteDirTests s opens x =
-    deleteTests (dirs s) opens x
-    ++ (row (x ≡ 1) DeletingRoot
-    ∷ row ((0 < dirs s .head x) ⊎ (0 < files s .head x)) NotEmpty
-    ∷ [])
+-- and of a directory, that it is not the root and has no children
+abbrev pub emptyTests : (kind : Kind) (s : Tables) (x : ℕ) → List (Row Answer)
+emptyTests Directory s x = rootTests Directory x ++ (row ((0 < dirs s .head x) ⊎ (0 < files s .head x)) NotEmpty ∷ [])
+emptyTests File s x = []
 
-abbrev pub deleteDirRows : Tables → List ℕ → ℕ → List (Row Change)
-deleteDirRows s opens x = giving (λ a. changeGives a s opens) (deleteDirTests s opens x)
+abbrev pub deleteTests : (kind : Kind) (s : Tables) (opens : List ℕ) (x : ℕ) → List (Row Answer)
+deleteTests kind s opens x = onceTests (kindView kind s) opens x ++ emptyTests kind s x
 
-abbrev pub deleteDirDone : Tables → List ℕ → ℕ → Change
-deleteDirDone s opens x = changeGives Done (deletedDir s x) (set opens x 0)
+abbrev pub deleteRows : (kind : Kind) (s : Tables) (opens : List ℕ) (x : ℕ) → List (Row Change)
+deleteRows kind s opens x = giving (λ a. changeGives a s opens) (deleteTests kind s opens x)
 
-abbrev pub deleteFileRows : Tables → List ℕ → ℕ → List (Row Change)
-deleteFileRows s opens x = giving (λ a. changeGives a s opens) (deleteTests (files s) opens x)
-
-abbrev pub deleteFileDone : Tables → List ℕ → ℕ → Change
-deleteFileDone s opens x = changeGives Done (deletedFile s x) (set opens x 0)
+abbrev pub deleteDone : (kind : Kind) (s : Tables) (opens : List ℕ) (x : ℕ) → Change
+deleteDone kind s opens x = changeGives Done (deleted kind s x) (withOpen opens x 0)
 
 -- the answer, the open counts afterwards
 pub record Opening : Type 0 where
   pub answer : Answer
   pub opens : List ℕ
 
-abbrev pub openingGives : Answer → List ℕ → Opening
+abbrev pub openingGives : (answer : Answer) (opens : List ℕ) → Opening
 openingGives answer opens = record { answer = answer; opens = opens }
 
-abbrev pub openRows : View → List ℕ → ℕ → List (Row Opening)
-openRows v opens x =
-    row (LiveIn v x → ⊥) (openingGives NotFound opens)
-    ∷ row (65535 ≤ opened opens x) (openingGives TooManyOpens opens)
-    ∷ []
+abbrev pub openTests : (v : View) (opens : List ℕ) (x : ℕ) → List (Row Answer)
+openTests v opens x = liveTests v x ++ (row (65535 ≤ opened opens x) TooManyOpens ∷ [])
 
-abbrev pub openDone : List ℕ → ℕ → Opening
-openDone opens x = openingGives Done (set opens x (opened opens x + 1))
+abbrev pub openRows : (v : View) (opens : List ℕ) (x : ℕ) → List (Row Opening)
+openRows v opens x = giving (λ a. openingGives a opens) (openTests v opens x)
 
-abbrev pub closeRows : View → List ℕ → ℕ → List (Row Opening)
-closeRows v opens x =
-    row (LiveIn v x → ⊥) (openingGives NotFound opens)
-    ∷ row (opened opens x ≡ 0) (openingGives NotOpen opens)
-    ∷ []
+abbrev pub openDone : (opens : List ℕ) (x : ℕ) → Opening
+openDone opens x = openingGives Done (withOpen opens x (opened opens x + 1))
 
-abbrev pub closeDone : List ℕ → ℕ → Opening
-closeDone opens x = openingGives Done (set opens x (opened opens x - 1))
+abbrev pub closeTests : (v : View) (opens : List ℕ) (x : ℕ) → List (Row Answer)
+closeTests v opens x = heldTests v opens x
+
+abbrev pub closeRows : (v : View) (opens : List ℕ) (x : ℕ) → List (Row Opening)
+closeRows v opens x = giving (λ a. openingGives a opens) (closeTests v opens x)
+
+abbrev pub closeDone : (opens : List ℕ) (x : ℕ) → Opening
+closeDone opens x = openingGives Done (withOpen opens x (opened opens x - 1))
 
 -- listing ------------------------------------------------------------------------------------------------------------------------------------------
 
@@ -185,28 +179,34 @@ pub record Listing : Type 0 where
   pub count : ℕ
   pub list : List ℕ
 
-abbrev pub listGives : Answer → ℕ → List ℕ → Listing
+abbrev pub listGives : (answer : Answer) (count : ℕ) (list : List ℕ) → Listing
 listGives answer count list = record { answer = answer; count = count; list = list }
 
 -- where the list xs is to be written: a lent list that is too short; the inodes in list order, and later places as they were
-abbrev pub shortRows : List ℕ → List ℕ → List (Row Listing)
-shortRows xs list = row (length list < length xs) (listGives ListTooShort 0 list) ∷ []
+abbrev pub shortTests : (xs list : List ℕ) → List (Row Answer)
+shortTests xs list = row (length list < length xs) ListTooShort ∷ []
 
-abbrev pub listedDone : List ℕ → List ℕ → Listing
+abbrev pub shortRows : (xs list : List ℕ) → List (Row Listing)
+shortRows xs list = giving (λ a. listGives a 0 list) (shortTests xs list)
+
+abbrev pub listedDone : (xs list : List ℕ) → Listing
 listedDone xs list = listGives Done (length xs) (xs ++ drop (length xs) list)
 
 -- v are the directories or the files, x the directory whose children in v are listed
-abbrev pub listRows : Tables → View → ℕ → List ℕ → List (Row Listing)
-listRows s v x list = row (LiveIn (dirs s) x → ⊥) (listGives NotFound 0 list) ∷ shortRows (childrenOf v x) list
+abbrev pub listTests : (s : Tables) (v : View) (x : ℕ) (list : List ℕ) → List (Row Answer)
+listTests s v x list = liveTests (dirs s) x ++ shortTests (childrenOf v x) list
 
-abbrev pub listDone : View → ℕ → List ℕ → Listing
+abbrev pub listRows : (s : Tables) (v : View) (x : ℕ) (list : List ℕ) → List (Row Listing)
+listRows s v x list = giving (λ a. listGives a 0 list) (listTests s v x list)
+
+abbrev pub listDone : (v : View) (x : ℕ) (list : List ℕ) → Listing
 listDone v x list = listedDone (childrenOf v x) list
 
 -- what the two listings say of sound tables
-abbrev pub ListDirs : Tables → ℕ → List ℕ → Listing → Type 0
+abbrev pub ListDirs : (s : Tables) (x : ℕ) (list : List ℕ) → Listing → Type 0
 ListDirs s x list o = First (listRows s (dirs s) x list) (listDone (dirs s) x list) o
 
-abbrev pub ListFiles : Tables → ℕ → List ℕ → Listing → Type 0
+abbrev pub ListFiles : (s : Tables) (x : ℕ) (list : List ℕ) → Listing → Type 0
 ListFiles s x list o = First (listRows s (files s) x list) (listDone (files s) x list) o
 
 -- stat ---------------------------------------------------------------------------------------------------------------------------------------------
@@ -219,7 +219,7 @@ pub record Stat : Type 0 where
   pub fileTotal : ℕ
   pub fileFree : ℕ
 
-abbrev pub statGives : Answer → ℕ → ℕ → ℕ → ℕ → Stat
+abbrev pub statGives : (answer : Answer) (dirTotal dirFree fileTotal fileFree : ℕ) → Stat
 statGives answer dt df ft ff = record { answer = answer; dirTotal = dt; dirFree = df; fileTotal = ft; fileFree = ff }
 
 abbrev pub statDone : Tables → Stat
@@ -228,7 +228,7 @@ statDone s = statGives Done (dirs s .maximum - 1) (freeOf (dirs s)) (files s .ma
 -- carried bytes ------------------------------------------------------------------------------------------------------------------------------------
 
 -- the bytes of an entry: many of them from place `at` on of entry x in a table of width w
-abbrev pub part : ℕ → List ℕ → ℕ → ℕ → ℕ → List ℕ
+abbrev pub part : (w : ℕ) (t : List ℕ) (x at many : ℕ) → List ℕ
 part w t x at many = take many (drop (x * w + at) t)
 
 -- the answer, and the bytes: the 4 or 20 carried ones
@@ -236,32 +236,26 @@ pub record Shown : Type 0 where
   pub answer : Answer
   pub bytes : List ℕ
 
-abbrev pub shownGives : Answer → List ℕ → Shown
+abbrev pub shownGives : (answer : Answer) (bytes : List ℕ) → Shown
 shownGives answer bytes = record { answer = answer; bytes = bytes }
 
 -- none is what a refusal shows: zero bytes
-abbrev pub shownRows : View → ℕ → List ℕ → List (Row Shown)
-shownRows v x none = row (LiveIn v x → ⊥) (shownGives NotFound none) ∷ []
+abbrev pub shownRows : (v : View) (x : ℕ) (none : List ℕ) → List (Row Shown)
+shownRows v x none = giving (λ a. shownGives a none) (liveTests v x)
 
-abbrev pub dirCarriedDone : Tables → ℕ → Shown
-dirCarriedDone s x = shownGives Done (part 40 (s .dirTable) x 32 4)
-
-abbrev pub fileCarriedDone : Tables → ℕ → Shown
-fileCarriedDone s x = shownGives Done (part 48 (s .fileTable) x 24 20)
+abbrev pub carriedDone : (kind : Kind) (s : Tables) (x : ℕ) → Shown
+carriedDone kind s x = shownGives Done (part (width kind) (kindTable kind s) x (carriedAt kind) (carriedMany kind))
 
 -- the answer, the tables afterwards
 pub record Carry : Type 0 where
   pub answer : Answer
   pub tables : Tables
 
-abbrev pub carryGives : Answer → Tables → Carry
+abbrev pub carryGives : (answer : Answer) (tables : Tables) → Carry
 carryGives answer tables = record { answer = answer; tables = tables }
 
-abbrev pub carryRows : Tables → View → ℕ → List (Row Carry)
-carryRows s v x = row (LiveIn v x → ⊥) (carryGives NotFound s) ∷ []
+abbrev pub carryRows : (s : Tables) (v : View) (x : ℕ) → List (Row Carry)
+carryRows s v x = giving (λ a. carryGives a s) (liveTests v x)
 
-abbrev pub carryDirDone : Tables → ℕ → List ℕ → Carry
-carryDirDone s x padding = carryGives Done (carriedDir s x padding)
-
-abbrev pub carryFileDone : Tables → ℕ → List ℕ → Carry
-carryFileDone s x carried = carryGives Done (carriedFile s x carried)
+abbrev pub carryDone : (kind : Kind) (s : Tables) (x : ℕ) (bytes : List ℕ) → Carry
+carryDone kind s x bytes = carryGives Done (withCarried kind s x bytes)

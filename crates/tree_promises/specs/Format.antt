@@ -9,35 +9,35 @@ use Rattle.order.specs.Gate.{cleared}
 use Rattle.order.specs.declared.Answer.{Answer}
 use Rattle.order.specs.declared.Answer.the-variants.{Done, SizeMismatch, InvalidValue}
 use Rattle.tree_key.specs.Hash.{hashOf}
-use Rattle.tree_table.specs.Field.{write, wrote}
-use Rattle.tree_sound.specs.Sizes.{Misfit, Outside, buckets}
-use Rattle.tree_promises.specs.Tables.{Tables, tables}
+use Rattle.tree_table.specs.Field.{write, wrote, collisionField, countField, maximumField}
+use Rattle.tree_sound.specs.Sizes.{buckets}
+use Rattle.tree_sound.specs.Tables.{Tables, tables, MisfitIn, OutsideIn}
 use Rattle.tree_promises.specs.Calls.{Carry, carryGives}
 
 -- a table that does not fit, or is shorter than its maximum of entries
-abbrev pub FormatMisfit : Tables → ℕ → ℕ → Type 0
+abbrev pub FormatMisfit : (s : Tables) (dm fm : ℕ) → Type 0
 FormatMisfit s dm fm =
-    Misfit (s .dirHash) (s .dirTable) (s .fileHash) (s .fileTable) ⊎ (length (s .dirTable) < dm * 40) ⊎ (length (s .fileTable) < fm * 48)
+    MisfitIn s ⊎ (length (s .dirTable) < dm * 40) ⊎ (length (s .fileTable) < fm * 48)
 
 -- a size outside document 01's, or a maximum that is not from 2 (directories) or 1 (files) to 65,536
-abbrev pub FormatOutside : Tables → ℕ → ℕ → Type 0
+abbrev pub FormatOutside : (s : Tables) (dm fm : ℕ) → Type 0
 FormatOutside s dm fm =
-    Outside (s .dirHash) (s .dirTable) (s .fileHash) (s .fileTable) ⊎ (dm < 2) ⊎ (65536 < dm) ⊎ (fm < 1) ⊎ (65536 < fm)
+    OutsideIn s ⊎ (dm < 2) ⊎ (65536 < dm) ⊎ (fm < 1) ⊎ (65536 < fm)
 
-abbrev pub formatRows : Tables → ℕ → ℕ → List (Row Carry)
+abbrev pub formatRows : (s : Tables) (dm fm : ℕ) → List (Row Carry)
 formatRows s dm fm =
     row (FormatMisfit s dm fm) (carryGives SizeMismatch s)
     ∷ row (FormatOutside s dm fm) (carryGives InvalidValue s)
     ∷ []
 
 -- both hashes are 0 but for the root's bucket; entry 0 is count, maximum and zeros; the root's entry is all zero; the rest of the tables stays
-abbrev pub formatted : Tables → ℕ → ℕ → Tables
+abbrev pub formatted : (s : Tables) (dm fm : ℕ) → Tables
 formatted s dm fm =
     tables
-    (wrote 4 (replicate (length (s .dirHash)) 0) (write (hashOf (0 ∷ 0 ∷ 0 ∷ 0 ∷ 0 ∷ []) % buckets (s .dirHash)) 0 1 ∷ []))
-    (wrote 40 (cleared 80 (s .dirTable)) (write 0 1 2 ∷ write 0 2 dm ∷ []))
+    (wrote 4 (replicate (length (s .dirHash)) 0) (write (hashOf (0 ∷ 0 ∷ 0 ∷ 0 ∷ 0 ∷ []) % buckets (s .dirHash)) collisionField 1 ∷ []))
+    (wrote 40 (cleared 80 (s .dirTable)) (write 0 countField 2 ∷ write 0 maximumField dm ∷ []))
     (replicate (length (s .fileHash)) 0)
-    (wrote 48 (cleared 48 (s .fileTable)) (write 0 1 1 ∷ write 0 2 fm ∷ []))
+    (wrote 48 (cleared 48 (s .fileTable)) (write 0 countField 1 ∷ write 0 maximumField fm ∷ []))
 
-abbrev pub FormatPromise : Tables → ℕ → ℕ → Carry → Type 0
+abbrev pub FormatPromise : (s : Tables) (dm fm : ℕ) → Carry → Type 0
 FormatPromise s dm fm o = First (formatRows s dm fm) (carryGives Done (formatted s dm fm)) o

@@ -1,7 +1,8 @@
-pub mod Tables
+pub mod Has
+pub mod Kinds
 pub mod Steps
 pub mod Calls
 pub mod Promise
 pub mod Format
-pub mod Ready
+pub mod inner
 pub mod Public

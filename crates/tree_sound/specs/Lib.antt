@@ -1,2 +1,3 @@
 pub mod Sound
 pub mod Sizes
+pub mod Tables

@@ -11,12 +11,31 @@ abbrev pub start : ℕ → ℕ → ℕ
 start w zero = w - 4
 start w (suc f) = 4 * f
 
--- the two fields that lists go along
-abbrev pub collision : ℕ
-collision = 0
+-- the fields that the steps write, by name
+abbrev pub collisionField : ℕ
+collisionField = 0
 
-abbrev pub next : ℕ
-next = 6
+abbrev pub countField : ℕ
+countField = 1
+
+abbrev pub maximumField : ℕ
+maximumField = 2
+
+abbrev pub nextField : ℕ
+nextField = 6
+
+abbrev pub subDirField : ℕ
+subDirField = 7
+
+abbrev pub subFileField : ℕ
+subFileField = 8
+
+abbrev pub paddingField : ℕ
+paddingField = 9
+
+-- word i, from 0 on, of the bytes that a file carries
+abbrev pub carriedField : ℕ → ℕ
+carriedField i = 7 + i
 
 -- field f of entry x in the table t of width w
 unfoldable pub field : ℕ → List ℕ → ℕ → ℕ → ℕ

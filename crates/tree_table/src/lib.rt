@@ -8,7 +8,7 @@ ghost use Rattle.words.specs.Word.{word, putWord};
 ghost use Rattle.links.specs.Links.{_∈_};
 ghost use Rattle.links.specs.Change.{pick, before};
 ghost use Rattle.tree_key.specs.Key.{keyWords};
-ghost use Rattle.tree_table.specs.Field.{start, collision, field, write, wrote};
+ghost use Rattle.tree_table.specs.Field.{start, collisionField, field, write, wrote};
 ghost use Rattle.tree_table.specs.View.{keyAt, hashAt};
 ghost use Rattle.tree_table.specs.Steps.{takeWrites, enterWrites, cutWrites, headWrites, copyWrites, giveWrites};
 ghost use Rattle.tree_table.specs.Chain.{linkAt, listAt, Ends, member, seekIn};
@@ -101,8 +101,8 @@ pub struct Hit {
 
 // Goes along a bucket from its first entry; each entry's own part of the table is handed to the key comparison.
 pub fn get(table: &[u8], w: usize, first: u32, key: tree_key::SaveExtKey) -> Hit
-    requires { ⌜ Ends (now table) w (start w collision) first × (24 ≤ w) ⌝ }
-    ensures { λ r. ⌜ r ≡ seekIn (keyAt (field w (now (table .entry)))) (keyWords key) (listAt (now (table .entry)) w (start w collision) first) 0 ⌝ }
+    requires { ⌜ Ends (now table) w (start w collisionField) first × (24 ≤ w) ⌝ }
+    ensures { λ r. ⌜ r ≡ seekIn (keyAt (field w (now (table .entry)))) (keyWords key) (listAt (now (table .entry)) w (start w collisionField) first) 0 ⌝ }
 {
     let mut x = first;
     let mut n: u32 = 0;

@@ -7,7 +7,6 @@ use Prim.Native.Nat.{ℕ, zero, suc, _+_, _-_, _*_, _/_, _%_, _≤_, _<_}
 use native.Mathlib.Omega.{arith}
 use native.Mathlib.Nat.{zero-add}
 use lib.ListN.{length, getD, replicate, getD-replicate, length-replicate}
-use Rattle.order.specs.First.{First}
 use Rattle.order.specs.Gate.{cleared, Refusal, refusal}
 use Rattle.order.specs.Given.{Given, None}
 use Rattle.order.specs.declared.Answer.{Answer}
@@ -16,13 +15,14 @@ use Rattle.links.specs.Links.{_∈_}
 use Rattle.tree_table.specs.Field.{field}
 use Rattle.tree_table.specs.View.{dirView, fileView, removedOf}
 use Rattle.tree_sound.specs.Sound.{Sound}
+use Rattle.tree_sound.specs.Tables.{tables}
 use Rattle.tree_sound.specs.Sizes.{rooms, HashMisfit, Misfit, Beyond, Outside}
 use Rattle.order.specs.Tells.{Tells}
 use Rattle.tree_marks.specs.inner.Marks.{markAt, Within}
 use Rattle.tree_marks.specs.inner.Gather.{GoneMarked}
 use Rattle.tree_marks.proofs.Walks.{le-or-lt}
 use Rattle.tree_test.specs.Gate.{treeGate, openGate}
-use Rattle.tree_test.specs.Promise.{tested, testDone, GateOf, TreeGateOf, OpenGateOf}
+use Rattle.tree_test.specs.Promise.{tested, TestPromise, TreeGateOf, OpenGateOf}
 use Rattle.tree_test.specs.declared.Gated.{Gated}
 use Rattle.tree_test.specs.declared.Gated.the-variants.{Open, Refused}
 use Rattle.tree_test.specs.inner.Halves.{DirsTested, FilesTested, Sized}
@@ -107,15 +107,15 @@ replicate-zero (suc n) (suc j) = replicate-zero n j
 -- ---- the gate's ways out
 
 module _ (dh d fh f : List ℕ) (opens room : ℕ) (work : List ℕ) where
-  pub gate-misfit : Misfit dh d fh f → Given (openGate refusal dh d fh f opens room work) (refusal SizeMismatch work)
+  pub gate-misfit : Misfit dh d fh f → Given (openGate refusal (tables dh d fh f) opens room work) (refusal SizeMismatch work)
   gate-misfit m = inl (m, refl)
 
   module _ (m : Misfit dh d fh f → ⊥) where
-    pub gate-outside : Outside dh d fh f → Given (openGate refusal dh d fh f opens room work) (refusal InvalidValue work)
+    pub gate-outside : Outside dh d fh f → Given (openGate refusal (tables dh d fh f) opens room work) (refusal InvalidValue work)
     gate-outside o = inr (m, inl (o, refl))
 
     module _ (o : Outside dh d fh f → ⊥) where
-      pub gate-short : (length work < rooms d f) ⊎ (opens < room) → Given (openGate refusal dh d fh f opens room work) (refusal WorkTooShort work)
+      pub gate-short : (length work < rooms d f) ⊎ (opens < room) → Given (openGate refusal (tables dh d fh f) opens room work) (refusal WorkTooShort work)
       gate-short s = inr (m, inr (o, inl (s, refl)))
 
       module _ (s : rooms d f ≤ length work) (p : room ≤ opens) where
@@ -123,11 +123,11 @@ module _ (dh d fh f : List ℕ) (opens room : ℕ) (work : List ℕ) where
         long = ⊎-elim (λ (h : length work < rooms d f). omega arith) (λ (h : opens < room). omega arith)
 
         pub gate-broken : {w : List ℕ} → (Sound (dirView dh d) (fileView d fh f) → ⊥) → w ≡ cleared (rooms d f) work
-            → Given (openGate refusal dh d fh f opens room work) (refusal BrokenTree w)
+            → Given (openGate refusal (tables dh d fh f) opens room work) (refusal BrokenTree w)
         gate-broken u c = inr (m, inr (o, inr (long, inl (u, ap (λ (x : List ℕ). refusal BrokenTree x) c))))
 
         pub gate-open : {w : List ℕ} → Sound (dirView dh d) (fileView d fh f) → w ≡ cleared (rooms d f) work
-            → None (openGate refusal dh d fh f opens room work) × Sound (dirView dh d) (fileView d fh f) × (w ≡ cleared (rooms d f) work)
+            → None (openGate refusal (tables dh d fh f) opens room work) × Sound (dirView dh d) (fileView d fh f) × (w ≡ cleared (rooms d f) work)
         gate-open S c = ((m, (o, (long, ((λ u. u S), tt)))), S, c)
 
 -- ---- the gate of a call that takes no open counts, and the test
@@ -137,33 +137,36 @@ none-short (inl a) = a
 none-short (inr h) = absurd (omega arith)
 
 module _ (dh d fh f work : List ℕ) where
-  given-plain : (o : Refusal) → Given (openGate refusal dh d fh f 0 0 work) o → Given (treeGate refusal dh d fh f work) o
+  given-plain : (o : Refusal) → Given (openGate refusal (tables dh d fh f) 0 0 work) o → Given (treeGate refusal (tables dh d fh f) work) o
   given-plain o (inl p) = inl p
   given-plain o (inr (m, inl p)) = inr (m, inl p)
   given-plain o (inr (m, inr (q, inl p))) = inr (m, inr (q, inl (none-short (p .0), p .1)))
   given-plain o (inr (m, inr (q, inr (s, inl p)))) = inr (m, inr (q, inr ((λ h. s (inl h)), inl p)))
   given-plain o (inr (m, inr (q, inr (s, inr p)))) = absurd (p .1)
 
-  pub gate-plain : (work′ : List ℕ) (g : Gated) → OpenGateOf dh d fh f 0 0 work work′ g → TreeGateOf dh d fh f work work′ g
+  pub gate-plain : (work′ : List ℕ) (g : Gated) → OpenGateOf (tables dh d fh f) 0 0 work work′ g → TreeGateOf (tables dh d fh f) work work′ g
+  unfolding OpenGateOf TreeGateOf
   gate-plain work′ Open p = ((p .0 .0, (p .0 .1 .0, ((λ h. p .0 .1 .1 .0 (inl h)), p .0 .1 .1 .1))), p .1, p .2)
   gate-plain work′ (Refused answer) p = given-plain (refusal answer work′) p
 
   answered : {a b : Answer} {v w : List ℕ} → refusal a v ≡ refusal b w → tested a v ≡ tested b w
   answered e = ap (λ (r : Refusal). tested (r .answer) (r .work)) e
 
-  pub test-refused : (work′ : List ℕ) (answer : Answer) → TreeGateOf dh d fh f work work′ (Refused answer) → First (treeGate tested dh d fh f work) (testDone d f work) (tested answer work′)
+  pub test-refused : (work′ : List ℕ) (answer : Answer) → TreeGateOf (tables dh d fh f) work work′ (Refused answer) → TestPromise (tables dh d fh f) work (tested answer work′)
+  unfolding TreeGateOf
   test-refused work′ answer (inl p) = inl (p .0, answered (p .1))
   test-refused work′ answer (inr (m, inl p)) = inr (m, inl (p .0, answered (p .1)))
   test-refused work′ answer (inr (m, inr (q, inl p))) = inr (m, inr (q, inl (p .0, answered (p .1))))
   test-refused work′ answer (inr (m, inr (q, inr (s, inl p)))) = inr (m, inr (q, inr (s, inl (p .0, answered (p .1)))))
   test-refused work′ answer (inr (m, inr (q, inr (s, inr p)))) = absurd (p .1)
 
-  pub test-open : (work′ : List ℕ) → TreeGateOf dh d fh f work work′ Open → First (treeGate tested dh d fh f work) (testDone d f work) (tested Done work′)
+  pub test-open : (work′ : List ℕ) → TreeGateOf (tables dh d fh f) work work′ Open → TestPromise (tables dh d fh f) work (tested Done work′)
+  unfolding TreeGateOf
   test-open work′ p = inr (p .0 .0, inr (p .0 .1 .0, inr (p .0 .1 .1 .0, inr (p .0 .1 .1 .1 .0, ap (λ (l : List ℕ). tested Done l) (p .2)))))
 
-  pub test-opened : (work′ : List ℕ) (g : Gated) → g ≡ Open → TreeGateOf dh d fh f work work′ g → First (treeGate tested dh d fh f work) (testDone d f work) (tested Done work′)
-  test-opened work′ g e p = test-open work′ (subst (λ (x : Gated). TreeGateOf dh d fh f work work′ x) e p)
+  pub test-opened : (work′ : List ℕ) (g : Gated) → g ≡ Open → TreeGateOf (tables dh d fh f) work work′ g → TestPromise (tables dh d fh f) work (tested Done work′)
+  test-opened work′ g e p = test-open work′ (subst (λ (x : Gated). TreeGateOf (tables dh d fh f) work work′ x) e p)
 
-  pub test-shut : (work′ : List ℕ) (g : Gated) (answer : Answer) → g ≡ Refused answer → TreeGateOf dh d fh f work work′ g
-      → First (treeGate tested dh d fh f work) (testDone d f work) (tested answer work′)
-  test-shut work′ g answer e p = test-refused work′ answer (subst (λ (x : Gated). TreeGateOf dh d fh f work work′ x) e p)
+  pub test-shut : (work′ : List ℕ) (g : Gated) (answer : Answer) → g ≡ Refused answer → TreeGateOf (tables dh d fh f) work work′ g
+      → TestPromise (tables dh d fh f) work (tested answer work′)
+  test-shut work′ g answer e p = test-refused work′ answer (subst (λ (x : Gated). TreeGateOf (tables dh d fh f) work work′ x) e p)

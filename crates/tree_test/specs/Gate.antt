@@ -1,5 +1,4 @@
--- The rows that the calls on the entry tables begin with: sizes, work list, soundness, in document 01's order. dh, d, fh, f are the four tables: the
--- directories' hash and entries, the files' hash and entries.
+-- The rows that the calls on the entry tables begin with: sizes, work list, soundness, in document 01's order. s are the four tables.
 use mathlib.Core.List.{List, [], _∷_}
 use mathlib.Core.Logic.{_⊎_}
 use Prim.Native.Nat.{ℕ, _<_}
@@ -8,21 +7,16 @@ use Rattle.order.specs.First.{Row, row}
 use Rattle.order.specs.Gate.{gate}
 use Rattle.order.specs.declared.Answer.{Answer}
 use Rattle.order.specs.declared.Answer.the-variants.{BrokenTree}
-use Rattle.tree_table.specs.View.{dirView, fileView}
-use Rattle.tree_sound.specs.Sound.{Sound}
-use Rattle.tree_sound.specs.Sizes.{rooms, Misfit, Outside}
+use Rattle.tree_sound.specs.Tables.{Tables, MisfitIn, OutsideIn, roomsIn, SoundIn}
 
 -- the one gate of the tree calls: invalid and short are what rows 2 and 3 speak of; refuse a w is what the call gives with the answer a and the work list w
-abbrev pub entryGate : {A : Type 0} → (Answer → List ℕ → A) → (dh d fh f : List ℕ) → (invalid short : Type 0) → List ℕ → List (Row A)
-entryGate refuse dh d fh f invalid short work =
-    gate refuse (Misfit dh d fh f) invalid short (row (Sound (dirView dh d) (fileView d fh f) → ⊥) BrokenTree ∷ []) (rooms d f) work
+abbrev pub entryGate : {A : Type 0} (refuse : Answer → List ℕ → A) (s : Tables) (invalid short : Type 0) (work : List ℕ) → List (Row A)
+entryGate refuse s invalid short work = gate refuse (MisfitIn s) invalid short (row (SoundIn s → ⊥) BrokenTree ∷ []) (roomsIn s) work
 
 -- of a call that takes no open counts
-abbrev pub treeGate : {A : Type 0} → (Answer → List ℕ → A) → (dh d fh f : List ℕ) → List ℕ → List (Row A)
-treeGate refuse dh d fh f work =
-    entryGate refuse dh d fh f (Outside dh d fh f) (length work < rooms d f) work
+abbrev pub treeGate : {A : Type 0} (refuse : Answer → List ℕ → A) (s : Tables) (work : List ℕ) → List (Row A)
+treeGate refuse s work = entryGate refuse s (OutsideIn s) (length work < roomsIn s) work
 
 -- of a call that takes open counts also: opens is the length of their list, room that of the table that they count for
-abbrev pub openGate : {A : Type 0} → (Answer → List ℕ → A) → (dh d fh f : List ℕ) → (opens room : ℕ) → List ℕ → List (Row A)
-openGate refuse dh d fh f opens room work =
-    entryGate refuse dh d fh f (Outside dh d fh f) ((length work < rooms d f) ⊎ (opens < room)) work
+abbrev pub openGate : {A : Type 0} (refuse : Answer → List ℕ → A) (s : Tables) (opens room : ℕ) (work : List ℕ) → List (Row A)
+openGate refuse s opens room work = entryGate refuse s (OutsideIn s) ((length work < roomsIn s) ⊎ (opens < room)) work

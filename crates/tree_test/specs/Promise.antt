@@ -2,14 +2,12 @@
 use mathlib.Core.Path.{_≡_}
 use mathlib.Core.List.{List}
 use Prim.Native.Nat.{ℕ}
-use Rattle.order.specs.First.{Row}
+use Rattle.order.specs.First.{Row, First}
 use Rattle.order.specs.Gate.{cleared, Refusal, refusal}
 use Rattle.order.specs.Given.{Given, None}
 use Rattle.order.specs.declared.Answer.{Answer}
 use Rattle.order.specs.declared.Answer.the-variants.{Done}
-use Rattle.tree_table.specs.View.{dirView, fileView}
-use Rattle.tree_sound.specs.Sound.{Sound}
-use Rattle.tree_sound.specs.Sizes.{rooms}
+use Rattle.tree_sound.specs.Tables.{Tables, roomsIn, SoundIn}
 use Rattle.tree_test.specs.Gate.{treeGate, openGate}
 use Rattle.tree_test.specs.declared.Tested.{Tested}
 use Rattle.tree_test.specs.declared.Gated.{Gated}
@@ -20,16 +18,20 @@ abbrev pub tested : Answer → List ℕ → Tested × List ℕ
 tested answer work = (record { answer = answer }, work)
 
 -- Done: the tables are sound
-abbrev pub testDone : List ℕ → List ℕ → List ℕ → Tested × List ℕ
-testDone d f work = tested Done (cleared (rooms d f) work)
+abbrev pub testDone : (s : Tables) (work : List ℕ) → Tested × List ℕ
+testDone s work = tested Done (cleared (roomsIn s) work)
+
+-- the whole promise of the test, on all inputs
+abbrev pub TestPromise : (s : Tables) (work : List ℕ) → Tested × List ℕ → Type 0
+TestPromise s work o = First (treeGate tested s work) (testDone s work) o
 
 -- a gate is open: no row applies, the tables are sound, and the work list is cleared, k places of it; or the first row that applies refuses
 abbrev pub GateOf : List (Row Refusal) → Type 0 → ℕ → List ℕ → List ℕ → Gated → Type 0
 GateOf rows sound k work work′ Open = None rows × sound × (work′ ≡ cleared k work)
 GateOf rows sound k work work′ (Refused answer) = Given rows (refusal answer work′)
 
-abbrev pub TreeGateOf : (dh d fh f work work′ : List ℕ) → Gated → Type 0
-TreeGateOf dh d fh f work work′ g = GateOf (treeGate refusal dh d fh f work) (Sound (dirView dh d) (fileView d fh f)) (rooms d f) work work′ g
+unfoldable pub TreeGateOf : (s : Tables) (work work′ : List ℕ) → Gated → Type 0
+TreeGateOf s work work′ g = GateOf (treeGate refusal s work) (SoundIn s) (roomsIn s) work work′ g
 
-abbrev pub OpenGateOf : (dh d fh f : List ℕ) → (opens room : ℕ) → (work work′ : List ℕ) → Gated → Type 0
-OpenGateOf dh d fh f opens room work work′ g = GateOf (openGate refusal dh d fh f opens room work) (Sound (dirView dh d) (fileView d fh f)) (rooms d f) work work′ g
+unfoldable pub OpenGateOf : (s : Tables) (opens room : ℕ) (work work′ : List ℕ) → Gated → Type 0
+OpenGateOf s opens room work work′ g = GateOf (openGate refusal s opens room work) (SoundIn s) (roomsIn s) work work′ g

@@ -9,12 +9,11 @@ ghost use Rattle.order.specs.Tells.{Tells};
 ghost use Rattle.tree_marks.specs.inner.Marks.{markAt};
 ghost use Rattle.tree_marks.specs.inner.Gather.{GoneMarked};
 ghost use lib.ListN.{length, getD, replicate};
-ghost use Rattle.order.specs.First.{First};
 ghost use Rattle.order.specs.Gate.{cleared};
 ghost use Rattle.tree_sound.specs.Sizes.{rooms, HashMisfit, Misfit, Beyond, Outside};
 ghost use Rattle.tree_sound.specs.Sound.{Sound};
-ghost use Rattle.tree_test.specs.Gate.{treeGate};
-ghost use Rattle.tree_test.specs.Promise.{tested, testDone, TreeGateOf, OpenGateOf};
+ghost use Rattle.tree_sound.specs.Tables.{tables};
+ghost use Rattle.tree_test.specs.Promise.{TestPromise, TreeGateOf, OpenGateOf};
 ghost use Rattle.tree_test.specs.inner.Halves.{RootFits, DirsTested, FilesTested, Sized};
 
 // The test's answer: Done for sound tables.
@@ -248,7 +247,7 @@ pub fn open_gate(
     room: usize,
     work: &mut [u32],
 ) -> Gated
-    ensures { λ r. ⌜ OpenGateOf (now («dir_hash» .entry)) (now («dir_table» .entry)) (now («file_hash» .entry)) (now («file_table» .entry)) opens room (now (work .entry)) (now (work .exit)) r ⌝ }
+    ensures { λ r. ⌜ OpenGateOf (tables (now («dir_hash» .entry)) (now («dir_table» .entry)) (now («file_hash» .entry)) (now («file_table» .entry))) opens room (now (work .entry)) (now (work .exit)) r ⌝ }
 {
     if misfit(dir_hash, dir_table, file_hash, file_table) {
         return Gated::Refused {
@@ -286,7 +285,7 @@ pub fn gate(
     file_table: &[u8],
     work: &mut [u32],
 ) -> Gated
-    ensures { λ r. ⌜ TreeGateOf (now («dir_hash» .entry)) (now («dir_table» .entry)) (now («file_hash» .entry)) (now («file_table» .entry)) (now (work .entry)) (now (work .exit)) r ⌝ }
+    ensures { λ r. ⌜ TreeGateOf (tables (now («dir_hash» .entry)) (now («dir_table» .entry)) (now («file_hash» .entry)) (now («file_table» .entry))) (now (work .entry)) (now (work .exit)) r ⌝ }
 {
     open_gate(dir_hash, dir_table, file_hash, file_table, 0, 0, work)
 }
@@ -299,8 +298,7 @@ pub fn test(
     file_table: &[u8],
     work: &mut [u32],
 ) -> Tested
-    ensures { λ r. ⌜ First (treeGate tested (now («dir_hash» .entry)) (now («dir_table» .entry)) (now («file_hash» .entry)) (now («file_table» .entry)) (now (work .entry)))
-        (testDone (now («dir_table» .entry)) (now («file_table» .entry)) (now (work .entry))) (r, now (work .exit)) ⌝ }
+    ensures { λ r. ⌜ TestPromise (tables (now («dir_hash» .entry)) (now («dir_table» .entry)) (now («file_hash» .entry)) (now («file_table» .entry))) (now (work .entry)) (r, now (work .exit)) ⌝ }
 {
     let g = gate(dir_hash, dir_table, file_hash, file_table, work);
     let Gated::Refused { answer } = g else {

@@ -6,7 +6,7 @@ use mathlib.Core.Bool.{Bool, true, false}
 use Prim.Native.Nat.{ℕ, _+_, _-_, _*_, _%_, _<_}
 use Rattle.links.specs.Links.{_∈_}
 use Rattle.tree_key.specs.Hash.{hashOf}
-use Rattle.tree_table.specs.Field.{start, collision, field}
+use Rattle.tree_table.specs.Field.{start, collisionField, field}
 use Rattle.tree_table.specs.View.{keyAt}
 use Rattle.tree_table.specs.Chain.{linkAt, listAt}
 use Rattle.tree_marks.specs.inner.Marks.{gone}
@@ -18,4 +18,4 @@ Fits t w buckets long y mark = (mark ≡ gone) ⊎ ((mark ≡ hashOf (keyAt (fie
 
 -- every entry of the list from `first` on, by one mark
 abbrev pub AllFit : List ℕ → ℕ → ℕ → ℕ → ℕ → Type 0
-AllFit t w buckets first mark = (y : ℕ) → y ∈ listAt t w (start w collision) first → Fits t w buckets (far t w first) y mark
+AllFit t w buckets first mark = (y : ℕ) → y ∈ listAt t w (start w collisionField) first → Fits t w buckets (far t w first) y mark

@@ -6,7 +6,7 @@ use Prim.Native.Nat.{ℕ, _+_, _-_, _/_, _≤_, _<_}
 use lib.Dec.{ltb}
 use lib.ListN.{length}
 use Rattle.links.specs.Links.{_∈_, Links}
-use Rattle.tree_table.specs.Field.{start, collision, field}
+use Rattle.tree_table.specs.Field.{start, collisionField, field}
 use Rattle.tree_table.specs.View.{keyAt}
 use Rattle.tree_table.specs.Chain.{linkAt, listAt, Ends}
 use Rattle.tree_marks.specs.inner.Marks.{gone, markAt, Within}
@@ -14,20 +14,20 @@ use Rattle.tree_marks.specs.inner.Gather.{bucketAt}
 
 -- no entry behind y in its bucket has y's key
 abbrev pub Apart : List ℕ → ℕ → ℕ → Type 0
-Apart t w y = (z : ℕ) → z ∈ listAt t w (start w collision) (linkAt t w (start w collision) y) → keyAt (field w t) z ≡ keyAt (field w t) y → ⊥
+Apart t w y = (z : ℕ) → z ∈ listAt t w (start w collisionField) (linkAt t w (start w collisionField) y) → keyAt (field w t) z ≡ keyAt (field w t) y → ⊥
 
 -- so it is of every entry of the bucket from `first` on
 pub record AllApart (t : List ℕ) (w first : ℕ) : Type 0 where
-  pub each : (y : ℕ) → y ∈ listAt t w (start w collision) first → Apart t w y
+  pub each : (y : ℕ) → y ∈ listAt t w (start w collisionField) first → Apart t w y
 
 -- whether a bucket is long: its keys are then compared by sorting
 unfoldable pub far : List ℕ → ℕ → ℕ → Bool
-far t w first = ltb 16 (length (listAt t w (start w collision) first))
+far t w first = ltb 16 (length (listAt t w (start w collisionField) first))
 
 -- the buckets end, and each has fewer entries than `room`
 pub record Bounded (h t : List ℕ) (w room : ℕ) : Type 0 where
-  pub ends : (j : ℕ) → 0 < j → j < length h / 4 + 1 → Ends t w (start w collision) (bucketAt h j)
-  pub short : (j : ℕ) → 0 < j → j < length h / 4 + 1 → length (listAt t w (start w collision) (bucketAt h j)) ≤ room
+  pub ends : (j : ℕ) → 0 < j → j < length h / 4 + 1 → Ends t w (start w collisionField) (bucketAt h j)
+  pub short : (j : ℕ) → 0 < j → j < length h / 4 + 1 → length (listAt t w (start w collisionField) (bucketAt h j)) ≤ room
 
 -- no bucket is long
 pub record NoneFar (h t : List ℕ) (w : ℕ) : Type 0 where
@@ -44,7 +44,7 @@ pub record Wiped (off count : ℕ) (work work′ : List ℕ) : Type 0 where
 
 -- the removed list R ends below count; its entries have the mark `gone`, all others 0
 pub record Swept (t : List ℕ) (w count : ℕ) (R : List ℕ) (W : ℕ → ℕ) : Type 0 where
-  pub links : Links (linkAt t w (start w collision)) (linkAt t w (start w collision) 0) R
+  pub links : Links (linkAt t w (start w collisionField)) (linkAt t w (start w collisionField) 0) R
   pub below : (y : ℕ) → y ∈ R → y < count
   pub dead : (y : ℕ) → y ∈ R → W y ≡ gone
   pub others : (y : ℕ) → (y ∈ R → ⊥) → W y ≡ 0
@@ -52,5 +52,5 @@ pub record Swept (t : List ℕ) (w count : ℕ) (R : List ℕ) (W : ℕ → ℕ)
 -- the test of the long buckets, in the places of the marks: they differ, and the removed entries alone have their mark again; or they do not differ
 pub record Sifted (h t : List ℕ) (w count off : ℕ) (work work′ : List ℕ) (r : Bool) : Type 0 where
   pub good : r ≡ true → FarApart h t w × ((R : List ℕ) × Swept t w count R (markAt work′ off))
-  pub bad : r ≡ false → FarApart h t w → (R : List ℕ) → Links (linkAt t w (start w collision)) (linkAt t w (start w collision) 0) R → ((y : ℕ) → y ∈ R → y < count) → ⊥
+  pub bad : r ≡ false → FarApart h t w → (R : List ℕ) → Links (linkAt t w (start w collisionField)) (linkAt t w (start w collisionField) 0) R → ((y : ℕ) → y ∈ R → y < count) → ⊥
   pub within : Within off count work work′

@@ -1,5 +1,5 @@
 -- `mukthiban_tested_tree_name` meets its contract.
-use Rattle.tree_promises.specs.Tables.{tables}
+use Rattle.tree_sound.specs.Tables.{tables}
 use Rattle.mukthiban.proofs.Names.{inner-dir, inner-file}
 use borrow.Author.Needs.{needs}
 use Rattle.mukthiban.proofs.name.mukthiban_tested_tree_name.Statement.{statement}

@@ -1,5 +1,5 @@
 -- `other_kind` meets its contract.
-use Rattle.tree_promises.specs.Tables.{tables}
+use Rattle.tree_sound.specs.Tables.{tables}
 use mathlib.Core.Path.{refl}
 use mathlib.Core.Logic.{inl, inr}
 use Rattle.mukthiban.proofs.Names.{one-misfit, other-fits}

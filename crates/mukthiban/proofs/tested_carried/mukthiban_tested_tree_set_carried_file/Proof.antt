@@ -1,5 +1,5 @@
 -- `mukthiban_tested_tree_set_carried_file` meets its contract.
-use Rattle.tree_promises.specs.Tables.{tables}
+use Rattle.tree_sound.specs.Tables.{tables}
 use Rattle.tree_inner.proofs.Opens.{set-file}
 use borrow.Author.Needs.{needs}
 use Rattle.mukthiban.proofs.tested_carried.mukthiban_tested_tree_set_carried_file.Statement.{

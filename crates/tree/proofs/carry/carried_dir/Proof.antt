@@ -1,8 +1,5 @@
-use Rattle.tree_promises.specs.Tables.{tables, dirs}
-use Rattle.tree_promises.proofs.Public.{ready, shut, through}
-use lib.ListN.{replicate}
-use Rattle.tree_promises.specs.Calls.{shownGives, shownRows, dirCarriedDone}
-use Rattle.tree_inner.proofs.Lists.{dir-single}
+use Rattle.tree_promises.proofs.Gated.{tree-refused, tree-passed}
+use Rattle.tree.proofs.Gated.{tree-dirs}
 use borrow.Author.Needs.{needs}
 use Rattle.tree.proofs.carry.carried_dir.Statement.{statement}
 use Rattle.tree.proofs.carry.carried_dir.Tie as tie
@@ -17,38 +14,19 @@ enum-told : tie.Need-enum-told
 enum-told c = search needs
 
 carried-dir-requires : tie.Need-carried-dir-requires
-carried-dir-requires c κs =
-    let args = c .before .before .before .before .before .before .before .before .before .before .before .args in
-    let s = tables (args .dir-hash .now) (args .dir-table .now) (args .file-hash .now) (args .file-table .now) in
-    let gated = c .before .before .before .before .gate in
-    dir-single s (ready s _ _ _ _ (gated .ensures) (c .enum-told .given .1))
+carried-dir-requires c κs = search (tree-dirs)
 
 same-length : tie.Need-same-length
 same-length c = search needs
 
 returns : tie.Need-returns
-returns c =
-    let args = c .before .before .before .before .before .before .before .before .before .before .before .before .args in
-    let s = tables (args .dir-hash .now) (args .dir-table .now) (args .file-hash .now) (args .file-table .now) in
-    let gated = c .before .before .before .before .before .gate in
-    shut (λ a. shownGives a (replicate 4 0)) s _ _ _
-    (shownRows (dirs s) (args .inode) (replicate 4 0))
-    (dirCarriedDone s (args .inode)) _
-    (gated .ensures) _ (c .before .gated .given .1)
+returns c = search (tree-refused)
 
 same-length-2 : tie.Need-same-length-2
 same-length-2 c = search needs
 
 returns-2 : tie.Need-returns-2
-returns-2 c =
-    let args = c .before .before .before .before .before .before .before .before .before .before .before .before .args in
-    let s = tables (args .dir-hash .now) (args .dir-table .now) (args .file-hash .now) (args .file-table .now) in
-    let gated = c .before .before .before .before .before .gate in
-    through (λ a. shownGives a (replicate 4 0)) s _ _ _
-    (shownRows (dirs s) (args .inode) (replicate 4 0))
-    (dirCarriedDone s (args .inode)) _
-    (gated .ensures) _ (c .before .enum-told .given .1)
-    (c .carried-dir .ensures)
+returns-2 c = search (tree-passed)
 
 pub carried-dir-spec : {M : Type 1} → statement M
 carried-dir-spec =

@@ -1,8 +1,5 @@
-use Rattle.tree_promises.specs.Tables.{tables, files}
-use Rattle.tree_promises.proofs.Public.{ready, shut, through}
-use Rattle.tree_promises.specs.Calls.{carryGives, carryRows, carryFileDone}
-use Rattle.tree_inner.proofs.Lists.{file-single}
-use Rattle.tree_inner.proofs.Opens.{set-file}
+use Rattle.tree_promises.proofs.Gated.{tree-refused}
+use Rattle.tree.proofs.Gated.{tree-files, set-file-passed}
 use borrow.Author.Needs.{needs}
 use Rattle.tree.proofs.carry.set_carried_file.Statement.{statement}
 use Rattle.tree.proofs.carry.set_carried_file.Tie as tie
@@ -17,11 +14,7 @@ enum-told : tie.Need-enum-told
 enum-told c = search needs
 
 set-carried-file-requires : tie.Need-set-carried-file-requires
-set-carried-file-requires c κs =
-    let args = c .before .before .before .before .before .before .before .before .before .before .before .before .before .args in
-    let s = tables (args .dir-hash .now) (args .dir-table .now) (args .file-hash .now) (args .file-table .now) in
-    let gated = c .before .before .before .before .before .gate in
-    file-single s (ready s _ _ _ _ (gated .ensures) (c .before .enum-told .given .1))
+set-carried-file-requires c κs = tree-files _ _ _ _ _ _ _ (c .before .enum-told .given .1) (c .before .before .before .before .before .gate .ensures)
 
 same-length : tie.Need-same-length
 same-length c = search needs
@@ -30,14 +23,7 @@ same-length-2 : tie.Need-same-length-2
 same-length-2 c = search needs
 
 returns : tie.Need-returns
-returns c =
-    let args = c .before .before .before .before .before .before .before .before .before .before .before .before .before .args in
-    let s = tables (args .dir-hash .now) (args .dir-table .now) (args .file-hash .now) (args .file-table .now) in
-    let gated = c .before .before .before .before .before .gate in
-    shut (λ a. carryGives a s) s _ _ _
-    (carryRows s (files s) (args .inode))
-    (carryFileDone s (args .inode) (args .carried)) _
-    (gated .ensures) _ (c .before .gated .given .1)
+returns c = search (tree-refused)
 
 same-length-3 : tie.Need-same-length-3
 same-length-3 c = search needs
@@ -46,15 +32,7 @@ same-length-4 : tie.Need-same-length-4
 same-length-4 c = search needs
 
 returns-2 : tie.Need-returns-2
-returns-2 c =
-    let args = c .before .before .before .before .before .before .before .before .before .before .before .before .before .before .before .before .args in
-    let s = tables (args .dir-hash .now) (args .dir-table .now) (args .file-hash .now) (args .file-table .now) in
-    let gated = c .before .before .before .before .before .before .before .before .gate in
-    through (λ a. carryGives a s) s _ _ _
-    (carryRows s (files s) (args .inode))
-    (carryFileDone s (args .inode) (args .carried)) _
-    (gated .ensures) _ (c .before .before .before .before .enum-told .given .1)
-    (set-file s (args .inode) _ _ _ (c .before .before .set-carried-file .ensures))
+returns-2 c = search (set-file-passed)
 
 pub set-carried-file-spec : {M : Type 1} → statement M
 set-carried-file-spec =

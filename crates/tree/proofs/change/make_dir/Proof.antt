@@ -1,8 +1,4 @@
-use Rattle.tree_key.specs.Key.{nameKey}
-use Rattle.tree_promises.specs.Tables.{tables, dirs}
-use Rattle.tree_promises.specs.Calls.{makeGives, makeRows, makeDirDone}
-use Rattle.tree_promises.proofs.Public.{shut, through, ready, long-enough}
-use Rattle.tree.proofs.Room.{enough}
+use Rattle.tree_promises.proofs.Gated.{opens-ready, opens-refused, opens-passed}
 use borrow.Author.Needs.{needs}
 use Rattle.tree.proofs.change.make_dir.Statement.{statement}
 use Rattle.tree.proofs.change.make_dir.Tie as tie
@@ -17,11 +13,7 @@ enum-told : tie.Need-enum-told
 enum-told c = search needs
 
 make-dir-requires : tie.Need-make-dir-requires
-make-dir-requires c κs =
-    let args = c .before .before .before .before .before .before .before .before .before .before .before .before .before .before .before .before .before .args in
-    let s = tables (args .dir-hash .now) (args .dir-table .now) (args .file-hash .now) (args .file-table .now) in
-    let gated = c .before .before .before .before .before .before .before .open-gate in
-    (ready s _ _ _ _ (gated .ensures) (c .before .before .before .enum-told .given .1), enough _ _ (long-enough s _ _ _ _ (gated .ensures) (c .before .before .before .enum-told .given .1)))
+make-dir-requires c κs = opens-ready _ _ _ _ _ _ (c .before .before .before .before .before .before .before .open-gate .ensures) (c .before .before .before .enum-told .given .1)
 
 same-length : tie.Need-same-length
 same-length c = search needs
@@ -33,14 +25,7 @@ same-length-3 : tie.Need-same-length-3
 same-length-3 c = search needs
 
 returns : tie.Need-returns
-returns c =
-    let args = c .before .before .before .before .before .before .before .before .before .before .before .before .before .before .before .args in
-    let s = tables (args .dir-hash .now) (args .dir-table .now) (args .file-hash .now) (args .file-table .now) in
-    let gated = c .before .before .before .before .before .open-gate in
-    shut (λ a. makeGives a 0 s (args .opens .now)) s _ _ _
-    (makeRows s (dirs s) (args .opens .now) (args .parent) (nameKey (args .parent) (args .name .now)))
-    (makeDirDone s (args .opens .now) (args .parent) (args .name .now) (args .padding .now)) _
-    (gated .ensures) _ (c .before .gated .given .1)
+returns c = search (opens-refused)
 
 same-length-4 : tie.Need-same-length-4
 same-length-4 c = search needs
@@ -55,15 +40,7 @@ same-length-7 : tie.Need-same-length-7
 same-length-7 c = search needs
 
 returns-2 : tie.Need-returns-2
-returns-2 c =
-    let args = c .before .before .before .before .before .before .before .before .before .before .before .before .before .before .before .before .before .before .before .before .before .before .before .before .args in
-    let s = tables (args .dir-hash .now) (args .dir-table .now) (args .file-hash .now) (args .file-table .now) in
-    let gated = c .before .before .before .before .before .before .before .before .before .before .before .before .before .before .open-gate in
-    through (λ a. makeGives a 0 s (args .opens .now)) s _ _ _
-    (makeRows s (dirs s) (args .opens .now) (args .parent) (nameKey (args .parent) (args .name .now)))
-    (makeDirDone s (args .opens .now) (args .parent) (args .name .now) (args .padding .now)) _
-    (gated .ensures) _ (c .before .before .before .before .before .before .before .before .before .before .enum-told .given .1)
-    (c .before .before .before .before .before .before .make-dir .ensures)
+returns-2 c = search (opens-passed)
 
 pub make-dir-spec : {M : Type 1} → statement M
 make-dir-spec =

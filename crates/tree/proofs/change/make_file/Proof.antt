@@ -1,8 +1,4 @@
-use Rattle.tree_key.specs.Key.{nameKey}
-use Rattle.tree_promises.specs.Tables.{tables, files}
-use Rattle.tree_promises.specs.Calls.{makeGives, makeRows, makeFileDone}
-use Rattle.tree_promises.proofs.Public.{shut, through, ready, long-enough}
-use Rattle.tree.proofs.Room.{enough}
+use Rattle.tree_promises.proofs.Gated.{opens-ready, opens-refused, opens-passed}
 use borrow.Author.Needs.{needs}
 use Rattle.tree.proofs.change.make_file.Statement.{statement}
 use Rattle.tree.proofs.change.make_file.Tie as tie
@@ -17,11 +13,7 @@ enum-told : tie.Need-enum-told
 enum-told c = search needs
 
 make-file-requires : tie.Need-make-file-requires
-make-file-requires c κs =
-    let args = c .before .before .before .before .before .before .before .before .before .before .before .before .before .before .before .before .before .before .before .args in
-    let s = tables (args .dir-hash .now) (args .dir-table .now) (args .file-hash .now) (args .file-table .now) in
-    let gated = c .before .before .before .before .before .before .before .before .open-gate in
-    (ready s _ _ _ _ (gated .ensures) (c .before .before .before .before .enum-told .given .1), enough _ _ (long-enough s _ _ _ _ (gated .ensures) (c .before .before .before .before .enum-told .given .1)))
+make-file-requires c κs = opens-ready _ _ _ _ _ _ (c .before .before .before .before .before .before .before .before .open-gate .ensures) (c .before .before .before .before .enum-told .given .1)
 
 same-length : tie.Need-same-length
 same-length c = search needs
@@ -36,14 +28,7 @@ same-length-4 : tie.Need-same-length-4
 same-length-4 c = search needs
 
 returns : tie.Need-returns
-returns c =
-    let args = c .before .before .before .before .before .before .before .before .before .before .before .before .before .before .before .before .args in
-    let s = tables (args .dir-hash .now) (args .dir-table .now) (args .file-hash .now) (args .file-table .now) in
-    let gated = c .before .before .before .before .before .open-gate in
-    shut (λ a. makeGives a 0 s (args .opens .now)) s _ _ _
-    (makeRows s (files s) (args .opens .now) (args .parent) (nameKey (args .parent) (args .name .now)))
-    (makeFileDone s (args .opens .now) (args .parent) (args .name .now) (args .carried .now)) _
-    (gated .ensures) _ (c .before .gated .given .1)
+returns c = search (opens-refused)
 
 same-length-5 : tie.Need-same-length-5
 same-length-5 c = search needs
@@ -61,15 +46,7 @@ same-length-9 : tie.Need-same-length-9
 same-length-9 c = search needs
 
 returns-2 : tie.Need-returns-2
-returns-2 c =
-    let args = c .before .before .before .before .before .before .before .before .before .before .before .before .before .before .before .before .before .before .before .before .before .before .before .before .before .before .before .before .args in
-    let s = tables (args .dir-hash .now) (args .dir-table .now) (args .file-hash .now) (args .file-table .now) in
-    let gated = c .before .before .before .before .before .before .before .before .before .before .before .before .before .before .before .before .before .open-gate in
-    through (λ a. makeGives a 0 s (args .opens .now)) s _ _ _
-    (makeRows s (files s) (args .opens .now) (args .parent) (nameKey (args .parent) (args .name .now)))
-    (makeFileDone s (args .opens .now) (args .parent) (args .name .now) (args .carried .now)) _
-    (gated .ensures) _ (c .before .before .before .before .before .before .before .before .before .before .before .before .before .enum-told .given .1)
-    (c .before .before .before .before .before .before .before .before .make-file .ensures)
+returns-2 c = search (opens-passed)
 
 pub make-file-spec : {M : Type 1} → statement M
 make-file-spec =

@@ -1,5 +1,5 @@
 -- `lay` meets its contract.
-use Rattle.tree_promises.specs.Tables.{tables}
+use Rattle.tree_sound.specs.Tables.{tables}
 use borrow.Author.Needs.{needs}
 use Rattle.tree.proofs.format.lay.Statement.{statement}
 use Rattle.tree.proofs.format.lay.Tie as tie

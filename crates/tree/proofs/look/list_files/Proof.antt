@@ -1,6 +1,4 @@
-use Rattle.tree_promises.specs.Tables.{tables, files}
-use Rattle.tree_promises.proofs.Public.{ready, shut, through}
-use Rattle.tree_promises.specs.Calls.{listGives, listRows, listDone}
+use Rattle.tree_promises.proofs.Gated.{tree-ready, tree-refused, tree-passed}
 use borrow.Author.Needs.{needs}
 use Rattle.tree.proofs.look.list_files.Statement.{statement}
 use Rattle.tree.proofs.look.list_files.Tie as tie
@@ -15,24 +13,13 @@ enum-told : tie.Need-enum-told
 enum-told c = search needs
 
 list-files-requires : tie.Need-list-files-requires
-list-files-requires c κs =
-    let args = c .before .before .before .before .before .before .before .before .before .before .before .before .before .args in
-    let s = tables (args .dir-hash .now) (args .dir-table .now) (args .file-hash .now) (args .file-table .now) in
-    let gated = c .before .before .before .before .before .gate in
-    (ready s _ _ _ _ (gated .ensures) (c .before .enum-told .given .1))
+list-files-requires c κs = search (tree-ready)
 
 same-length : tie.Need-same-length
 same-length c = search needs
 
 returns : tie.Need-returns
-returns c =
-    let args = c .before .before .before .before .before .before .before .before .before .before .before .before .before .args in
-    let s = tables (args .dir-hash .now) (args .dir-table .now) (args .file-hash .now) (args .file-table .now) in
-    let gated = c .before .before .before .before .before .gate in
-    shut (λ a. listGives a 0 (args .list .now)) s _ _ _
-    (listRows s (files s) (args .inode) (args .list .now))
-    (listDone (files s) (args .inode) (args .list .now)) _
-    (gated .ensures) _ (c .before .gated .given .1)
+returns c = search (tree-refused)
 
 same-length-2 : tie.Need-same-length-2
 same-length-2 c = search needs
@@ -41,15 +28,7 @@ same-length-3 : tie.Need-same-length-3
 same-length-3 c = search needs
 
 returns-2 : tie.Need-returns-2
-returns-2 c =
-    let args = c .before .before .before .before .before .before .before .before .before .before .before .before .before .before .before .before .args in
-    let s = tables (args .dir-hash .now) (args .dir-table .now) (args .file-hash .now) (args .file-table .now) in
-    let gated = c .before .before .before .before .before .before .before .before .gate in
-    through (λ a. listGives a 0 (args .list .now)) s _ _ _
-    (listRows s (files s) (args .inode) (args .list .now))
-    (listDone (files s) (args .inode) (args .list .now)) _
-    (gated .ensures) _ (c .before .before .before .before .enum-told .given .1)
-    (c .before .before .list-files .ensures)
+returns-2 c = search (tree-passed)
 
 pub list-files-spec : {M : Type 1} → statement M
 list-files-spec =

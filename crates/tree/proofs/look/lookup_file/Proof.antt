@@ -1,8 +1,5 @@
-use Rattle.tree_promises.specs.Tables.{tables, files}
-use Rattle.tree_promises.proofs.Public.{ready, shut, through}
-use Rattle.tree_promises.specs.Calls.{lookupGives, lookupRows, lookupDone}
-use Rattle.tree_inner.proofs.Lists.{file-single}
-use Rattle.tree_key.specs.Key.{nameKey}
+use Rattle.tree_promises.proofs.Gated.{tree-refused, tree-passed}
+use Rattle.tree.proofs.Gated.{tree-files}
 use Rattle.tree_inner.proofs.Lookups.{with-key}
 use borrow.Author.Needs.{needs}
 use Rattle.tree.proofs.look.lookup_file.Statement.{statement}
@@ -21,38 +18,19 @@ new-requires : tie.Need-new-requires
 new-requires c κs = search needs
 
 lookup-requires : tie.Need-lookup-requires
-lookup-requires c κs =
-    let args = c .before .before .before .before .before .before .before .before .before .before .before .before .args in
-    let s = tables (args .dir-hash .now) (args .dir-table .now) (args .file-hash .now) (args .file-table .now) in
-    let gated = c .before .before .before .before .before .gate in
-    file-single s (ready s _ _ _ _ (gated .ensures) (c .before .enum-told .given .1))
+lookup-requires c κs = search (tree-files)
 
 same-length : tie.Need-same-length
 same-length c = search needs
 
 returns : tie.Need-returns
-returns c =
-    let args = c .before .before .before .before .before .before .before .before .before .before .before .before .args in
-    let s = tables (args .dir-hash .now) (args .dir-table .now) (args .file-hash .now) (args .file-table .now) in
-    let gated = c .before .before .before .before .before .gate in
-    shut (λ a. lookupGives a 0 0) s _ _ _
-    (lookupRows (files s) (nameKey (args .parent) (args .name .now)))
-    (lookupDone (files s) (nameKey (args .parent) (args .name .now))) _
-    (gated .ensures) _ (c .before .gated .given .1)
+returns c = search (tree-refused)
 
 same-length-2 : tie.Need-same-length-2
 same-length-2 c = search needs
 
 returns-2 : tie.Need-returns-2
-returns-2 c =
-    let args = c .before .before .before .before .before .before .before .before .before .before .before .before .before .args in
-    let s = tables (args .dir-hash .now) (args .dir-table .now) (args .file-hash .now) (args .file-table .now) in
-    let gated = c .before .before .before .before .before .before .gate in
-    through (λ a. lookupGives a 0 0) s _ _ _
-    (lookupRows (files s) (nameKey (args .parent) (args .name .now)))
-    (lookupDone (files s) (nameKey (args .parent) (args .name .now))) _
-    (gated .ensures) _ (c .before .before .enum-told .given .1)
-    (with-key (files s) (c .before .new .ensures) (c .lookup .ensures))
+returns-2 c = search (tree-passed, with-key)
 
 pub lookup-file-spec : {M : Type 1} → statement M
 lookup-file-spec =

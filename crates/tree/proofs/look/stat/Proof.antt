@@ -1,7 +1,4 @@
-use Rattle.tree_promises.specs.Tables.{tables}
-use Rattle.tree_promises.proofs.Public.{ready, shut, through}
-use Rattle.tree_promises.specs.Calls.{statGives, statDone}
-use mathlib.Core.List.{[]}
+use Rattle.tree_promises.proofs.Gated.{tree-ready, tree-refused, tree-passed}
 use borrow.Author.Needs.{needs}
 use Rattle.tree.proofs.look.stat.Statement.{statement}
 use Rattle.tree.proofs.look.stat.Tie as tie
@@ -16,38 +13,19 @@ enum-told : tie.Need-enum-told
 enum-told c = search needs
 
 stat-requires : tie.Need-stat-requires
-stat-requires c κs =
-    let args = c .before .before .before .before .before .before .before .before .before .before .before .args in
-    let s = tables (args .dir-hash .now) (args .dir-table .now) (args .file-hash .now) (args .file-table .now) in
-    let gated = c .before .before .before .before .gate in
-    (ready s _ _ _ _ (gated .ensures) (c .enum-told .given .1))
+stat-requires c κs = search (tree-ready)
 
 same-length : tie.Need-same-length
 same-length c = search needs
 
 returns : tie.Need-returns
-returns c =
-    let args = c .before .before .before .before .before .before .before .before .before .before .before .before .args in
-    let s = tables (args .dir-hash .now) (args .dir-table .now) (args .file-hash .now) (args .file-table .now) in
-    let gated = c .before .before .before .before .before .gate in
-    shut (λ a. statGives a 0 0 0 0) s _ _ _
-    []
-    (statDone s) _
-    (gated .ensures) _ (c .before .gated .given .1)
+returns c = search (tree-refused)
 
 same-length-2 : tie.Need-same-length-2
 same-length-2 c = search needs
 
 returns-2 : tie.Need-returns-2
-returns-2 c =
-    let args = c .before .before .before .before .before .before .before .before .before .before .before .before .args in
-    let s = tables (args .dir-hash .now) (args .dir-table .now) (args .file-hash .now) (args .file-table .now) in
-    let gated = c .before .before .before .before .before .gate in
-    through (λ a. statGives a 0 0 0 0) s _ _ _
-    []
-    (statDone s) _
-    (gated .ensures) _ (c .before .enum-told .given .1)
-    (c .stat .ensures)
+returns-2 c = search (tree-passed)
 
 pub stat-spec : {M : Type 1} → statement M
 stat-spec =

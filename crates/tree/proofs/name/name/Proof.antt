@@ -1,8 +1,5 @@
--- `name` meets its contract.
-use Rattle.tree_inner.proofs.Lists.{dir-single, file-single}
-use Rattle.tree_promises.specs.Tables.{tables}
-use Rattle.tree.proofs.Named.{ready-of, name-shut, name-open}
-use Rattle.tree_promises.specs.declared.Kind.the-variants.{Directory, File}
+use Rattle.tree_promises.proofs.Gated.{tree-refused}
+use Rattle.tree.proofs.Gated.{tree-dirs, tree-files, name-shown}
 use borrow.Author.Needs.{needs}
 use Rattle.tree.proofs.name.name.Statement.{statement}
 use Rattle.tree.proofs.name.name.Tie as tie
@@ -32,61 +29,37 @@ enum-told-5 : tie.Need-enum-told-5
 enum-told-5 c = search needs
 
 part-in-requires : tie.Need-part-in-requires
-part-in-requires c κs =
-    let args = c .before .before .before .before .before .before .before .before .before .before .before .before .before .args in
-    let at-gate = c .before .before .before .before .before .before .gate in
-    let s = tables (args .dir-hash .now) (args .dir-table .now) (args .file-hash .now) (args .file-table .now) in
-    dir-single _ (ready-of s (args .work .now) _ (args .inode) (at-gate .result) (at-gate .ensures) (c .before .before .enum-told4 .given .1))
+part-in-requires c κs = search (tree-dirs)
 
 enum-told-6 : tie.Need-enum-told-6
 enum-told-6 c = search needs
 
 part-in-requires-2 : tie.Need-part-in-requires-2
-part-in-requires-2 c κs =
-    let args = c .before .before .before .before .before .before .before .before .before .before .before .before .before .args in
-    let at-gate = c .before .before .before .before .before .before .gate in
-    let s = tables (args .dir-hash .now) (args .dir-table .now) (args .file-hash .now) (args .file-table .now) in
-    file-single _ (ready-of s (args .work .now) _ (args .inode) (at-gate .result) (at-gate .ensures) (c .before .before .enum-told4 .given .1))
+part-in-requires-2 c κs = search (tree-files)
 
 same-length : tie.Need-same-length
 same-length c = search needs
 
 returns : tie.Need-returns
-returns c =
-    let args = c .before .before .before .before .before .before .before .before .before .before .before .before .before .before .args in
-    let at-gate = c .before .before .before .before .before .before .before .gate in
-    let s = tables (args .dir-hash .now) (args .dir-table .now) (args .file-hash .now) (args .file-table .now) in
-    name-shut s (args .work .now) _ (args .inode) (at-gate .result) (at-gate .ensures) (args .kind) _ (c .before .before .before .enum-told .given .1)
+returns c = search (tree-refused)
 
 same-length-2 : tie.Need-same-length-2
 same-length-2 c = search needs
 
 returns-2 : tie.Need-returns-2
-returns-2 c =
-    let args = c .before .before .before .before .before .before .before .before .before .before .before .before .before .before .args in
-    let at-gate = c .before .before .before .before .before .before .before .gate in
-    let s = tables (args .dir-hash .now) (args .dir-table .now) (args .file-hash .now) (args .file-table .now) in
-    name-shut s (args .work .now) _ (args .inode) (at-gate .result) (at-gate .ensures) (args .kind) _ (c .before .before .before .enum-told .given .1)
+returns-2 c = search (tree-refused)
 
 same-length-3 : tie.Need-same-length-3
 same-length-3 c = search needs
 
 returns-3 : tie.Need-returns-3
-returns-3 c =
-    let args = c .before .before .before .before .before .before .before .before .before .before .before .before .before .before .args in
-    let at-gate = c .before .before .before .before .before .before .before .gate in
-    let s = tables (args .dir-hash .now) (args .dir-table .now) (args .file-hash .now) (args .file-table .now) in
-    name-open s (args .work .now) _ (args .inode) (at-gate .result) (at-gate .ensures) (args .kind) Directory (c .before .enum-told5 .given .1) (c .before .before .before .enum-told4 .given .1) _ (c .part-in .ensures)
+returns-3 c = search (name-shown)
 
 same-length-4 : tie.Need-same-length-4
 same-length-4 c = search needs
 
 returns-4 : tie.Need-returns-4
-returns-4 c =
-    let args = c .before .before .before .before .before .before .before .before .before .before .before .before .before .before .args in
-    let at-gate = c .before .before .before .before .before .before .before .gate in
-    let s = tables (args .dir-hash .now) (args .dir-table .now) (args .file-hash .now) (args .file-table .now) in
-    name-open s (args .work .now) _ (args .inode) (at-gate .result) (at-gate .ensures) (args .kind) File (c .before .enum-told6 .given .1) (c .before .before .before .enum-told4 .given .1) _ (c .part-in2 .ensures)
+returns-4 c = search (name-shown)
 
 pub name-spec : {M : Type 1} → statement M
 name-spec =

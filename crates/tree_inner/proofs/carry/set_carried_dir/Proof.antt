@@ -2,7 +2,7 @@ use mathlib.Core.Path.{refl, ap}
 use mathlib.Core.Logic.{inl, inr}
 use borrow.Author.Tests.{not-true, not-false}
 use Rattle.order.specs.declared.Answer.the-variants.{Done}
-use Rattle.tree_promises.specs.Ready.{setGives}
+use Rattle.tree_promises.specs.inner.Ready.{setGives}
 use Rattle.tree_test.proofs.Cases.{tells-not}
 use Rattle.tree_inner.proofs.Opens.{live-fits}
 use borrow.Author.Needs.{needs}

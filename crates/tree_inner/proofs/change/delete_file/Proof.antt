@@ -1,8 +1,8 @@
-use mathlib.Core.Path.{refl}
-use Rattle.tree_promises.specs.Tables.{tables, dirs, files}
-use Rattle.tree_promises.specs.Calls.{deleteTests, changeGives, deleteFileDone}
+use Rattle.tree_inner.proofs.Changes.{delete-file-counted, delete-file-done, call-refused, delete-file-asks, give-file-asks}
+use Rattle.tree_sound.specs.Tables.{tables, files}
+use Rattle.tree_promises.specs.declared.Kind.the-variants.{File}
+use Rattle.tree_promises.specs.Calls.{onceTests, changeGives, deleteDone}
 use Rattle.tree_inner.proofs.Judges.{passed}
-use Rattle.tree_inner.proofs.Changes.{call-refused, call-done, delete-file-asks, give-file-asks, file-opens, deleted-file}
 use borrow.Author.Needs.{needs}
 use Rattle.tree_inner.proofs.change.delete_file.Statement.{statement}
 use Rattle.tree_inner.proofs.change.delete_file.Tie as tie
@@ -21,7 +21,7 @@ unlink-file-requires c κs =
     let args = c .before .before .before .before .before .before .before .before .before .before .before .before .before .before .args in
     let at-pre = c .before .before .before .before .before .before .before .before .before .before .before .before .before .before .pre in
     let at-judge-delete = c .before .before .before .before .before .judge-delete in
-    delete-file-asks (tables (args .dir-hash .now) (args .dirs .now) (args .hash .now) (args .files .now)) (at-pre .0) (args .opens .now) (args .x) (passed (deleteTests (files (tables (args .dir-hash .now) (args .dirs .now) (args .hash .now) (args .files .now))) (args .opens .now) (args .x)) _ (at-judge-delete .ensures) (c .before .before .before .enum-told .given .1))
+    delete-file-asks (tables (args .dir-hash .now) (args .dirs .now) (args .hash .now) (args .files .now)) (at-pre .ready) (args .opens .now) (args .x) (passed (onceTests (files (tables (args .dir-hash .now) (args .dirs .now) (args .hash .now) (args .files .now))) (args .opens .now) (args .x)) _ (at-judge-delete .ensures) (c .before .before .before .enum-told .given .1))
 
 give-requires : tie.Need-give-requires
 give-requires c κs =
@@ -30,21 +30,10 @@ give-requires c κs =
     let at-judge-delete = c .before .before .before .before .before .before .before .before .before .before .before .before .before .judge-delete in
     let at-enum-told = c .before .before .before .before .before .before .before .before .before .before .before .enum-told in
     let at-unlink-file = c .before .before .before .before .before .before .before .unlink-file in
-    give-file-asks (tables (args .dir-hash .now) (args .dirs .now) (args .hash .now) (args .files .now)) (at-pre .0) (args .opens .now) (args .x) (passed (deleteTests (files (tables (args .dir-hash .now) (args .dirs .now) (args .hash .now) (args .files .now))) (args .opens .now) (args .x)) _ (at-judge-delete .ensures) (at-enum-told .given .1)) (at-unlink-file .ensures .2)
+    give-file-asks (tables (args .dir-hash .now) (args .dirs .now) (args .hash .now) (args .files .now)) (at-pre .ready) (args .opens .now) (args .x) (passed (onceTests (files (tables (args .dir-hash .now) (args .dirs .now) (args .hash .now) (args .files .now))) (args .opens .now) (args .x)) _ (at-judge-delete .ensures) (at-enum-told .given .1)) (at-unlink-file .ensures .2)
 
-index-requires : tie.Need-index-requires
-index-requires c κs = search needs
-
-mul-opens : tie.Need-mul-opens
-mul-opens c = search needs
-
-slice-write-opens : tie.Need-slice-write-opens
-slice-write-opens c =
-    let args = c .before .before .before .before .before .before .before .before .before .before .before .before .before .before .before .before .before .before .before .before .before .before .before .before .before .before .args in
-    let at-pre = c .before .before .before .before .before .before .before .before .before .before .before .before .before .before .before .before .before .before .before .before .before .before .before .before .before .before .pre in
-    let at-judge-delete = c .before .before .before .before .before .before .before .before .before .before .before .before .before .before .before .before .before .judge-delete in
-    let at-enum-told = c .before .before .before .before .before .before .before .before .before .before .before .before .before .before .before .enum-told in
-    file-opens (tables (args .dir-hash .now) (args .dirs .now) (args .hash .now) (args .files .now)) (at-pre .0) (args .opens .now) (args .x) (passed (deleteTests (files (tables (args .dir-hash .now) (args .dirs .now) (args .hash .now) (args .files .now))) (args .opens .now) (args .x)) _ (at-judge-delete .ensures) (at-enum-told .given .1)) (at-pre .1) (c .index .result) (c .index .ensures)
+put-record-requires : tie.Need-put-record-requires
+put-record-requires c κs = search (delete-file-counted)
 
 same-length : tie.Need-same-length
 same-length c = search needs
@@ -59,7 +48,7 @@ returns : tie.Need-returns
 returns c =
     let args = c .before .before .before .before .before .before .before .before .before .before .before .before .args in
     let at-judge-delete = c .before .before .before .judge-delete in
-    call-refused (λ a. changeGives a (tables (args .dir-hash .now) (args .dirs .now) (args .hash .now) (args .files .now)) (args .opens .now)) (deleteFileDone (tables (args .dir-hash .now) (args .dirs .now) (args .hash .now) (args .files .now)) (args .opens .now) (args .x)) (deleteTests (files (tables (args .dir-hash .now) (args .dirs .now) (args .hash .now) (args .files .now))) (args .opens .now) (args .x)) (at-judge-delete .result) _ (at-judge-delete .ensures) (c .before .judged .given .1)
+    call-refused (λ a. changeGives a (tables (args .dir-hash .now) (args .dirs .now) (args .hash .now) (args .files .now)) (args .opens .now)) (deleteDone File (tables (args .dir-hash .now) (args .dirs .now) (args .hash .now) (args .files .now)) (args .opens .now) (args .x)) (onceTests (files (tables (args .dir-hash .now) (args .dirs .now) (args .hash .now) (args .files .now))) (args .opens .now) (args .x)) (at-judge-delete .result) _ (at-judge-delete .ensures) (c .before .judged .given .1)
 
 same-length-4 : tie.Need-same-length-4
 same-length-4 c = search needs
@@ -74,13 +63,7 @@ same-length-7 : tie.Need-same-length-7
 same-length-7 c = search needs
 
 returns-2 : tie.Need-returns-2
-returns-2 c =
-    let args = c .before .before .before .before .before .before .before .before .before .before .before .before .before .before .before .before .before .before .before .before .before .before .before .before .before .before .args in
-    let at-judge-delete = c .before .before .before .before .before .before .before .before .before .before .before .before .before .before .before .before .before .judge-delete in
-    let at-enum-told = c .before .before .before .before .before .before .before .before .before .before .before .before .before .before .before .enum-told in
-    let at-unlink-file = c .before .before .before .before .before .before .before .before .before .before .before .unlink-file in
-    call-done (λ a. changeGives a (tables (args .dir-hash .now) (args .dirs .now) (args .hash .now) (args .files .now)) (args .opens .now)) (deleteFileDone (tables (args .dir-hash .now) (args .dirs .now) (args .hash .now) (args .files .now)) (args .opens .now) (args .x)) _ (deleteTests (files (tables (args .dir-hash .now) (args .dirs .now) (args .hash .now) (args .files .now))) (args .opens .now) (args .x)) (passed (deleteTests (files (tables (args .dir-hash .now) (args .dirs .now) (args .hash .now) (args .files .now))) (args .opens .now) (args .x)) _ (at-judge-delete .ensures) (at-enum-told .given .1))
-    (deleted-file (args .dir-hash .now) (args .dirs .now) (args .hash .now) (args .files .now) _ _ _ _ (args .opens .now) _ (args .x) (c .index .result) (c .index .ensures) (at-unlink-file .ensures .0) (at-unlink-file .ensures .1) (at-unlink-file .ensures .2) (c .before .before .before .give .ensures) refl)
+returns-2 c = search (delete-file-done)
 
 pub delete-file-spec : {M : Type 1} → statement M
 delete-file-spec =
@@ -91,9 +74,7 @@ delete-file-spec =
     enum-told
     unlink-file-requires
     give-requires
-    index-requires
-    mul-opens
-    slice-write-opens
+    put-record-requires
     same-length
     same-length-2
     same-length-3

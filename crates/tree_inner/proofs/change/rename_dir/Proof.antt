@@ -1,5 +1,6 @@
-use Rattle.tree_promises.specs.Tables.{tables, dirs, files}
-use Rattle.tree_promises.specs.Calls.{renameDirTests, changeGives, renameDirDone}
+use Rattle.tree_sound.specs.Tables.{tables}
+use Rattle.tree_promises.specs.declared.Kind.the-variants.{Directory}
+use Rattle.tree_promises.specs.Calls.{renameTests, changeGives, renameDone}
 use Rattle.tree_inner.proofs.Judges.{passed}
 use Rattle.tree_inner.proofs.Changes.{call-refused, call-done, rename-dir-asks, link-dir-asks, renamed-dir}
 use borrow.Author.Needs.{needs}
@@ -20,7 +21,7 @@ unlink-dir-requires c κs =
     let args = c .before .before .before .before .before .before .before .before .before .before .before .before .args in
     let at-pre = c .before .before .before .before .before .before .before .before .before .before .before .before .pre in
     let at-judge-rename-dir = c .before .before .before .before .judge-rename-dir in
-    rename-dir-asks (tables (args .hash .now) (args .dirs .now) (args .file-hash .now) (args .files .now)) (at-pre .0) (args .opens .now) (args .x) (args .parent) (args .name .now) (passed (renameDirTests (tables (args .hash .now) (args .dirs .now) (args .file-hash .now) (args .files .now)) (args .opens .now) (args .x) (args .parent) (args .name .now)) _ (at-judge-rename-dir .ensures) (c .before .before .enum-told .given .1))
+    rename-dir-asks (tables (args .hash .now) (args .dirs .now) (args .file-hash .now) (args .files .now)) (at-pre .ready) (args .opens .now) (args .x) (args .parent) (args .name .now) (passed (renameTests Directory (tables (args .hash .now) (args .dirs .now) (args .file-hash .now) (args .files .now)) (args .opens .now) (args .x) (args .parent) (args .name .now)) _ (at-judge-rename-dir .ensures) (c .before .before .enum-told .given .1))
 
 link-dir-requires : tie.Need-link-dir-requires
 link-dir-requires c κs =
@@ -29,7 +30,7 @@ link-dir-requires c κs =
     let at-judge-rename-dir = c .before .before .before .before .before .before .before .before .before .before .before .judge-rename-dir in
     let at-enum-told = c .before .before .before .before .before .before .before .before .before .enum-told in
     let at-unlink-dir = c .before .before .before .before .before .before .unlink-dir in
-    link-dir-asks (tables (args .hash .now) (args .dirs .now) (args .file-hash .now) (args .files .now)) (at-pre .0) (args .opens .now) (args .x) (args .parent) (args .name .now) (passed (renameDirTests (tables (args .hash .now) (args .dirs .now) (args .file-hash .now) (args .files .now)) (args .opens .now) (args .x) (args .parent) (args .name .now)) _ (at-judge-rename-dir .ensures) (at-enum-told .given .1)) (at-unlink-dir .ensures .0) (at-unlink-dir .ensures .1)
+    link-dir-asks (tables (args .hash .now) (args .dirs .now) (args .file-hash .now) (args .files .now)) (at-pre .ready) (args .opens .now) (args .x) (args .parent) (args .name .now) (passed (renameTests Directory (tables (args .hash .now) (args .dirs .now) (args .file-hash .now) (args .files .now)) (args .opens .now) (args .x) (args .parent) (args .name .now)) _ (at-judge-rename-dir .ensures) (at-enum-told .given .1)) (at-unlink-dir .ensures .0) (at-unlink-dir .ensures .1)
 
 same-length : tie.Need-same-length
 same-length c = search needs
@@ -41,7 +42,7 @@ returns : tie.Need-returns
 returns c =
     let args = c .before .before .before .before .before .before .before .before .before .before .before .args in
     let at-judge-rename-dir = c .before .before .before .judge-rename-dir in
-    call-refused (λ a. changeGives a (tables (args .hash .now) (args .dirs .now) (args .file-hash .now) (args .files .now)) (args .opens .now)) (renameDirDone (tables (args .hash .now) (args .dirs .now) (args .file-hash .now) (args .files .now)) (args .opens .now) (args .x) (args .parent) (args .name .now)) (renameDirTests (tables (args .hash .now) (args .dirs .now) (args .file-hash .now) (args .files .now)) (args .opens .now) (args .x) (args .parent) (args .name .now)) (at-judge-rename-dir .result) _ (at-judge-rename-dir .ensures) (c .before .judged .given .1)
+    call-refused (λ a. changeGives a (tables (args .hash .now) (args .dirs .now) (args .file-hash .now) (args .files .now)) (args .opens .now)) (renameDone Directory (tables (args .hash .now) (args .dirs .now) (args .file-hash .now) (args .files .now)) (args .opens .now) (args .x) (args .parent) (args .name .now)) (renameTests Directory (tables (args .hash .now) (args .dirs .now) (args .file-hash .now) (args .files .now)) (args .opens .now) (args .x) (args .parent) (args .name .now)) (at-judge-rename-dir .result) _ (at-judge-rename-dir .ensures) (c .before .judged .given .1)
 
 same-length-3 : tie.Need-same-length-3
 same-length-3 c = search needs
@@ -56,7 +57,7 @@ returns-2 c =
     let at-enum-told = c .before .before .before .before .before .before .before .before .before .before .before .before .before .before .enum-told in
     let at-unlink-dir = c .before .before .before .before .before .before .before .before .before .before .before .unlink-dir in
     let at-link-dir = c .before .before .before .before .link-dir in
-    call-done (λ a. changeGives a (tables (args .hash .now) (args .dirs .now) (args .file-hash .now) (args .files .now)) (args .opens .now)) (renameDirDone (tables (args .hash .now) (args .dirs .now) (args .file-hash .now) (args .files .now)) (args .opens .now) (args .x) (args .parent) (args .name .now)) _ (renameDirTests (tables (args .hash .now) (args .dirs .now) (args .file-hash .now) (args .files .now)) (args .opens .now) (args .x) (args .parent) (args .name .now)) (passed (renameDirTests (tables (args .hash .now) (args .dirs .now) (args .file-hash .now) (args .files .now)) (args .opens .now) (args .x) (args .parent) (args .name .now)) _ (at-judge-rename-dir .ensures) (at-enum-told .given .1))
+    call-done (λ a. changeGives a (tables (args .hash .now) (args .dirs .now) (args .file-hash .now) (args .files .now)) (args .opens .now)) (renameDone Directory (tables (args .hash .now) (args .dirs .now) (args .file-hash .now) (args .files .now)) (args .opens .now) (args .x) (args .parent) (args .name .now)) _ (renameTests Directory (tables (args .hash .now) (args .dirs .now) (args .file-hash .now) (args .files .now)) (args .opens .now) (args .x) (args .parent) (args .name .now)) (passed (renameTests Directory (tables (args .hash .now) (args .dirs .now) (args .file-hash .now) (args .files .now)) (args .opens .now) (args .x) (args .parent) (args .name .now)) _ (at-judge-rename-dir .ensures) (at-enum-told .given .1))
     (renamed-dir (args .hash .now) (args .dirs .now) (args .file-hash .now) (args .files .now) _ _ _ _ (args .opens .now) (args .x) (args .parent) (args .name .now) (at-unlink-dir .ensures .0) (at-unlink-dir .ensures .1) (at-link-dir .ensures .0) (at-link-dir .ensures .1))
 
 pub rename-dir-spec : {M : Type 1} → statement M

@@ -1,5 +1,6 @@
-use Rattle.tree_promises.specs.Tables.{tables, dirs, files}
-use Rattle.tree_promises.specs.Calls.{renameFileTests, changeGives, renameFileDone}
+use Rattle.tree_sound.specs.Tables.{tables}
+use Rattle.tree_promises.specs.declared.Kind.the-variants.{File}
+use Rattle.tree_promises.specs.Calls.{renameTests, changeGives, renameDone}
 use Rattle.tree_inner.proofs.Judges.{passed}
 use Rattle.tree_inner.proofs.Changes.{call-refused, call-done, rename-file-asks, link-file-asks, renamed-file}
 use borrow.Author.Needs.{needs}
@@ -20,7 +21,7 @@ unlink-file-requires c κs =
     let args = c .before .before .before .before .before .before .before .before .before .before .before .before .before .before .args in
     let at-pre = c .before .before .before .before .before .before .before .before .before .before .before .before .before .before .pre in
     let at-judge-rename-file = c .before .before .before .before .before .judge-rename-file in
-    rename-file-asks (tables (args .dir-hash .now) (args .dirs .now) (args .hash .now) (args .files .now)) (at-pre .0) (args .opens .now) (args .x) (args .parent) (args .name .now) (passed (renameFileTests (tables (args .dir-hash .now) (args .dirs .now) (args .hash .now) (args .files .now)) (args .opens .now) (args .x) (args .parent) (args .name .now)) _ (at-judge-rename-file .ensures) (c .before .before .before .enum-told .given .1))
+    rename-file-asks (tables (args .dir-hash .now) (args .dirs .now) (args .hash .now) (args .files .now)) (at-pre .ready) (args .opens .now) (args .x) (args .parent) (args .name .now) (passed (renameTests File (tables (args .dir-hash .now) (args .dirs .now) (args .hash .now) (args .files .now)) (args .opens .now) (args .x) (args .parent) (args .name .now)) _ (at-judge-rename-file .ensures) (c .before .before .before .enum-told .given .1))
 
 link-file-requires : tie.Need-link-file-requires
 link-file-requires c κs =
@@ -29,7 +30,7 @@ link-file-requires c κs =
     let at-judge-rename-file = c .before .before .before .before .before .before .before .before .before .before .before .before .before .before .before .judge-rename-file in
     let at-enum-told = c .before .before .before .before .before .before .before .before .before .before .before .before .before .enum-told in
     let at-unlink-file = c .before .before .before .before .before .before .before .before .before .unlink-file in
-    link-file-asks (tables (args .dir-hash .now) (args .dirs .now) (args .hash .now) (args .files .now)) (at-pre .0) (args .opens .now) (args .x) (args .parent) (args .name .now) (passed (renameFileTests (tables (args .dir-hash .now) (args .dirs .now) (args .hash .now) (args .files .now)) (args .opens .now) (args .x) (args .parent) (args .name .now)) _ (at-judge-rename-file .ensures) (at-enum-told .given .1)) (at-unlink-file .ensures .0) (at-unlink-file .ensures .1) (at-unlink-file .ensures .2)
+    link-file-asks (tables (args .dir-hash .now) (args .dirs .now) (args .hash .now) (args .files .now)) (at-pre .ready) (args .opens .now) (args .x) (args .parent) (args .name .now) (passed (renameTests File (tables (args .dir-hash .now) (args .dirs .now) (args .hash .now) (args .files .now)) (args .opens .now) (args .x) (args .parent) (args .name .now)) _ (at-judge-rename-file .ensures) (at-enum-told .given .1)) (at-unlink-file .ensures .0) (at-unlink-file .ensures .1) (at-unlink-file .ensures .2)
 
 same-length : tie.Need-same-length
 same-length c = search needs
@@ -44,7 +45,7 @@ returns : tie.Need-returns
 returns c =
     let args = c .before .before .before .before .before .before .before .before .before .before .before .before .args in
     let at-judge-rename-file = c .before .before .before .judge-rename-file in
-    call-refused (λ a. changeGives a (tables (args .dir-hash .now) (args .dirs .now) (args .hash .now) (args .files .now)) (args .opens .now)) (renameFileDone (tables (args .dir-hash .now) (args .dirs .now) (args .hash .now) (args .files .now)) (args .opens .now) (args .x) (args .parent) (args .name .now)) (renameFileTests (tables (args .dir-hash .now) (args .dirs .now) (args .hash .now) (args .files .now)) (args .opens .now) (args .x) (args .parent) (args .name .now)) (at-judge-rename-file .result) _ (at-judge-rename-file .ensures) (c .before .judged .given .1)
+    call-refused (λ a. changeGives a (tables (args .dir-hash .now) (args .dirs .now) (args .hash .now) (args .files .now)) (args .opens .now)) (renameDone File (tables (args .dir-hash .now) (args .dirs .now) (args .hash .now) (args .files .now)) (args .opens .now) (args .x) (args .parent) (args .name .now)) (renameTests File (tables (args .dir-hash .now) (args .dirs .now) (args .hash .now) (args .files .now)) (args .opens .now) (args .x) (args .parent) (args .name .now)) (at-judge-rename-file .result) _ (at-judge-rename-file .ensures) (c .before .judged .given .1)
 
 same-length-4 : tie.Need-same-length-4
 same-length-4 c = search needs
@@ -62,7 +63,7 @@ returns-2 c =
     let at-enum-told = c .before .before .before .before .before .before .before .before .before .before .before .before .before .before .before .before .before .before .before .before .enum-told in
     let at-unlink-file = c .before .before .before .before .before .before .before .before .before .before .before .before .before .before .before .before .unlink-file in
     let at-link-file = c .before .before .before .before .before .before .link-file in
-    call-done (λ a. changeGives a (tables (args .dir-hash .now) (args .dirs .now) (args .hash .now) (args .files .now)) (args .opens .now)) (renameFileDone (tables (args .dir-hash .now) (args .dirs .now) (args .hash .now) (args .files .now)) (args .opens .now) (args .x) (args .parent) (args .name .now)) _ (renameFileTests (tables (args .dir-hash .now) (args .dirs .now) (args .hash .now) (args .files .now)) (args .opens .now) (args .x) (args .parent) (args .name .now)) (passed (renameFileTests (tables (args .dir-hash .now) (args .dirs .now) (args .hash .now) (args .files .now)) (args .opens .now) (args .x) (args .parent) (args .name .now)) _ (at-judge-rename-file .ensures) (at-enum-told .given .1))
+    call-done (λ a. changeGives a (tables (args .dir-hash .now) (args .dirs .now) (args .hash .now) (args .files .now)) (args .opens .now)) (renameDone File (tables (args .dir-hash .now) (args .dirs .now) (args .hash .now) (args .files .now)) (args .opens .now) (args .x) (args .parent) (args .name .now)) _ (renameTests File (tables (args .dir-hash .now) (args .dirs .now) (args .hash .now) (args .files .now)) (args .opens .now) (args .x) (args .parent) (args .name .now)) (passed (renameTests File (tables (args .dir-hash .now) (args .dirs .now) (args .hash .now) (args .files .now)) (args .opens .now) (args .x) (args .parent) (args .name .now)) _ (at-judge-rename-file .ensures) (at-enum-told .given .1))
     (renamed-file (args .dir-hash .now) (args .dirs .now) (args .hash .now) (args .files .now) _ _ _ _ _ _ (args .opens .now) (args .x) (args .parent) (args .name .now) (at-unlink-file .ensures .0) (at-unlink-file .ensures .1) (at-unlink-file .ensures .2) (at-link-file .ensures .0) (at-link-file .ensures .1) (at-link-file .ensures .2))
 
 pub rename-file-spec : {M : Type 1} → statement M

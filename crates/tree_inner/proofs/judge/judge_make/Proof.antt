@@ -1,8 +1,8 @@
 use mathlib.Core.List.{[]}
 use borrow.Author.Tests.{not-true, not-false}
 use Rattle.tree_key.specs.Key.{nameKey}
-use Rattle.tree_promises.specs.Tables.{tables, dirs}
-use Rattle.tree_promises.specs.Ready.{hashed}
+use Rattle.tree_sound.specs.Tables.{tables}
+use Rattle.tree_promises.specs.inner.Ready.{hashed}
 use Rattle.tree_inner.proofs.Changes.{make-parent, make-exists, make-full, make-go, other-key}
 use Rattle.tree_inner.proofs.Live.{first-fits}
 use borrow.Author.Needs.{needs}

@@ -1,5 +1,5 @@
 use borrow.Author.Tests.{not-true, not-false}
-use Rattle.tree_promises.specs.Tables.{tables, dirs, files}
+use Rattle.tree_sound.specs.Tables.{tables, files}
 use Rattle.tree_promises.specs.Calls.{heldTests}
 use Rattle.tree_inner.proofs.Judges.{refused-still, passed}
 use Rattle.tree_inner.proofs.Changes.{file-parent, file-exists, file-go, other-key}

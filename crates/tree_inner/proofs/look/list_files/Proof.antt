@@ -3,7 +3,7 @@ use mathlib.Core.Path.{refl}
 use mathlib.Core.Logic.{inl}
 use native.Mathlib.Omega.{arith}
 use borrow.Author.Tests.{not-true, not-false}
-use Rattle.tree_promises.specs.Tables.{tables}
+use Rattle.tree_sound.specs.Tables.{tables}
 use Rattle.tree_inner.proofs.Lists.{dir-single}
 use Rattle.tree_test.proofs.Cases.{tells-not}
 use Rattle.tree_inner.proofs.Listings.{dir-fits, files-end, files-listed}

@@ -1,4 +1,4 @@
-use Rattle.tree_promises.specs.Tables.{tables}
+use Rattle.tree_sound.specs.Tables.{tables}
 use Rattle.tree_inner.proofs.Lists.{dir-single, file-single}
 use Rattle.tree_inner.proofs.look.stat.Statement.{statement}
 use Rattle.tree_inner.proofs.look.stat.Tie as tie

@@ -1,9 +1,10 @@
+use Rattle.tree_inner.proofs.Makes.{make-file-counted, make-file-done, new-file-asks}
 use Rattle.tree_key.specs.Key.{nameKey}
-use Rattle.tree_promises.specs.Tables.{tables, dirs, files}
-use Rattle.tree_promises.specs.Calls.{makeTests, makeGives, makeFileDone}
+use Rattle.tree_sound.specs.Tables.{tables, files}
+use Rattle.tree_promises.specs.declared.Kind.the-variants.{File}
+use Rattle.tree_promises.specs.Calls.{makeTests, makeGives, makeDone}
 use Rattle.tree_inner.proofs.Judges.{passed}
-use Rattle.tree_inner.proofs.Changes.{call-refused, call-done}
-use Rattle.tree_inner.proofs.Makes.{new-file-asks, new-file-opens, gave-file}
+use Rattle.tree_inner.proofs.Changes.{call-refused}
 use borrow.Author.Needs.{needs}
 use Rattle.tree_inner.proofs.make.make_file.Statement.{statement}
 use Rattle.tree_inner.proofs.make.make_file.Tie as tie
@@ -22,22 +23,10 @@ new-file-requires c κs =
     let args = c .before .before .before .before .before .before .before .before .before .before .before .before .before .before .args in
     let at-pre = c .before .before .before .before .before .before .before .before .before .before .before .before .before .before .pre in
     let at-judge-make = c .before .before .before .before .before .judge-make in
-    new-file-asks (tables (args .dir-hash .now) (args .dirs .now) (args .hash .now) (args .files .now)) (at-pre .0) (args .parent) (nameKey (args .parent) (args .name .now)) (passed (makeTests (tables (args .dir-hash .now) (args .dirs .now) (args .hash .now) (args .files .now)) (files (tables (args .dir-hash .now) (args .dirs .now) (args .hash .now) (args .files .now))) (args .parent) (nameKey (args .parent) (args .name .now))) _ (at-judge-make .ensures) (c .before .before .before .enum-told .given .1))
+    new-file-asks (tables (args .dir-hash .now) (args .dirs .now) (args .hash .now) (args .files .now)) (at-pre .ready) (args .parent) (nameKey (args .parent) (args .name .now)) (passed (makeTests (tables (args .dir-hash .now) (args .dirs .now) (args .hash .now) (args .files .now)) (files (tables (args .dir-hash .now) (args .dirs .now) (args .hash .now) (args .files .now))) (args .parent) (nameKey (args .parent) (args .name .now))) _ (at-judge-make .ensures) (c .before .before .before .enum-told .given .1))
 
-index-requires : tie.Need-index-requires
-index-requires c κs = search needs
-
-mul-opens : tie.Need-mul-opens
-mul-opens c = search needs
-
-slice-write-opens : tie.Need-slice-write-opens
-slice-write-opens c =
-    let args = c .before .before .before .before .before .before .before .before .before .before .before .before .before .before .before .before .before .before .before .before .before .before .args in
-    let at-pre = c .before .before .before .before .before .before .before .before .before .before .before .before .before .before .before .before .before .before .before .before .before .before .pre in
-    let at-judge-make = c .before .before .before .before .before .before .before .before .before .before .before .before .before .judge-make in
-    let at-enum-told = c .before .before .before .before .before .before .before .before .before .before .before .enum-told in
-    let at-new-file = c .before .before .before .before .before .before .before .new-file in
-    new-file-opens (tables (args .dir-hash .now) (args .dirs .now) (args .hash .now) (args .files .now)) (at-pre .0) (args .parent) (nameKey (args .parent) (args .name .now)) (passed (makeTests (tables (args .dir-hash .now) (args .dirs .now) (args .hash .now) (args .files .now)) (files (tables (args .dir-hash .now) (args .dirs .now) (args .hash .now) (args .files .now))) (args .parent) (nameKey (args .parent) (args .name .now))) _ (at-judge-make .ensures) (at-enum-told .given .1)) (args .opens .now) (at-pre .1) (at-new-file .result) (c .index .result) (at-new-file .ensures .0) (c .index .ensures)
+put-record-requires : tie.Need-put-record-requires
+put-record-requires c κs = search (make-file-counted)
 
 same-length : tie.Need-same-length
 same-length c = search needs
@@ -52,7 +41,7 @@ returns : tie.Need-returns
 returns c =
     let args = c .before .before .before .before .before .before .before .before .before .before .before .before .args in
     let at-judge-make = c .before .before .before .judge-make in
-    call-refused (λ a. makeGives a 0 (tables (args .dir-hash .now) (args .dirs .now) (args .hash .now) (args .files .now)) (args .opens .now)) (makeFileDone (tables (args .dir-hash .now) (args .dirs .now) (args .hash .now) (args .files .now)) (args .opens .now) (args .parent) (args .name .now) (args .carried .now)) (makeTests (tables (args .dir-hash .now) (args .dirs .now) (args .hash .now) (args .files .now)) (files (tables (args .dir-hash .now) (args .dirs .now) (args .hash .now) (args .files .now))) (args .parent) (nameKey (args .parent) (args .name .now))) (at-judge-make .result) _ (at-judge-make .ensures) (c .before .judged .given .1)
+    call-refused (λ a. makeGives a 0 (tables (args .dir-hash .now) (args .dirs .now) (args .hash .now) (args .files .now)) (args .opens .now)) (makeDone File (tables (args .dir-hash .now) (args .dirs .now) (args .hash .now) (args .files .now)) (args .opens .now) (args .parent) (args .name .now) (args .carried .now)) (makeTests (tables (args .dir-hash .now) (args .dirs .now) (args .hash .now) (args .files .now)) (files (tables (args .dir-hash .now) (args .dirs .now) (args .hash .now) (args .files .now))) (args .parent) (nameKey (args .parent) (args .name .now))) (at-judge-make .result) _ (at-judge-make .ensures) (c .before .judged .given .1)
 
 same-length-4 : tie.Need-same-length-4
 same-length-4 c = search needs
@@ -67,13 +56,7 @@ same-length-7 : tie.Need-same-length-7
 same-length-7 c = search needs
 
 returns-2 : tie.Need-returns-2
-returns-2 c =
-    let args = c .before .before .before .before .before .before .before .before .before .before .before .before .before .before .before .before .before .before .before .before .before .before .args in
-    let at-judge-make = c .before .before .before .before .before .before .before .before .before .before .before .before .before .judge-make in
-    let at-enum-told = c .before .before .before .before .before .before .before .before .before .before .before .enum-told in
-    let at-new-file = c .before .before .before .before .before .before .before .new-file in
-    call-done (λ a. makeGives a 0 (tables (args .dir-hash .now) (args .dirs .now) (args .hash .now) (args .files .now)) (args .opens .now)) (makeFileDone (tables (args .dir-hash .now) (args .dirs .now) (args .hash .now) (args .files .now)) (args .opens .now) (args .parent) (args .name .now) (args .carried .now)) _ (makeTests (tables (args .dir-hash .now) (args .dirs .now) (args .hash .now) (args .files .now)) (files (tables (args .dir-hash .now) (args .dirs .now) (args .hash .now) (args .files .now))) (args .parent) (nameKey (args .parent) (args .name .now))) (passed (makeTests (tables (args .dir-hash .now) (args .dirs .now) (args .hash .now) (args .files .now)) (files (tables (args .dir-hash .now) (args .dirs .now) (args .hash .now) (args .files .now))) (args .parent) (nameKey (args .parent) (args .name .now))) _ (at-judge-make .ensures) (at-enum-told .given .1))
-    (gave-file (args .dir-hash .now) (args .dirs .now) (args .hash .now) (args .files .now) _ _ _ (args .opens .now) (at-new-file .result) (c .index .result) (args .parent) (args .name .now) (args .carried .now) (at-new-file .ensures .0) (c .index .ensures) (at-new-file .ensures .1) (at-new-file .ensures .2) (at-new-file .ensures .3))
+returns-2 c = search (make-file-done)
 
 pub make-file-spec : {M : Type 1} → statement M
 make-file-spec =
@@ -83,9 +66,7 @@ make-file-spec =
     enum-known-judged
     enum-told
     new-file-requires
-    index-requires
-    mul-opens
-    slice-write-opens
+    put-record-requires
     same-length
     same-length-2
     same-length-3

@@ -9,7 +9,7 @@ use Rattle.tree_table.specs.Field.{field}
 use Rattle.tree_table.specs.View.{place, keyAt}
 use Rattle.tree_table.specs.Steps.{bucketBefore}
 use Rattle.tree_table.specs.Chain.{linkAt, listAt, Ends}
-use Rattle.tree_promises.specs.Ready.{hashed}
+use Rattle.tree_promises.specs.inner.Ready.{hashed}
 use Rattle.tree_inner.specs.declared.step.Seat.{Seat}
 use Rattle.tree_inner.specs.declared.step.Child.{Child}
 

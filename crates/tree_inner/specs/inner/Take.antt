@@ -5,7 +5,7 @@ use Prim.Native.Nat.{ℕ, _+_, _*_, _/_, _≤_, _<_}
 use lib.ListN.{length}
 use Rattle.tree_table.specs.Field.{field}
 use Rattle.tree_table.specs.Steps.{taken}
-use Rattle.tree_promises.specs.Ready.{alone}
+use Rattle.tree_promises.specs.inner.Ready.{alone}
 
 pub record Takes (w : ℕ) (t : List ℕ) : Type 0 where
   pub first : w ≤ length t

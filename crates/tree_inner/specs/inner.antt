@@ -1,0 +1,3 @@
+pub mod Judge
+pub mod Seat
+pub mod Take
