@@ -26,7 +26,7 @@ use Rattle.fat_table.proofs.Decided.{sound-decided, file-decided}
 use Rattle.fat_test.specs.Gate.{testGate, blockGate}
 use Rattle.fat_test.specs.Promise.{testRefused, testDone}
 use Rattle.fat_test.specs.declared.Tested.{Tested}
-use Rattle.fat_promises.specs.Promise.{Beside, beside, within}
+use Rattle.fat_promises.specs.Promise.{Beside, beside, within, Promise}
 use Rattle.fat_promises.specs.Calls.{
   sizeOf,
   Create,
@@ -172,6 +172,7 @@ module _ (t : Bytes) (d l : ℕ) (work : List ℕ) (count : ℕ) where
   }
 
   pub create-means : (o : Beside Create) → words.Bytes t → CreatePromise t d l work count o → o .given .answer ≡ Done → MayCreate × (o ≡ createLast)
+  unfolding Promise
   create-means o g p e =
       let w =
       none-of (λ (x : Beside Create). x .given .answer) Done createAll createLast o (
@@ -188,11 +189,13 @@ module _ (t : Bytes) (d l : ℕ) (work : List ℕ) (count : ℕ) where
       (may-create g (w .0), w .1)
 
   pub create-keeps : (o : Beside Create) → words.Bytes t → CreatePromise t d l work count o → (o .given .table ≡ t) ⊎ (MayCreate × (o ≡ createLast))
+  unfolding Promise
   create-keeps o g p =
       ⊎-elim (λ e. inl e) (λ w. inr (may-create g (w .0), w .1))
       (last-or (λ (x : Beside Create). x .given .table) t createAll createLast o (refl, (refl, (refl, (refl, (refl, (refl, tt)))))) p)
 
   pub create-done : MayCreate → CreatePromise t d l work count createLast
+  unfolding Promise
   create-done m =
       last-given createAll createLast (
         row-1 t d l work (m .passed),
@@ -236,6 +239,7 @@ module _ (t : Bytes) (d l : ℕ) (work : List ℕ) (b count : ℕ) where
       }
 
   pub resize-means : (o : Beside Change) → words.Bytes t → ResizePromise t d l work b count o → o .given .answer ≡ Done → MayResize × (o ≡ resizeLast)
+  unfolding Promise
   resize-means o g p e =
       let w =
       none-of (λ (x : Beside Change). x .given .answer) Done resizeAll resizeLast o (
@@ -255,6 +259,7 @@ module _ (t : Bytes) (d l : ℕ) (work : List ℕ) (b count : ℕ) where
       (may-resize g (w .0), w .1)
 
   pub resize-keeps : (o : Beside Change) → words.Bytes t → ResizePromise t d l work b count o → (o .given .table ≡ t) ⊎ (MayResize × (o ≡ resizeLast))
+  unfolding Promise
   resize-keeps o g p =
       ⊎-elim (λ e. inl e) (λ w. inr (may-resize g (w .0), w .1))
       (last-or (λ (x : Beside Change). x .given .table) t resizeAll resizeLast o (refl, (refl, (refl, (refl, (refl, (refl, (refl, tt))))))) p)
@@ -279,6 +284,7 @@ module _ (t : Bytes) (d l : ℕ) (work : List ℕ) (b : ℕ) where
       record { passed = p; file = file-stable (blocks t) t b (p .whole) (w .1 .1 .1 .1 .0) }
 
   pub delete-means : (o : Beside Change) → words.Bytes t → DeletePromise t d l work b o → o .given .answer ≡ Done → MayDelete × (o ≡ deleteLast)
+  unfolding Promise
   delete-means o g p e =
       let w =
       none-of (λ (x : Beside Change). x .given .answer) Done deleteAll deleteLast o (
@@ -289,11 +295,13 @@ module _ (t : Bytes) (d l : ℕ) (work : List ℕ) (b : ℕ) where
       (may-delete g (w .0), w .1)
 
   pub delete-keeps : (o : Beside Change) → words.Bytes t → DeletePromise t d l work b o → (o .given .table ≡ t) ⊎ (MayDelete × (o ≡ deleteLast))
+  unfolding Promise
   delete-keeps o g p =
       ⊎-elim (λ e. inl e) (λ w. inr (may-delete g (w .0), w .1))
       (last-or (λ (x : Beside Change). x .given .table) t deleteAll deleteLast o (refl, (refl, (refl, (refl, (refl, tt))))) p)
 
   pub delete-done : MayDelete → DeletePromise t d l work b deleteLast
+  unfolding Promise
   delete-done m =
       last-given deleteAll deleteLast (
         row-1 t d l work (m .passed),
@@ -323,6 +331,7 @@ module _ (t d : Bytes) (l : ℕ) (work : List ℕ) (b pos : ℕ) (buf : Bytes) w
 
   pub read-means : (o : Beside Carry) → words.Bytes t → ReadPromise t d l work b pos buf o → o .given .answer ≡ Done
       → MayCarry t d l work b pos (length buf) × (o ≡ readLast)
+  unfolding Promise
   read-means o g p e =
       let w =
       none-of (λ (x : Beside Carry). x .given .answer) Done readAll readLast o (
@@ -339,6 +348,7 @@ module _ (t d : Bytes) (l : ℕ) (work : List ℕ) (b pos : ℕ) (buf : Bytes) w
       (may-read g (w .0), w .1)
 
   pub read-done : MayCarry t d l work b pos (length buf) → ReadPromise t d l work b pos buf readLast
+  unfolding Promise
   read-done m =
       last-given readAll readLast (
         row-1 t (length d) l work (m .passed),
@@ -353,6 +363,7 @@ module _ (t d : Bytes) (l : ℕ) (work : List ℕ) (b pos : ℕ) (buf : Bytes) w
 
   -- a read that may be done is
   pub read-gives : (o : Beside Carry) → MayCarry t d l work b pos (length buf) → ReadPromise t d l work b pos buf o → o ≡ readLast
+  unfolding Promise
   read-gives o m p = one readAll readLast o readLast p (read-done m)
 
   abbrev pub writeAll : List (Row (Beside Carry))
@@ -369,6 +380,7 @@ module _ (t d : Bytes) (l : ℕ) (work : List ℕ) (b pos : ℕ) (buf : Bytes) w
 
   pub write-means : (o : Beside Carry) → words.Bytes t → WritePromise t d l work b pos buf o → o .given .answer ≡ Done
       → MayCarry t d l work b pos (length buf) × (o ≡ writeLast)
+  unfolding Promise
   write-means o g p e =
       let w =
       none-of (λ (x : Beside Carry). x .given .answer) Done writeAll writeLast o (
@@ -386,6 +398,7 @@ module _ (t d : Bytes) (l : ℕ) (work : List ℕ) (b pos : ℕ) (buf : Bytes) w
 
   pub write-keeps : (o : Beside Carry) → words.Bytes t → WritePromise t d l work b pos buf o
       → (o .given .bytes ≡ d) ⊎ (MayCarry t d l work b pos (length buf) × (o ≡ writeLast))
+  unfolding Promise
   write-keeps o g p =
       ⊎-elim (λ e. inl e) (λ w. inr (may-write g (w .0), w .1))
       (last-or (λ (x : Beside Carry). x .given .bytes) d writeAll writeLast o (refl, (refl, (refl, (refl, (refl, (refl, tt)))))) p)
