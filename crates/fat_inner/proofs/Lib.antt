@@ -5,7 +5,8 @@ pub mod Cases
 pub mod Walks
 pub mod Hops
 pub mod Done
-pub mod Resizes
+pub mod Judges
+pub mod Steps
 pub mod Lists
 pub mod Copied
 pub mod InRow

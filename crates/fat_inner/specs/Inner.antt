@@ -8,13 +8,11 @@ use lib.ListN.{length}
 use Rattle.fat_node.specs.Entry.{Bytes}
 use Rattle.fat_node.specs.Node.{Run, run, NodeAt, prevAt, nextAt, setNode, setHead}
 use Rattle.fat_table.specs.Sound.{Sound}
-use Rattle.fat_table.specs.Chain.{total, sizeAt, chainAt, freeAt, fileAt}
+use Rattle.fat_table.specs.Chain.{total, sizeAt, chainAt}
 use Rattle.fat_table.specs.Layout.{hits, covers, empties}
 use Rattle.fat_table.specs.Steps.{first}
 use Rattle.fat_table.specs.Holds.{Laid}
 use Rattle.fat_inner.specs.declared.walk.Sought.{Sought}
-use Rattle.fat_inner.specs.declared.judge.Planned.{Planned}
-use Rattle.fat_inner.specs.declared.judge.Planned.the-variants.{Cut, Same, Full}
 use Rattle.fat_inner.specs.declared.walk.Sought.the-variants.{Within, Past}
 
 -- what the calls that require soundness ask for: a sound table of n blocks
@@ -106,18 +104,6 @@ pub record LastAt (l : List Run) (b : ℕ) : Type 0 where
   pub node : Run
   pub is : l ≡ before ++ node ∷ []
   pub at : node .start ≡ b
-
--- the file at block b ends after the node at block last; joined with the free chain and cut after c blocks, the cut is after m blocks of the node at
--- block x
-pub record CutAt (n : ℕ) (t : Bytes) (b c last x m : ℕ) : Type 0 where
-  pub end : LastAt (fileAt n t b) last
-  pub cut : Inside (fileAt n t b ++ freeAt n t) c x m
-
--- what a resize to c blocks plans
-abbrev pub PlanSays : ℕ → Bytes → ℕ → ℕ → Planned → Type 0
-PlanSays n t b c (Cut last x m) = CutAt n t b c last x m
-PlanSays n t b c Same = c ≡ total (fileAt n t b)
-PlanSays n t b c Full = total (fileAt n t b) + total (freeAt n t) < c
 
 -- r is the smaller of two numbers
 pub record Least (a b r : ℕ) : Type 0 where
