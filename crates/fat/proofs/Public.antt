@@ -17,7 +17,7 @@ use Rattle.fat_node.proofs.Sizes.{fit, inside}
 use Rattle.fat_node.proofs.Nodes.{le-or-lt}
 use Rattle.links.proofs.Held.{same-or}
 use Rattle.fat_test.specs.Gate.{blockGate, unsound}
-use Rattle.fat_test.specs.Promise.{Opened, GateOf}
+use Rattle.fat_test.specs.inner.Gated.{Opened, GateOf}
 use Rattle.fat_test.specs.declared.Gated.{Gated}
 use Rattle.fat_test.specs.declared.Gated.the-variants.{Open, Refused}
 use Rattle.fat_promises.specs.Promise.{beside, Promise}
@@ -48,8 +48,7 @@ use Rattle.fat_promises.specs.Calls.{
   writeDone,
   WritePromise,
 }
-use Rattle.fat_inner.specs.Inner.{Volume}
-use Rattle.fat_inner.specs.Stretches.{Data}
+use Rattle.fat_inner.specs.Volume.{Volume, Data}
 
 -- what an open gate says of the sizes
 module _ (t : Bytes) (d l : ℕ) (work work′ : List ℕ) (free files : ℕ) (g : Opened t d l work work′ free files) where

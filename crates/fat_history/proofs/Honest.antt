@@ -39,9 +39,9 @@ use Rattle.fat_table.proofs.Files.{
 use Rattle.fat_table.proofs.Agreeing.{holds-agree, agree-holds}
 use Rattle.fat_promises.specs.Promise.{Beside}
 use Rattle.fat_promises.specs.Calls.{Create, Change}
-use Rattle.fat_history.specs.Run as runs
+use Rattle.fat_history.specs.History as histories
 use Rattle.words.specs.Word.{AreBytes}
-use Rattle.fat_history.specs.Run.{formats, creates, resizes, deletes, resizesIn}
+use Rattle.fat_history.specs.History.{formats, creates, resizes, deletes, resizesIn}
 use Rattle.fat_history.proofs.Passes.{are-bytes, Fits, Passed}
 use Rattle.fat_history.proofs.Means.{
   format-means,
@@ -67,7 +67,7 @@ as-blocks n t w = subst⁻¹ (λ (m : ℕ). Whole m t) (blocks-of n t (w .room))
 
 -- the tables of a run are whole -----------------------------------------------------------------------------------
 
-pub run-whole : {k : ℕ} {t : Bytes} → runs.Run k t → Whole (blocks t) t × (1 ≤ blocks t)
+pub run-whole : {k : ℕ} {t : Bytes} → histories.History k t → Whole (blocks t) t × (1 ≤ blocks t)
 run-whole (formats t t′ r g p e) =
     let w = format-means t t′ r p e in
     let f : Fits t = w .0 in
@@ -97,7 +97,7 @@ run-whole (deletes k t v d l work b o p e) =
     (as-blocks n (deleted n t b) h, omega (arith, i .1, blocks-of n (deleted n t b) (h .room)))
 
 -- a table that agrees with a run's end is sound
-pub run-sound : (t t′ : Bytes) (k : ℕ) → runs.Run k t′ → Agree (blocks t) t t′ → Sound t (blocks t)
+pub run-sound : (t t′ : Bytes) (k : ℕ) → histories.History k t′ → Agree (blocks t) t t′ → Sound t (blocks t)
 run-sound t t′ k r a =
     let w = run-whole r in
     let e : blocks t′ ≡ blocks t = ap (λ (x : ℕ). x / 8 - 1) (sym (a .room)) in
@@ -111,7 +111,7 @@ run-sound t t′ k r a =
 -- the end of a run of k calls, none of them resize, that holds a layout
 record Made (n k : ℕ) (L : Layout) : Type 0 where
   end : Bytes
-  run-to : runs.Run k end
+  run-to : histories.History k end
   plain : resizesIn run-to ≡ 0
   bytes : words.Bytes end
   blocks-are : blocks end ≡ n
@@ -207,7 +207,7 @@ nodes-many n small t L s =
 pub record Reached (t : Bytes) : Type 0 where
   pub k : ℕ
   pub end : Bytes
-  pub run-to : runs.Run k end
+  pub run-to : histories.History k end
   pub few : k ≤ 3 * length (nodes (blocks t) t)
   pub plain : resizesIn run-to ≡ 0
   pub agrees : Agree (blocks t) t end

@@ -23,7 +23,7 @@ use Rattle.fat_promises.specs.Promise.{Beside}
 use Rattle.fat_promises.specs.Blocks.{blocksOf, placeOf, bytesAt, written}
 use Rattle.fat_promises.specs.Calls.{Create, CreatePromise, Change, ResizePromise, DeletePromise, Carry, MayCarry, ReadPromise, writeDone, WritePromise, sizeOf}
 use Rattle.words.specs.Word.{AreBytes}
-use Rattle.fat_history.specs.Run.{Run, resizesIn}
+use Rattle.fat_history.specs.History.{History, resizesIn}
 use Rattle.fat_history.specs.OneChain.{OneChain}
 use Rattle.fat_history.specs.Away.{Away, none, writes}
 use Rattle.fat_history.specs.KeptBy.{KeptBy}
@@ -37,8 +37,8 @@ use Rattle.fat_history.proofs.Apart.{Still, still, blocks-once, blocks-
 -- honest: the test of a table of 1 to 1,000,000 blocks answers Done exactly when some run of format and then create, resize and delete, each answered
 -- Done, ends in a table equal to it in every entry that the rules read
 pub honest : (t : Bytes) (work : List ℕ) (o : Tested × List ℕ) → AreBytes t → (Misfit t → ⊥) → (Outside t → ⊥) → blocks t ≤ length work → TestPromise t work o
-    → (o .0 .answer ≡ Done → (k : ℕ) × (t′ : Bytes) × Run k t′ × Agree (blocks t) t t′)
-    × ((k : ℕ) (t′ : Bytes) → Run k t′ → Agree (blocks t) t t′ → o .0 .answer ≡ Done)
+    → (o .0 .answer ≡ Done → (k : ℕ) × (t′ : Bytes) × History k t′ × Agree (blocks t) t t′)
+    × ((k : ℕ) (t′ : Bytes) → History k t′ → Agree (blocks t) t t′ → o .0 .answer ≡ Done)
 honest t work o g m u h p =
     let f : Fits t = fits t m u in (
       λ e. let r = sound-run t g f (test-means t work o (are-bytes t g) p e .1) in (r .k, r .end, r .run-to, r .agrees),
@@ -47,7 +47,7 @@ honest t work o g m u h p =
 
 -- within: an accepted table is reached from a formatted one by at most three calls a node, create and delete alone, each answered Done
 pub within : (t : Bytes) (work : List ℕ) (o : Tested × List ℕ) → AreBytes t → TestPromise t work o → o .0 .answer ≡ Done
-    → (k : ℕ) × (t′ : Bytes) × (r : Run k t′) × (k ≤ 3 * length (nodes (blocks t) t)) × (resizesIn r ≡ 0) × Agree (blocks t) t t′
+    → (k : ℕ) × (t′ : Bytes) × (r : History k t′) × (k ≤ 3 * length (nodes (blocks t) t)) × (resizesIn r ≡ 0) × Agree (blocks t) t t′
 within t work o g p e =
     let w = test-means t work o (are-bytes t g) p e in
     let r = sound-run t g (w .0) (w .1) in

@@ -29,17 +29,18 @@ use Rattle.fat_table.specs.Steps.{first}
 use Rattle.fat_promises.specs.Blocks.{blocksOf, bytesAt, written}
 use Rattle.fat_promises.specs.Calls.{Carry, carryGives, carryTests, MayCarry, carryRows, readDone, writeDone, sizeOf}
 use Rattle.fat_promises.proofs.May.{none-carry}
-use Rattle.fat_inner.specs.Inner.{Volume, Standing, Chain, ChainFrom, SeekSays, Least}
-use Rattle.fat_inner.specs.Plans.{CarryPlanned}
+use Rattle.fat_inner.specs.Volume.{Volume, Data}
+use Rattle.fat_inner.specs.inner.Chains.{Standing, Chain, ChainFrom, SeekSays, Least}
+use Rattle.fat_inner.specs.inner.Plans.{CarryPlanned}
 use Rattle.fat_inner.specs.declared.judge.CarryPlan.{CarryPlan}
 use Rattle.fat_inner.specs.declared.judge.CarryPlan.the-variants as carry-plan
-use Rattle.fat_inner.specs.Stretches.{Data, CursorAt, StretchOf}
+use Rattle.fat_inner.specs.inner.Stretches.{CursorAt, StretchOf}
 use Rattle.fat_inner.specs.declared.walk.Sought.{Sought}
 use Rattle.fat_inner.specs.declared.walk.Sought.the-variants.{Within, Past}
 use Rattle.fat_table.proofs.Unchanged.{total-append}
 use Rattle.fat_inner.proofs.Joins.{mid-size, mid-next, mid-standing, mid-pos, mid-within}
 use Rattle.fat_inner.proofs.Cases.{standing-size}
-use Rattle.fat_inner.proofs.Done.{inside-count, file-from, says-within, says-past}
+use Rattle.fat_inner.proofs.Found.{inside-count, file-from, says-within, says-past}
 use Rattle.fat_inner.proofs.Lists.{sets-append}
 use Rattle.fat_inner.proofs.Puts.{lent-back, sets-whole}
 use Rattle.fat_inner.proofs.InRow.{length-bytes, bytes-split, bytes-row, written-append, written-row, InRow, in-row}

@@ -19,13 +19,14 @@ use Rattle.fat_table.specs.Chain.{total, sizeAt, headAt, chainAt, freeAt, fileA
 use Rattle.fat_table.specs.Steps.{first}
 use Rattle.fat_table.proofs.Unchanged.{total-append}
 use Rattle.fat_promises.specs.Calls.{createTests, MayCreate, resizeTests, MayResize, deleteTests, listTests, carryTests}
-use Rattle.fat_inner.specs.Inner.{Volume, Standing, Chain, ChainFrom, Inside, Beyond, SeekSays, LastAt}
-use Rattle.fat_inner.specs.Plans.{CreateAt, SameAt, ShrinkAt, GrowAt, DeleteAt}
+use Rattle.fat_inner.specs.Volume.{Volume}
+use Rattle.fat_inner.specs.inner.Chains.{Standing, Chain, ChainFrom, Inside, Beyond, SeekSays, LastAt}
+use Rattle.fat_inner.specs.inner.Plans.{CreateAt, SameAt, ShrinkAt, GrowAt, DeleteAt}
 use Rattle.fat_inner.specs.declared.walk.Sought.{Sought}
 use Rattle.fat_inner.specs.declared.walk.Sought.the-variants.{Within, Past}
 use Rattle.fat_inner.proofs.Joins.{mid-next}
 use Rattle.fat_inner.proofs.Walks.{ended}
-use Rattle.fat_inner.proofs.Done.{inside-standing, inside-count, inside-size, inside-first, last-past, last-some, head-chain, file-from, says-within, says-past, not-file}
+use Rattle.fat_inner.proofs.Found.{inside-standing, inside-count, inside-size, inside-first, last-past, last-some, head-chain, file-from, says-within, says-past, not-file}
 
 -- whether a part of a node is all of it, and it is the last
 pub end-yes : (t : Bytes) (b s q m : ℕ) → s ≡ sizeAt t b → q ≡ nextAt t b → m ≡ s → eqb q 0 ≡ true → (m ≡ sizeAt t b) × (nextAt t b ≡ 0)

@@ -4,7 +4,7 @@ pub mod Few
 pub mod Cases
 pub mod Walks
 pub mod Hops
-pub mod Done
+pub mod Found
 pub mod Judges
 pub mod Steps
 pub mod Lists

@@ -17,13 +17,14 @@ use Rattle.fat_node.proofs.Nodes.{le-or-lt}
 use Rattle.fat_table.specs.Sound.{File}
 use Rattle.fat_promises.specs.Calls.{listGives, listTests, listRows, listDone, ListSound}
 use Rattle.fat_promises.proofs.May.{none-list}
-use Rattle.fat_inner.proofs.Done.{inside-count, file-from, says-within, says-past}
+use Rattle.fat_inner.proofs.Found.{inside-count, file-from, says-within, says-past}
 use Rattle.fat_node.specs.Node.{Run, nextAt}
 use Rattle.fat_table.specs.Chain.{total, sizeAt, chainAt, fileAt}
 use Rattle.fat_table.specs.Steps.{first}
 use Rattle.fat_promises.specs.Blocks.{blocksFrom, blocksOf}
-use Rattle.fat_inner.specs.Inner.{Volume, Standing, Chain, SeekSays, Beyond, Least}
-use Rattle.fat_inner.specs.Plans.{ListAt, ListPlanned}
+use Rattle.fat_inner.specs.Volume.{Volume}
+use Rattle.fat_inner.specs.inner.Chains.{Standing, Chain, SeekSays, Beyond, Least}
+use Rattle.fat_inner.specs.inner.Plans.{ListAt, ListPlanned}
 use Rattle.fat_inner.specs.declared.judge.ListPlan.{ListPlan}
 use Rattle.fat_inner.specs.declared.judge.ListPlan.the-variants as list-plan
 use Rattle.fat_inner.specs.declared.walk.Sought.{Sought}

@@ -31,8 +31,10 @@ use Rattle.fat_promises.specs.Calls.{
   DeleteSound,
 }
 use Rattle.fat_promises.proofs.May.{none-create, none-resize, none-delete}
-use Rattle.fat_inner.specs.Inner.{Volume, Standing, StandingAt, Chain, ChainFrom, joinAt, cutAt, Inside, LastAt}
-use Rattle.fat_inner.specs.Plans.{TakeAt, CreateAt, CreatePlanned, SameAt, ShrinkAt, GrowAt, ResizePlanned, RecutAt, Recut, DeleteAt, DeletePlanned}
+use Rattle.fat_inner.specs.Volume.{Volume}
+use Rattle.fat_inner.specs.inner.Chains.{Standing, StandingAt, Chain, ChainFrom, Inside, LastAt}
+use Rattle.fat_inner.specs.inner.Writes.{joinAt, cutAt}
+use Rattle.fat_inner.specs.inner.Plans.{TakeAt, CreateAt, CreatePlanned, SameAt, ShrinkAt, GrowAt, ResizePlanned, RecutAt, Recut, DeleteAt, DeletePlanned}
 use Rattle.fat_inner.specs.declared.judge.CreatePlan.{CreatePlan}
 use Rattle.fat_inner.specs.declared.judge.CreatePlan.the-variants as create-plan
 use Rattle.fat_inner.specs.declared.judge.ResizePlan.{ResizePlan}
@@ -40,7 +42,7 @@ use Rattle.fat_inner.specs.declared.judge.ResizePlan.the-variants as res
 use Rattle.fat_inner.specs.declared.judge.DeletePlan.{DeletePlan}
 use Rattle.fat_inner.specs.declared.judge.DeletePlan.the-variants as delete-plan
 use Rattle.fat_inner.proofs.Few.{free-chain, file-chain, both-is, both-chain, created-few, resized-few, resized-same, deleted-few}
-use Rattle.fat_inner.proofs.Done.{inside-standing, inside-next, inside-part, last-standing, first-standing, first-below, head-chain}
+use Rattle.fat_inner.proofs.Found.{inside-standing, inside-next, inside-part, last-standing, first-standing, first-below, head-chain}
 use Rattle.fat_inner.proofs.Hops.{whole-of}
 
 module _ (n : ℕ) (t : Bytes) (v : Volume n t) (g : words.Bytes t) where

@@ -1,3 +1,2 @@
-pub mod Inner
-pub mod Plans
-pub mod Stretches
+pub mod Volume
+pub mod inner

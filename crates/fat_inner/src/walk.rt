@@ -6,7 +6,8 @@ ghost use lib.ListN.{length};
 ghost use Rattle.fat_node.specs.Node.{prevAt, nextAt};
 ghost use Rattle.fat_table.specs.Sound.{IsNode, File};
 ghost use Rattle.fat_table.specs.Chain.{total, sizeAt, headAt, chainAt};
-ghost use Rattle.fat_inner.specs.Inner.{Volume, Standing, ChainFrom, SeekSays, LastAt, Least};
+ghost use Rattle.fat_inner.specs.Volume.{Volume};
+ghost use Rattle.fat_inner.specs.inner.Chains.{Standing, ChainFrom, SeekSays, LastAt, Least};
 use fat_node::Node;
 
 // The size of the node that stands at block b.

@@ -25,6 +25,7 @@ pub record Create : Type 0 where
   pub first : ℕ
   pub table : Bytes
 
+-- the same, by its parts
 abbrev pub createGives : (answer : Answer) (first : ℕ) (table : Bytes) → Create
 createGives answer first table = record { answer = answer; first = first; table = table }
 
@@ -60,6 +61,7 @@ pub record Change : Type 0 where
   pub answer : Answer
   pub table : Bytes
 
+-- the same, by its parts
 abbrev pub changeGives : (answer : Answer) (table : Bytes) → Change
 changeGives answer table = record { answer = answer; table = table }
 
@@ -127,6 +129,7 @@ pub record Listing : Type 0 where
   pub count : ℕ
   pub list : List ℕ
 
+-- the same, by its parts
 abbrev pub listGives : (answer : Answer) (count : ℕ) (list : List ℕ) → Listing
 listGives answer count list = record { answer = answer; count = count; list = list }
 
@@ -166,6 +169,7 @@ pub record Carry : Type 0 where
   pub answer : Answer
   pub bytes : Bytes
 
+-- the same, by its parts
 abbrev pub carryGives : (answer : Answer) (bytes : Bytes) → Carry
 carryGives answer bytes = record { answer = answer; bytes = bytes }
 

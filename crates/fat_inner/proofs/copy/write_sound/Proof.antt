@@ -1,5 +1,5 @@
 use Rattle.fat_inner.proofs.Carries.{carry-refused, carry-file, carry-room, write-done}
-use Rattle.fat_inner.proofs.Done.{file-fits, file-from, are-bytes}
+use Rattle.fat_inner.proofs.Found.{file-fits, file-from, are-bytes}
 use borrow.Author.Needs.{needs}
 use Rattle.fat_inner.proofs.copy.write_sound.Statement.{statement}
 use Rattle.fat_inner.proofs.copy.write_sound.Tie as tie

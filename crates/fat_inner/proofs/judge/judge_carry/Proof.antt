@@ -1,6 +1,6 @@
 use Rattle.fat_inner.proofs.Judges.{is-file, carry-no-file}
 use Rattle.fat_inner.proofs.Carries.{size-fits, carry-past, carry-within}
-use Rattle.fat_inner.proofs.Done.{file-fits, file-from, are-bytes}
+use Rattle.fat_inner.proofs.Found.{file-fits, file-from, are-bytes}
 use borrow.Author.Needs.{needs}
 use Rattle.fat_inner.proofs.judge.judge_carry.Statement.{statement}
 use Rattle.fat_inner.proofs.judge.judge_carry.Tie as tie

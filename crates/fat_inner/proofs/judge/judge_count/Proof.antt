@@ -1,6 +1,6 @@
 use native.Mathlib.Omega.{arith}
 use Rattle.fat_inner.proofs.Judges.{in-standing, resize-same, resize-shrink, past-some, past-last, resize-grow, resize-full}
-use Rattle.fat_inner.proofs.Done.{head-chain, file-from, are-bytes}
+use Rattle.fat_inner.proofs.Found.{head-chain, file-from, are-bytes}
 use borrow.Author.Needs.{needs}
 use Rattle.fat_inner.proofs.judge.judge_count.Statement.{statement}
 use Rattle.fat_inner.proofs.judge.judge_count.Tie as tie

@@ -1,7 +1,7 @@
 use mathlib.Core.Path.{refl}
 use mathlib.Core.Logic.{inl}
 use Rattle.fat_inner.proofs.Judges.{create-none, create-some, create-at}
-use Rattle.fat_inner.proofs.Done.{head-chain, are-bytes}
+use Rattle.fat_inner.proofs.Found.{head-chain, are-bytes}
 use borrow.Author.Needs.{needs}
 use Rattle.fat_inner.proofs.judge.judge_create.Statement.{statement}
 use Rattle.fat_inner.proofs.judge.judge_create.Tie as tie

@@ -1,6 +1,6 @@
 use native.Mathlib.Omega.{arith}
 use Rattle.fat_inner.proofs.Judges.{is-file, delete-no-file, delete-at}
-use Rattle.fat_inner.proofs.Done.{file-fits, file-from, are-bytes}
+use Rattle.fat_inner.proofs.Found.{file-fits, file-from, are-bytes}
 use borrow.Author.Needs.{needs}
 use Rattle.fat_inner.proofs.judge.judge_delete.Statement.{statement}
 use Rattle.fat_inner.proofs.judge.judge_delete.Tie as tie

@@ -1,6 +1,6 @@
 use Rattle.fat_inner.proofs.Judges.{is-file, list-no-file}
 use Rattle.fat_inner.proofs.Lists.{list-short, list-fits, list-at}
-use Rattle.fat_inner.proofs.Done.{file-fits, file-from, are-bytes}
+use Rattle.fat_inner.proofs.Found.{file-fits, file-from, are-bytes}
 use borrow.Author.Needs.{needs}
 use Rattle.fat_inner.proofs.judge.judge_list.Statement.{statement}
 use Rattle.fat_inner.proofs.judge.judge_list.Tie as tie

@@ -1,5 +1,5 @@
 use Rattle.fat_inner.proofs.Lists.{list-refused, list-file, list-room, list-done}
-use Rattle.fat_inner.proofs.Done.{file-fits, file-from, are-bytes}
+use Rattle.fat_inner.proofs.Found.{file-fits, file-from, are-bytes}
 use borrow.Author.Needs.{needs}
 use Rattle.fat_inner.proofs.list.open_list_sound.Statement.{statement}
 use Rattle.fat_inner.proofs.list.open_list_sound.Tie as tie

@@ -1,4 +1,4 @@
-use Rattle.fat_inner.proofs.Done.{are-bytes}
+use Rattle.fat_inner.proofs.Found.{are-bytes}
 use Rattle.fat_inner.proofs.Steps.{create-node, create-next, create-part, create-fits, create-stepped}
 use borrow.Author.Needs.{needs}
 use Rattle.fat_inner.proofs.step.create_step.Statement.{statement}

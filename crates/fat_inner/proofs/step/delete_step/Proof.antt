@@ -1,4 +1,4 @@
-use Rattle.fat_inner.proofs.Done.{are-bytes}
+use Rattle.fat_inner.proofs.Found.{are-bytes}
 use Rattle.fat_inner.proofs.Steps.{delete-last, head-node, head-low, delete-stepped}
 use borrow.Author.Needs.{needs}
 use Rattle.fat_inner.proofs.step.delete_step.Statement.{statement}

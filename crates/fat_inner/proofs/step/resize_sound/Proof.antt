@@ -1,4 +1,4 @@
-use Rattle.fat_inner.proofs.Done.{are-bytes}
+use Rattle.fat_inner.proofs.Found.{are-bytes}
 use Rattle.fat_inner.proofs.Steps.{resize-refused, resize-kept, shrink-goes, shrink-done, grow-goes, grow-done}
 use borrow.Author.Needs.{needs}
 use Rattle.fat_inner.proofs.step.resize_sound.Statement.{statement}

@@ -1,4 +1,4 @@
-use Rattle.fat_inner.proofs.Done.{are-bytes}
+use Rattle.fat_inner.proofs.Found.{are-bytes}
 use Rattle.fat_inner.proofs.Steps.{resize-last, head-node, head-low, resize-node, resize-next, recut-part, resize-fits, resize-stepped}
 use borrow.Author.Needs.{needs}
 use Rattle.fat_inner.proofs.step.resize_step.Statement.{statement}

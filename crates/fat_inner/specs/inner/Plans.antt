@@ -1,14 +1,13 @@
 -- What the judges say: a refusal is what the call's tests give; else no test applies, and these are the places where the step writes.
 use mathlib.Core.Path.{_≡_}
-use mathlib.Core.List.{List, _++_}
-use Prim.Native.Nat.{ℕ, _+_, _-_, _<_}
+use mathlib.Core.List.{_++_}
+use Prim.Native.Nat.{ℕ, _-_, _<_}
 use Rattle.order.specs.Given.{Given}
 use Rattle.fat_node.specs.Entry.{Bytes}
-use Rattle.fat_table.specs.Sound.{File}
 use Rattle.fat_table.specs.Chain.{total, freeAt, fileAt}
 use Rattle.fat_table.specs.Steps.{createdAt}
 use Rattle.fat_promises.specs.Calls.{createTests, MayCreate, resizeTests, MayResize, deleteTests, MayDelete, listTests, MayList, carryTests, MayCarry}
-use Rattle.fat_inner.specs.Inner.{Inside, LastAt}
+use Rattle.fat_inner.specs.inner.Chains.{Inside, LastAt}
 use Rattle.fat_inner.specs.declared.judge.CreatePlan.{CreatePlan}
 use Rattle.fat_inner.specs.declared.judge.CreatePlan.the-variants as create-plan
 use Rattle.fat_inner.specs.declared.judge.ResizePlan.{ResizePlan}
@@ -31,6 +30,7 @@ pub record CreateAt (n : ℕ) (t : Bytes) (c first x m : ℕ) : Type 0 where
   pub at : first ≡ createdAt t
   pub cut : Inside (freeAt n t) c x m
 
+-- what the judge of a create of c blocks tells
 abbrev pub CreatePlanned : (n : ℕ) (t : Bytes) (c : ℕ) → CreatePlan → Type 0
 CreatePlanned n t c (create-plan.Refused a) = Given (createTests n t c) a
 CreatePlanned n t c (create-plan.Cut first x m) = CreateAt n t c first x m
@@ -53,6 +53,7 @@ pub record GrowAt (n : ℕ) (t : Bytes) (b c last x m : ℕ) : Type 0 where
   pub more : total (fileAt n t b) < c
   pub cut : Inside (freeAt n t) (c - total (fileAt n t b)) x m
 
+-- what the judge of a resize of the file at block b to c blocks tells
 abbrev pub ResizePlanned : (n : ℕ) (t : Bytes) (b c : ℕ) → ResizePlan → Type 0
 ResizePlanned n t b c (resize-plan.Refused a) = Given (resizeTests n t b c) a
 ResizePlanned n t b c resize-plan.Same = SameAt n t b c
@@ -76,6 +77,7 @@ pub record DeleteAt (n : ℕ) (t : Bytes) (b last : ℕ) : Type 0 where
   pub may : MayDelete n t b
   pub end : LastAt (fileAt n t b) last
 
+-- what the judge of a delete of the file at block b tells
 abbrev pub DeletePlanned : (n : ℕ) (t : Bytes) (b : ℕ) → DeletePlan → Type 0
 DeletePlanned n t b (delete-plan.Refused a) = Given (deleteTests n t b) a
 DeletePlanned n t b (delete-plan.Join last) = DeleteAt n t b last
@@ -85,11 +87,12 @@ pub record ListAt (n : ℕ) (t : Bytes) (b room count : ℕ) : Type 0 where
   pub may : MayList n t b room
   pub all : count ≡ total (fileAt n t b)
 
+-- what the judge of an open list of the file at block b into room places tells
 abbrev pub ListPlanned : (n : ℕ) (t : Bytes) (b room : ℕ) → ListPlan → Type 0
 ListPlanned n t b room (list-plan.Refused a) = Given (listTests n t b room) a
 ListPlanned n t b room (list-plan.Listing count) = ListAt n t b room count
 
--- a read or write of many bytes from byte pos on, with blocks of l bytes
+-- what the judge of a read or write of many bytes from byte pos on tells, with blocks of l bytes
 abbrev pub CarryPlanned : (n : ℕ) (t : Bytes) (l b pos many : ℕ) → CarryPlan → Type 0
 CarryPlanned n t l b pos many (carry-plan.Refused a) = Given (carryTests n t l b pos many) a
 CarryPlanned n t l b pos many carry-plan.Within = MayCarry n t l b pos many

@@ -15,7 +15,8 @@ use Rattle.fat_table.specs.Sound.{File}
 use Rattle.fat_table.specs.Chain.{total, sizeAt, headAt, chainAt}
 use Rattle.fat_table.specs.Steps.{first}
 use Rattle.fat_table.proofs.Laying.{first-inside}
-use Rattle.fat_inner.specs.Inner.{Volume, Standing, StandingAt, Chain, ChainFrom, Inside, LastIs, none, node, Beyond, SeekSays, LastAt}
+use Rattle.fat_inner.specs.Volume.{Volume}
+use Rattle.fat_inner.specs.inner.Chains.{Standing, StandingAt, Chain, ChainFrom, Inside, LastIs, none, node, Beyond, SeekSays, LastAt}
 use Rattle.fat_inner.specs.declared.walk.Sought.{Sought}
 use Rattle.fat_inner.specs.declared.walk.Sought.the-variants.{Within, Past}
 use Rattle.fat_table.proofs.Unchanged.{total-append}
