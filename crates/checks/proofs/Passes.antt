@@ -65,6 +65,7 @@ module _ (n : ℕ) (some : 1 ≤ n) (t : Bytes) (w : Whole n t) (work : List ℕ
 
     pub passes : (own : ℕ → List (Row A)) (done : ℕ → A) (o : Beside A) → Promise refuse t d l work (own (blocks t)) (done (blocks t)) o
         → First (own n) (done n) (o .given)
+    unfolding Promise
     passes own done o p =
         subst (λ (i : ℕ). First (own i) (done i) (o .given)) blocks-of
         (own-rows (blockGate (λ a w. beside (refuse a) w) t d l work) (cleared (blocks t) work) (own (blocks t)) (done (blocks t)) o call-passes p)
@@ -72,6 +73,7 @@ module _ (n : ℕ) (some : 1 ≤ n) (t : Bytes) (w : Whole n t) (work : List ℕ
 -- beside the list: on a table of more than a million blocks every call on files, its data being as long, is refused with InvalidValue and leaves all as it was
 pub call-many : {A : Type 0} (refuse : Answer → A) (t : Bytes) (d l : ℕ) (work : List ℕ) (own : List (Row A)) (done : A) → (Misfit t → ⊥) → d ≡ blocks t * l
     → 1000000 < blocks t → (o : Beside A) → Promise refuse t d l work own done o → o ≡ beside (refuse InvalidValue) work
+unfolding Promise
 call-many refuse t d l work own done fit even many o p =
     refused (blockGate (λ a w. beside (refuse a) w) t d l work ++ within (cleared (blocks t) work) own) (beside done (cleared (blocks t) work)) o
     (beside (refuse InvalidValue) work) (inr ((λ m. ⊎-elim fit (λ h. h even) m), inl (inl (inr many), refl))) p

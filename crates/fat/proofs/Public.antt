@@ -1,5 +1,5 @@
--- A public call is the gate, then the call that requires soundness.
-use mathlib.Core.Path.{_≡_, subst, subst⁻¹}
+-- A public call is the gate, then the call that requires soundness. Each end of it, as `search` finds it from what the two ensure.
+use mathlib.Core.Path.{_≡_, sym, subst, subst⁻¹}
 use mathlib.Core.List.{List}
 use mathlib.Core.Logic.{_⊎_, inl, inr, ⊎-elim}
 use Prim.Native.Nat.{ℕ, _+_, _*_, _≤_, _<_}
@@ -17,54 +17,103 @@ use Rattle.fat_node.proofs.Sizes.{fit, inside}
 use Rattle.fat_node.proofs.Nodes.{le-or-lt}
 use Rattle.links.proofs.Held.{same-or}
 use Rattle.fat_test.specs.Gate.{blockGate, unsound}
-use Rattle.fat_test.specs.Promise.{Opened, GateOf}
+use Rattle.fat_test.specs.inner.Gated.{Opened, GateOf}
 use Rattle.fat_test.specs.declared.Gated.{Gated}
 use Rattle.fat_test.specs.declared.Gated.the-variants.{Open, Refused}
 use Rattle.fat_promises.specs.Promise.{beside, Promise}
-use Rattle.fat_inner.specs.Inner.{Volume}
-use Rattle.fat_inner.specs.Stretches.{Data}
-
-module _ {A : Type 0} (refuse : Answer → A) (t : Bytes) (d l : ℕ) (work : List ℕ) (own : List (Row A)) (done : A) where
-  -- the gate refuses
-  pub shut : (a : Answer) (work′ : List ℕ) → Given (blockGate refusal t d l work) (refusal a work′) → Promise refuse t d l work own done (beside (refuse a) work′)
-  shut a work′ g =
-      rows.refused (blockGate (λ a w. beside (refuse a) w) t d l work) (cleared (blocks t) work) own done (beside (refuse a) work′)
-      (gate-given (λ a w. beside (refuse a) w) (blocks t) work (Misfit t ⊎ (d ≡ blocks t * l → ⊥)) (Outside t ⊎ (l < 1) ⊎ (65536 < l)) (length work < blocks t) (unsound t) a work′ g)
-
-  -- the gate is open, and the call that requires soundness gives o
-  pub passed : (work′ : List ℕ) (free files : ℕ) (o : A) → Opened t d l work work′ free files → First own done o → Promise refuse t d l work own done (beside o work′)
-  passed work′ free files o g p =
-      subst⁻¹ (λ (w : List ℕ). Promise refuse t d l work own done (beside o w)) (g .clear)
-      (rows.passed (blockGate (λ a w. beside (refuse a) w) t d l work) (cleared (blocks t) work) own done o (g .none) p)
+use Rattle.fat_promises.specs.Calls.{
+  Create,
+  createGives,
+  createRows,
+  createDone,
+  CreatePromise,
+  Change,
+  changeGives,
+  resizeRows,
+  resizeDone,
+  ResizePromise,
+  deleteRows,
+  deleteDone,
+  DeletePromise,
+  Listing,
+  listGives,
+  listRows,
+  listDone,
+  ListPromise,
+  Carry,
+  carryGives,
+  carryRows,
+  readDone,
+  ReadPromise,
+  writeDone,
+  WritePromise,
+}
+use Rattle.fat_inner.specs.Volume.{Volume, Data}
 
 -- what an open gate says of the sizes
 module _ (t : Bytes) (d l : ℕ) (work work′ : List ℕ) (free files : ℕ) (g : Opened t d l work work′ free files) where
-  fits : length t ≡ 8 * (blocks t + 1)
-  fits = fit t (λ m. g .none .0 (inl m))
+  open-volume : Volume (blocks t) t
+  open-volume = record { few = inside t (λ o. g .none .1 .0 (inl o)) .1; room = fit t (λ m. g .none .0 (inl m)); sound = g .sound }
 
-  pub open-eight : 8 ≤ length t
-  open-eight = omega (arith, fits)
+  open-data : Data (blocks t) d l
+  open-data = record {
+    some = ⊎-elim (λ h. h) (λ h. absurd (g .none .1 .0 (inr (inl (omega (arith, h)))))) (le-or-lt 1 l);
+    few = ⊎-elim (λ h. h) (λ h. absurd (g .none .1 .0 (inr (inr h)))) (le-or-lt l 65536);
+    fits = ⊎-elim (λ e. e) (λ f. absurd (g .none .0 (inr f))) (same-or d (blocks t * l));
+  }
 
-  pub open-volume : Volume (blocks t) t
-  open-volume = record { few = inside t (λ o. g .none .1 .0 (inl o)) .1; room = fits; sound = g .sound }
+module _ (t : Bytes) (d l : ℕ) (work work′ : List ℕ) (r : Gated) (g : GateOf t d l work work′ r) where
+  -- the gate is open, and so the table may be worked on, of n blocks
+  pub call-ready : (free files n : ℕ) → r ≡ Open free files → n ≡ blocks t → Volume n t
+  call-ready free files n e q = subst⁻¹ (λ (m : ℕ). Volume m t) q (open-volume t d l work work′ free files (subst (GateOf t d l work work′) e g))
 
-  -- data and block length, for read and write
-  pub open-data : d ≡ blocks t * l
-  open-data = ⊎-elim (λ e. e) (λ f. absurd (g .none .0 (inr f))) (same-or d (blocks t * l))
+  -- and the data
+  pub call-data : (free files n : ℕ) → r ≡ Open free files → n ≡ blocks t → Data n d l
+  call-data free files n e q = subst⁻¹ (λ (m : ℕ). Data m d l) q (open-data t d l work work′ free files (subst (GateOf t d l work work′) e g))
 
-  pub open-block : (1 ≤ l) × (l ≤ 65536)
-  open-block = (
-    ⊎-elim (λ h. h) (λ h. absurd (g .none .1 .0 (inr (inl (omega (arith, h)))))) (le-or-lt 1 l),
-    ⊎-elim (λ h. h) (λ h. absurd (g .none .1 .0 (inr (inr h)))) (le-or-lt l 65536),
-  )
+  -- it refuses with a
+  pub call-refused : {A : Type 0} (refuse : Answer → A) (own : List (Row A)) (done : A) (a : Answer) (o : A) → r ≡ Refused a → o ≡ refuse a
+      → Promise refuse t d l work own done (beside o work′)
+  unfolding Promise
+  call-refused refuse own done a o e q =
+      subst⁻¹ (λ x. Promise refuse t d l work own done (beside x work′)) q
+      (rows.refused (blockGate (λ a w. beside (refuse a) w) t d l work) (cleared (blocks t) work) own done (beside (refuse a) work′)
+      (gate-given (λ a w. beside (refuse a) w) (blocks t) work (Misfit t ⊎ (d ≡ blocks t * l → ⊥)) (Outside t ⊎ (l < 1) ⊎ (65536 < l)) (length work < blocks t) (unsound t) a work′
+      (subst (GateOf t d l work work′) e g)))
 
-  pub open-blocks : Data (blocks t) d l
-  open-blocks = record { some = open-block .0; few = open-block .1; fits = open-data }
+  -- it is open, and the call that requires soundness, of n blocks, gives o by its own rows
+  passed : {A : Type 0} (refuse : Answer → A) (own : ℕ → List (Row A)) (done : ℕ → A) (free files n : ℕ) (o : A) → r ≡ Open free files → n ≡ blocks t
+      → First (own n) (done n) o
+      → Promise refuse t d l work (own (blocks t)) (done (blocks t)) (beside o work′)
+  unfolding Promise
+  passed refuse own done free files n o e q p =
+      let v : Opened t d l work work′ free files = subst (GateOf t d l work work′) e g in
+      let front = blockGate (λ a w. beside (refuse a) w) t d l work in
+      subst⁻¹ (λ (w : List ℕ). Promise refuse t d l work (own (blocks t)) (done (blocks t)) (beside o w)) (v .clear)
+      (rows.passed front (cleared (blocks t) work) (own (blocks t)) (done (blocks t)) o (v .none) (subst (λ (m : ℕ). First (own m) (done m) o) q p))
 
--- the gate's answer, taken apart
-pub says-open : (t : Bytes) (d l : ℕ) (work work′ : List ℕ) (r : Gated) (free files : ℕ) → GateOf t d l work work′ r → r ≡ Open free files → Opened t d l work work′ free files
-says-open t d l work work′ r free files w e = subst (GateOf t d l work work′) e w
+  -- the same of each call
+  pub create-passed : (free files n count : ℕ) (o : Create) → r ≡ Open free files → n ≡ blocks t → First (createRows n t count) (createDone n t count) o
+      → CreatePromise t d l work count (beside o work′)
+  create-passed free files n count o e q p = passed (λ a. createGives a 0 t) (λ m. createRows m t count) (λ m. createDone m t count) free files n o e q p
 
-pub says-refused : (t : Bytes) (d l : ℕ) (work work′ : List ℕ) (r : Gated) (a : Answer) → GateOf t d l work work′ r → r ≡ Refused a
-    → Given (blockGate refusal t d l work) (refusal a work′)
-says-refused t d l work work′ r a w e = subst (GateOf t d l work work′) e w
+  pub resize-passed : (free files n b count : ℕ) (o : Change) → r ≡ Open free files → n ≡ blocks t → First (resizeRows n t b count) (resizeDone n t b count) o
+      → ResizePromise t d l work b count (beside o work′)
+  resize-passed free files n b count o e q p = passed (λ a. changeGives a t) (λ m. resizeRows m t b count) (λ m. resizeDone m t b count) free files n o e q p
+
+  pub delete-passed : (free files n b : ℕ) (o : Change) → r ≡ Open free files → n ≡ blocks t → First (deleteRows n t b) (deleteDone n t b) o
+      → DeletePromise t d l work b (beside o work′)
+  delete-passed free files n b o e q p = passed (λ a. changeGives a t) (λ m. deleteRows m t b) (λ m. deleteDone m t b) free files n o e q p
+
+  pub list-passed : (free files n b : ℕ) (list : List ℕ) (o : Listing) → r ≡ Open free files → n ≡ blocks t → First (listRows n t b list) (listDone n t b list) o
+      → ListPromise t d l work b list (beside o work′)
+  list-passed free files n b list o e q p = passed (λ a. listGives a 0 list) (λ m. listRows m t b list) (λ m. listDone m t b list) free files n o e q p
+
+module _ (t d : Bytes) (l : ℕ) (work work′ : List ℕ) (r : Gated) (g : GateOf t (length d) l work work′ r) (free files n b pos : ℕ) (buf : Bytes) (o : Carry) (e : r ≡ Open free files) (q : n ≡ blocks t) where
+  pub read-passed : First (carryRows n t l b pos (length buf) buf) (readDone n t d l b pos buf) o → ReadPromise t d l work b pos buf (beside o work′)
+  read-passed p =
+      passed t (length d) l work work′ r g (λ a. carryGives a buf) (λ m. carryRows m t l b pos (length buf) buf) (λ m. readDone m t d l b pos buf) free files n o e q p
+
+  pub write-passed : First (carryRows n t l b pos (length buf) d) (writeDone n t d l b pos buf) o → WritePromise t d l work b pos buf (beside o work′)
+  write-passed p =
+      passed t (length d) l work work′ r g (λ a. carryGives a d) (λ m. carryRows m t l b pos (length buf) d) (λ m. writeDone m t d l b pos buf) free files n o e q p

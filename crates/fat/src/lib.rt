@@ -3,7 +3,6 @@ ghost use lib.ListN.{length};
 ghost use Rattle.fat_promises.specs.Promise.{beside};
 ghost use Rattle.fat_promises.specs.Calls.{CreatePromise, DeletePromise, createGives, changeGives, ResizePromise, listGives, ListPromise};
 ghost use Rattle.fat_promises.specs.Calls.{carryGives, ReadPromise, WritePromise};
-ghost use Rattle.fat_promises.specs.Promise.{beside};
 use fat_inner::copy::read_sound;
 use fat_inner::copy::write_sound;
 use fat_inner::list::Listed;
@@ -30,7 +29,7 @@ pub fn delete(
     match gated {
         Gated::Refused { answer } => Answered { answer },
         Gated::Open { free: _, files: _ } => {
-            let n = table.len() / 8 - 1;
+            let n = fat_node::blocks(table);
             delete_sound(table, n, first_block)
         }
     }
@@ -51,7 +50,7 @@ pub fn create(
     match gated {
         Gated::Refused { answer } => Created { answer, first: 0 },
         Gated::Open { free: _, files: _ } => {
-            let n = table.len() / 8 - 1;
+            let n = fat_node::blocks(table);
             create_sound(table, n, block_count)
         }
     }
@@ -73,7 +72,7 @@ pub fn resize(
     match gated {
         Gated::Refused { answer } => Answered { answer },
         Gated::Open { free: _, files: _ } => {
-            let n = table.len() / 8 - 1;
+            let n = fat_node::blocks(table);
             resize_sound(table, n, first_block, block_count)
         }
     }
@@ -95,7 +94,7 @@ pub fn open_list(
     match gated {
         Gated::Refused { answer } => Listed { answer, count: 0 },
         Gated::Open { free: _, files: _ } => {
-            let n = table.len() / 8 - 1;
+            let n = fat_node::blocks(table);
             open_list_sound(table, n, first_block, list)
         }
     }
@@ -118,7 +117,7 @@ pub fn read(
     match gated {
         Gated::Refused { answer } => Answered { answer },
         Gated::Open { free: _, files: _ } => {
-            let n = table.len() / 8 - 1;
+            let n = fat_node::blocks(table);
             read_sound(table, data, block_len, n, first_block, pos, buf)
         }
     }
@@ -141,7 +140,7 @@ pub fn write(
     match gated {
         Gated::Refused { answer } => Answered { answer },
         Gated::Open { free: _, files: _ } => {
-            let n = table.len() / 8 - 1;
+            let n = fat_node::blocks(table);
             write_sound(table, data, block_len, n, first_block, pos, buf)
         }
     }

@@ -10,7 +10,7 @@ use lib.Seq.{getD-set-same}
 use Rattle.fat_node.specs.Node.{NodeAt}
 use Rattle.fat_table.specs.Sound.{Starts, IsNode, Covered}
 use Rattle.fat_table.specs.Sound.Starts.{begin, after}
-use Rattle.fat_ends.specs.Marks.{total, Tiled}
+use Rattle.fat_ends.specs.inner.Marks.{sum, SizesAt}
 
 -- ---- tests
 pub none-or-some : (x : ℕ) → (x ≡ 0) ⊎ (0 < x)
@@ -31,14 +31,14 @@ set-cases (x ∷ l) (suc i) v zero = inr refl
 set-cases (x ∷ l) (suc i) v (suc j) = ⊎-elim (λ e. inl (ap suc e)) (λ g. inr g) (set-cases l i v j)
 
 -- ---- totals
-pub total-in : (l : List ℕ) (i v : ℕ) → i < length l → getD l i 0 ≡ 0 → total (set l i v) ≡ total l + v
-unfolding total
+pub total-in : (l : List ℕ) (i v : ℕ) → i < length l → getD l i 0 ≡ 0 → sum (set l i v) ≡ sum l + v
+unfolding sum
 total-in [] i v h e = omega arith
 total-in (x ∷ l) zero v h e = omega arith
 total-in (x ∷ l) (suc i) v h e = omega (arith, total-in l i v (omega arith) e)
 
-pub total-zeros : (n : ℕ) → total (replicate n 0) ≡ 0
-unfolding total
+pub total-zeros : (n : ℕ) → sum (replicate n 0) ≡ 0
+unfolding sum
 total-zeros zero = refl
 total-zeros (suc n) = omega (arith, total-zeros n)
 
@@ -65,7 +65,7 @@ pub record Tiling (t : List ℕ) (n : ℕ) (w : List ℕ) (b : ℕ) : Type 0 whe
   pub node : (i : ℕ) → 0 < getD w i 0 → (i < b) × IsNode t n i × NodeAt t n i (getD w i 0)
   pub begun : (b ≡ 0) ⊎ (0 < getD w 0 0)
   pub next : (i : ℕ) → 0 < getD w i 0 → (i + getD w i 0 ≡ b) ⊎ (0 < getD w (i + getD w i 0) 0)
-  pub sum : total w ≡ b
+  pub sum : sum w ≡ b
 
 pub tiling-none : (t : List ℕ) (n : ℕ) (w : List ℕ) → length w ≡ n → w ≡ replicate n 0 → Tiling t n w 0
 tiling-none t n w l e =
@@ -77,7 +77,7 @@ tiling-none t n w l e =
       node = λ i h. absurd (omega (arith, z i));
       begun = inl refl;
       next = λ i h. absurd (omega (arith, z i));
-      sum = ap total e ∙ total-zeros n;
+      sum = ap sum e ∙ total-zeros n;
     }
 
 module _ (t : List ℕ) (n : ℕ) (w : List ℕ) (b s : ℕ) (k : Tiling t n w b) (h : b < n) (nd : NodeAt t n b s) where
@@ -142,10 +142,10 @@ module _ (t : List ℕ) (n : ℕ) (w : List ℕ) (k : Tiling t n w n) (some : 0 
       (λ g. subst (λ (x : ℕ). 0 < getD w x 0) (sym (omega arith)) g)
       (k .next c m)
 
-  pub tiled : Tiled t n w
+  pub tiled : SizesAt t n w
   tiled = record { node = λ b m. (k .node b m .1, k .node b m .2); mark = λ b i. all-marked b (i .0) (i .1); whole = k .sum }
 
 -- ---- after the tiling
-module _ (t : List ℕ) (n : ℕ) (w : List ℕ) (k : Tiled t n w) where
+module _ (t : List ℕ) (n : ℕ) (w : List ℕ) (k : SizesAt t n w) where
   pub covered : Covered t n
   covered b i = (getD w b 0, k .node b (k .mark b i) .1)

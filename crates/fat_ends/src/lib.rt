@@ -9,8 +9,8 @@ ghost use mathlib.Core.Logic.{_⊎_};
 ghost use Rattle.fat_node.specs.Entry.{vAt};
 ghost use Rattle.fat_node.specs.Node.{prevAt, nextAt, NodeAt};
 ghost use Rattle.fat_table.specs.Sound.{Covered, IsNode, Along, Sound};
-ghost use Rattle.fat_ends.specs.Marks.{HeadFits};
-ghost use Rattle.fat_ends.specs.Ends.{span, Packed, State, Backs, TiedEnds, TiledAs, Linked, Joinable, Joined};
+ghost use Rattle.fat_ends.specs.inner.Marks.{HeadFits};
+ghost use Rattle.fat_ends.specs.inner.Ends.{span, Packed, State, Backs, TiedEnds, TiledAs, Linked, Joinable, Joined, JoinSays, LinkSays};
 ghost use Rattle.fat_ends.specs.Promise.{Judged};
 
 // A sound table, with its free blocks and the number of its other chains; or one that is not sound.
@@ -189,7 +189,7 @@ fn join(table: &[u8], work: &mut [u32], b: usize, x: usize) -> bool
     requires { ⌜ (b < length (now work)) × (length (now work) ≤ 1000000) ⌝ }
     requires { ⌜ IsNode (now table) (length (now work)) b × (nextAt (now table) b ≡ x) × (0 < x) ⌝ }
     requires { ⌜ ((k : ℕ) × State (now table) (length (now work)) b (now work) k) ⌝ }
-    ensures { λ r. ⌜ (r ≡ true → Joined (now (table .entry)) (length (now (work .entry))) b (now (work .entry)) (now (work .exit))) × (Sound (now (table .entry)) (length (now (work .entry))) → r ≡ true) ⌝ }
+    ensures { λ r. ⌜ JoinSays (now (table .entry)) (length (now (work .entry))) b (now (work .entry)) (now (work .exit)) r ⌝ }
 {
     if x > work.len() {
         return false;
@@ -217,7 +217,7 @@ fn link(table: &[u8], work: &mut [u32], b: usize) -> u32
     requires { ⌜ (b < length (now work)) × (length (now work) ≤ 1000000) ⌝ }
     requires { ⌜ IsNode (now table) (length (now work)) b ⌝ }
     requires { ⌜ ((k : ℕ) × State (now table) (length (now work)) b (now work) k) ⌝ }
-    ensures { λ r. ⌜ (r ≤ 2) × (r < 2 → (k : ℕ) → State (now (table .entry)) (length (now (work .entry))) b (now (work .entry)) k → State (now (table .entry)) (length (now (work .entry))) (b + 1) (now (work .exit)) (k + r)) × (r ≡ 2 → Sound (now (table .entry)) (length (now (work .entry))) → ⊥) ⌝ }
+    ensures { λ r. ⌜ LinkSays (now (table .entry)) (length (now (work .entry))) b (now (work .entry)) (now (work .exit)) r ⌝ }
 {
     let x = fat_node::next_of(table, b);
     if x == 0 {

@@ -33,7 +33,7 @@ use Rattle.fat_promises.specs.Blocks.{blocksOf, placeOf, written}
 use Rattle.fat_promises.specs.Calls.{Create, Change, Carry}
 use Rattle.fat_inner.proofs.Lists.{length-blocks}
 use Rattle.fat_history.specs.Away.{Away, none, creates, resizes, deletes, writes}
-use Rattle.fat_history.proofs.Means.{MayCarry, create-keeps, resize-keeps, delete-keeps, write-keeps}
+use Rattle.fat_history.proofs.Means.{create-keeps, resize-keeps, delete-keeps, write-keeps}
 use Rattle.fat_history.proofs.Honest.{blocks-of}
 use Rattle.fat_history.proofs.Lies.{seen-two, two-apart}
 use Rattle.fat_history.proofs.Places.{occurs, occurs-blocks, places-apart, length-written, written-other}
@@ -158,11 +158,11 @@ still n l b t d w j (creates t₁ d₁ a work count o p) =
     ⊎-elim
     (λ q. as-is n l b t d t₁ (o .given .table) d₁ d₁ q refl s)
     (λ q.
-    let k : count ≤ total (freeAt n t₁) = subst (λ (m : ℕ). count ≤ total (freeAt m t₁)) e (q .0 .enough) in
-    let r : o .given .table ≡ created n t₁ count = ap (λ (x : Beside Create). x .given .table) (q .1) ∙ ap (λ (m : ℕ). created m t₁ count) e in
+    let k : count ≤ total (freeAt n t₁) = subst (λ (m : ℕ). count ≤ total (freeAt m t₁)) e (q .may .enough) in
+    let r : o .given .table ≡ created n t₁ count = ap (λ (x : Beside Create). x .given .table) (q .is) ∙ ap (λ (m : ℕ). created m t₁ count) e in
     as-is n l b t d (created n t₁ count) (o .given .table) d₁ d₁ r refl
-    (step-table n l b t d t₁ (created n t₁ count) d₁ s (whole-created n t₁ (s .whole) count (q .0 .some) k)
-    (create-leaves n t₁ (s .whole) b (s .file) count (q .0 .some) k)))
+    (step-table n l b t d t₁ (created n t₁ count) d₁ s (whole-created n t₁ (s .whole) count (q .may .some) k)
+    (create-leaves n t₁ (s .whole) b (s .file) count (q .may .some) k)))
     (create-keeps t₁ (length d₁) l work count o (s .whole .bytes) p)
 still n l b t d w j (resizes t₁ d₁ a work c count o ne p) =
     let s = still n l b t d w j a in
@@ -170,13 +170,13 @@ still n l b t d w j (resizes t₁ d₁ a work c count o ne p) =
     ⊎-elim
     (λ q. as-is n l b t d t₁ (o .given .table) d₁ d₁ q refl s)
     (λ q.
-    let i : File t₁ n c = subst (λ (m : ℕ). File t₁ m c) e (q .0 .file) in
+    let i : File t₁ n c = subst (λ (m : ℕ). File t₁ m c) e (q .may .file) in
     let k : count ≤ total (fileAt n t₁ c) + total (freeAt n t₁) =
-    subst (λ (m : ℕ). count ≤ total (fileAt m t₁ c) + total (freeAt m t₁)) e (q .0 .enough) in
-    let r : o .given .table ≡ resized n t₁ c count = ap (λ (x : Beside Change). x .given .table) (q .1) ∙ ap (λ (m : ℕ). resized m t₁ c count) e in
+    subst (λ (m : ℕ). count ≤ total (fileAt m t₁ c) + total (freeAt m t₁)) e (q .may .enough) in
+    let r : o .given .table ≡ resized n t₁ c count = ap (λ (x : Beside Change). x .given .table) (q .is) ∙ ap (λ (m : ℕ). resized m t₁ c count) e in
     as-is n l b t d (resized n t₁ c count) (o .given .table) d₁ d₁ r refl
-    (step-table n l b t d t₁ (resized n t₁ c count) d₁ s (whole-resized n t₁ (s .whole) c count i (q .0 .some) k)
-    (resize-leaves n t₁ (s .whole) b (s .file) c i ne count (q .0 .some) k)))
+    (step-table n l b t d t₁ (resized n t₁ c count) d₁ s (whole-resized n t₁ (s .whole) c count i (q .may .some) k)
+    (resize-leaves n t₁ (s .whole) b (s .file) c i ne count (q .may .some) k)))
     (resize-keeps t₁ (length d₁) l work c count o (s .whole .bytes) p)
 still n l b t d w j (deletes t₁ d₁ a work c o ne p) =
     let s = still n l b t d w j a in
@@ -184,8 +184,8 @@ still n l b t d w j (deletes t₁ d₁ a work c o ne p) =
     ⊎-elim
     (λ q. as-is n l b t d t₁ (o .given .table) d₁ d₁ q refl s)
     (λ q.
-    let i : File t₁ n c = subst (λ (m : ℕ). File t₁ m c) e (q .0 .file) in
-    let r : o .given .table ≡ deleted n t₁ c = ap (λ (x : Beside Change). x .given .table) (q .1) ∙ ap (λ (m : ℕ). deleted m t₁ c) e in
+    let i : File t₁ n c = subst (λ (m : ℕ). File t₁ m c) e (q .may .file) in
+    let r : o .given .table ≡ deleted n t₁ c = ap (λ (x : Beside Change). x .given .table) (q .is) ∙ ap (λ (m : ℕ). deleted m t₁ c) e in
     as-is n l b t d (deleted n t₁ c) (o .given .table) d₁ d₁ r refl
     (step-table n l b t d t₁ (deleted n t₁ c) d₁ s (whole-deleted n t₁ (s .whole) c i) (delete-leaves n t₁ (s .whole) b (s .file) c i ne)))
     (delete-keeps t₁ (length d₁) l work c o (s .whole .bytes) p)
@@ -195,12 +195,11 @@ still n l b t d w j (writes t₁ d₁ a work c pos buf o ne p) =
     ⊎-elim
     (λ q. as-is n l b t d t₁ t₁ d₁ (o .given .bytes) refl q s)
     (λ q.
-    let m : MayCarry t₁ d₁ l work c pos (length buf) = q .0 in
-    let i : File t₁ n c = subst (λ (x : ℕ). File t₁ x c) e (m .file) in
-    let k : pos + length buf ≤ total (fileAt n t₁ c) * l = subst (λ (x : ℕ). pos + length buf ≤ total (fileAt x t₁ c) * l) e (m .enough) in
+    let i : File t₁ n c = subst (λ (x : ℕ). File t₁ x c) e (q .may .file) in
+    let k : pos + length buf ≤ total (fileAt n t₁ c) * l = subst (λ (x : ℕ). pos + length buf ≤ total (fileAt x t₁ c) * l) e (q .may .enough) in
     let C : List ℕ = blocksOf (fileAt n t₁ c) in
     let d₂ : Bytes = written buf d₁ l C pos in
-    let r : o .given .bytes ≡ d₂ = ap (λ (x : Beside Carry). x .given .bytes) (q .1) ∙ ap (λ (x : ℕ). written buf d₁ l (blocksOf (fileAt x t₁ c)) pos) e in
+    let r : o .given .bytes ≡ d₂ = ap (λ (x : Beside Carry). x .given .bytes) (q .is) ∙ ap (λ (x : ℕ). written buf d₁ l (blocksOf (fileAt x t₁ c)) pos) e in
     as-is n l b t d t₁ t₁ d₂ (o .given .bytes) refl r
     (record {
       whole = s .whole;
@@ -209,7 +208,7 @@ still n l b t d w j (writes t₁ d₁ a work c pos buf o ne p) =
       same = s .same;
       bytes = λ x h.
           subst (λ (f : List Run). x < total f * l → getD d₂ (placeOf (blocksOf f) l x) 0 ≡ getD d₁ (placeOf (blocksOf f) l x) 0) (s .same)
-          (λ y. write-leaves n t₁ (s .whole) d₁ buf l c b pos (omega (arith, m .passed .length-fits .0)) i (s .file) ne k x y)
+          (λ y. write-leaves n t₁ (s .whole) d₁ buf l c b pos (omega (arith, q .passed .length-fits .0)) i (s .file) ne k x y)
           h
           ∙ s .bytes x h;
     }))

@@ -39,13 +39,11 @@ use Rattle.fat_table.proofs.Files.{
 use Rattle.fat_table.proofs.Agreeing.{holds-agree, agree-holds}
 use Rattle.fat_promises.specs.Promise.{Beside}
 use Rattle.fat_promises.specs.Calls.{Create, Change}
-use Rattle.fat_history.specs.Run as runs
+use Rattle.fat_history.specs.History as histories
 use Rattle.words.specs.Word.{AreBytes}
-use Rattle.fat_history.specs.Run.{formats, creates, resizes, deletes, resizesIn}
+use Rattle.fat_history.specs.History.{formats, creates, resizes, deletes, resizesIn}
+use Rattle.fat_history.proofs.Passes.{are-bytes, Fits, Passed}
 use Rattle.fat_history.proofs.Means.{
-  are-bytes,
-  Fits,
-  Passed,
   format-means,
   format-done,
   create-means,
@@ -69,7 +67,7 @@ as-blocks n t w = subst⁻¹ (λ (m : ℕ). Whole m t) (blocks-of n t (w .room))
 
 -- the tables of a run are whole -----------------------------------------------------------------------------------
 
-pub run-whole : {k : ℕ} {t : Bytes} → runs.Run k t → Whole (blocks t) t × (1 ≤ blocks t)
+pub run-whole : {k : ℕ} {t : Bytes} → histories.History k t → Whole (blocks t) t × (1 ≤ blocks t)
 run-whole (formats t t′ r g p e) =
     let w = format-means t t′ r p e in
     let f : Fits t = w .0 in
@@ -80,26 +78,26 @@ run-whole (creates k t v d l work count o p e) =
     let i = run-whole v in
     let w = create-means t d l work count o (i .0 .bytes) p e in
     let n : ℕ = blocks t in
-    let h : Whole n (created n t count) = whole-created n t (i .0) count (w .0 .some) (w .0 .enough) in
-    subst⁻¹ (λ (x : Bytes). Whole (blocks x) x × (1 ≤ blocks x)) (ap (λ (x : Beside Create). x .given .table) (w .1))
+    let h : Whole n (created n t count) = whole-created n t (i .0) count (w .may .some) (w .may .enough) in
+    subst⁻¹ (λ (x : Bytes). Whole (blocks x) x × (1 ≤ blocks x)) (ap (λ (x : Beside Create). x .given .table) (w .is))
     (as-blocks n (created n t count) h, omega (arith, i .1, blocks-of n (created n t count) (h .room)))
 run-whole (resizes k t v d l work b count o p e) =
     let i = run-whole v in
     let w = resize-means t d l work b count o (i .0 .bytes) p e in
     let n : ℕ = blocks t in
-    let h : Whole n (resized n t b count) = whole-resized n t (i .0) b count (w .0 .file) (w .0 .some) (w .0 .enough) in
-    subst⁻¹ (λ (x : Bytes). Whole (blocks x) x × (1 ≤ blocks x)) (ap (λ (x : Beside Change). x .given .table) (w .1))
+    let h : Whole n (resized n t b count) = whole-resized n t (i .0) b count (w .may .file) (w .may .some) (w .may .enough) in
+    subst⁻¹ (λ (x : Bytes). Whole (blocks x) x × (1 ≤ blocks x)) (ap (λ (x : Beside Change). x .given .table) (w .is))
     (as-blocks n (resized n t b count) h, omega (arith, i .1, blocks-of n (resized n t b count) (h .room)))
 run-whole (deletes k t v d l work b o p e) =
     let i = run-whole v in
     let w = delete-means t d l work b o (i .0 .bytes) p e in
     let n : ℕ = blocks t in
-    let h : Whole n (deleted n t b) = whole-deleted n t (i .0) b (w .0 .file) in
-    subst⁻¹ (λ (x : Bytes). Whole (blocks x) x × (1 ≤ blocks x)) (ap (λ (x : Beside Change). x .given .table) (w .1))
+    let h : Whole n (deleted n t b) = whole-deleted n t (i .0) b (w .may .file) in
+    subst⁻¹ (λ (x : Bytes). Whole (blocks x) x × (1 ≤ blocks x)) (ap (λ (x : Beside Change). x .given .table) (w .is))
     (as-blocks n (deleted n t b) h, omega (arith, i .1, blocks-of n (deleted n t b) (h .room)))
 
 -- a table that agrees with a run's end is sound
-pub run-sound : (t t′ : Bytes) (k : ℕ) → runs.Run k t′ → Agree (blocks t) t t′ → Sound t (blocks t)
+pub run-sound : (t t′ : Bytes) (k : ℕ) → histories.History k t′ → Agree (blocks t) t t′ → Sound t (blocks t)
 run-sound t t′ k r a =
     let w = run-whole r in
     let e : blocks t′ ≡ blocks t = ap (λ (x : ℕ). x / 8 - 1) (sym (a .room)) in
@@ -113,15 +111,15 @@ run-sound t t′ k r a =
 -- the end of a run of k calls, none of them resize, that holds a layout
 record Made (n k : ℕ) (L : Layout) : Type 0 where
   end : Bytes
-  run-to : runs.Run k end
+  run-to : histories.History k end
   plain : resizesIn run-to ≡ 0
   bytes : words.Bytes end
   blocks-are : blocks end ≡ n
   holds : Holds n end L
 
 module _ (n : ℕ) (some : 1 ≤ n) (small : n ≤ 1000000) where
-  -- a table that holds a layout may be worked on, with blocks of one byte
-  ready : (t : Bytes) (L : Layout) → words.Bytes t → blocks t ≡ n → Holds n t L → Passed t n 1 (replicate n 0)
+  -- a table that holds a layout may be worked on, with blocks of 512 bytes
+  ready : (t : Bytes) (L : Layout) → words.Bytes t → blocks t ≡ n → Holds n t L → Passed t (n * 512) 512 (replicate n 0)
   ready t L g e h =
       let w : Whole n t = record { small = small; bytes = g; room = h .room; sound = holds-sound n small t L h } in
       record {
@@ -137,7 +135,7 @@ module _ (n : ℕ) (some : 1 ≤ n) (small : n ≤ 1000000) where
   made-create {k} free files c h l m =
       let t : Bytes = m .end in
       let L : Layout = layout free files in
-      let o : Beside Create = createLast t n 1 (replicate n 0) c in
+      let o : Beside Create = createLast t (n * 512) 512 (replicate n 0) c in
       let e : blocks t ≡ n = m .blocks-are in
       let fr : total (freeAt (blocks t) t) ≡ total free = ap (λ (x : ℕ). total (freeAt x t)) e ∙ ap total (free-read n small t L (m .holds)) in
       let q : o .given .table ≡ created n t c = ap (λ (x : ℕ). created x t c) e in
@@ -145,8 +143,8 @@ module _ (n : ℕ) (some : 1 ≤ n) (small : n ≤ 1000000) where
       subst⁻¹ (λ (x : Bytes). Holds n x (layout (left free c) (taken free c ∷ files))) q (holds-create n small t free files (m .holds) c h l) in
       record {
         end = o .given .table;
-        run-to = creates k t (m .run-to) n 1 (replicate n 0) c o
-            (create-done t n 1 (replicate n 0) c (record { passed = ready t L (m .bytes) e (m .holds); some = h; enough = omega (arith, fr, l) })) refl;
+        run-to = creates k t (m .run-to) (n * 512) 512 (replicate n 0) c o
+            (create-done t (n * 512) 512 (replicate n 0) c (ready t L (m .bytes) e (m .holds)) (record { some = h; enough = omega (arith, fr, l) })) refl;
         plain = m .plain;
         bytes = bytes-created (blocks t) t 0 c (m .bytes);
         blocks-are = blocks-of n (o .given .table) (s .room);
@@ -159,7 +157,7 @@ module _ (n : ℕ) (some : 1 ≤ n) (small : n ≤ 1000000) where
       let L : Layout = layout free (f ∷ files) in
       let at = some-first f (omega (arith, m .holds .tiled .nonempty)) in
       let b : ℕ = at .0 in
-      let o : Beside Change = deleteLast t n 1 (replicate n 0) b in
+      let o : Beside Change = deleteLast t (n * 512) 512 (replicate n 0) b in
       let e : blocks t ≡ n = m .blocks-are in
       let i : File t (blocks t) b = subst⁻¹ (λ (x : ℕ). File t x b) e (is-file n small t free f files b (m .holds) (at .1)) in
       let q : o .given .table ≡ deleted n t b = ap (λ (x : ℕ). deleted x t b) e in
@@ -167,8 +165,8 @@ module _ (n : ℕ) (some : 1 ≤ n) (small : n ≤ 1000000) where
       subst⁻¹ (λ (x : Bytes). Holds n x (layout (f ++ free) files)) q (holds-delete n small t free f files (m .holds) b (at .1)) in
       record {
         end = o .given .table;
-        run-to = deletes k t (m .run-to) n 1 (replicate n 0) b o
-            (delete-done t n 1 (replicate n 0) b (record { passed = ready t L (m .bytes) e (m .holds); file = i })) refl;
+        run-to = deletes k t (m .run-to) (n * 512) 512 (replicate n 0) b o
+            (delete-done t (n * 512) 512 (replicate n 0) b (ready t L (m .bytes) e (m .holds)) (record { file = i })) refl;
         plain = m .plain;
         bytes = bytes-deleted (blocks t) t b 0 (m .bytes);
         blocks-are = blocks-of n (o .given .table) (s .room);
@@ -209,7 +207,7 @@ nodes-many n small t L s =
 pub record Reached (t : Bytes) : Type 0 where
   pub k : ℕ
   pub end : Bytes
-  pub run-to : runs.Run k end
+  pub run-to : histories.History k end
   pub few : k ≤ 3 * length (nodes (blocks t) t)
   pub plain : resizesIn run-to ≡ 0
   pub agrees : Agree (blocks t) t end

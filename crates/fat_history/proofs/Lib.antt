@@ -1,4 +1,5 @@
 pub mod Rows
+pub mod Passes
 pub mod Means
 pub mod Reaches
 pub mod Honest

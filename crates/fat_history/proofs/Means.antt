@@ -1,150 +1,161 @@
 -- What an outcome of each call says, and that a call which may be done is.
-use mathlib.Core.Path.{_≡_, refl, ap}
-use mathlib.Core.List.{List, _++_}
+use mathlib.Core.Path.{_≡_, refl, sym, ap, subst, _∙_}
+use mathlib.Core.List.{List, [], _∷_, _++_}
 use mathlib.Core.Logic.{_⊎_, inl, inr, ⊎-elim}
-use Prim.Native.Nat.{ℕ, _+_, _*_, _%_, _≤_, _<_}
+use mathlib.Core.Bool.{true}
+use Prim.Native.Nat.{ℕ, _+_, _*_, _≤_, _<_}
 use native.Mathlib.Omega.{arith}
 use lib.ListN.{length}
 use Rattle.words.proofs.Laws as words
 use Rattle.order.specs.First.{Row, First}
 use Rattle.order.specs.Given.{None}
+use Rattle.order.specs.Giving.{giving}
 use Rattle.order.specs.Gate.{cleared}
-use Rattle.order.specs.Answer.{numberOf}
-use Rattle.order.proofs.One.{one}
 use Rattle.order.specs.declared.Answer.{Answer}
-use Rattle.order.specs.declared.Answer.the-variants.{Done, SizeMismatch, InvalidValue, WorkTooShort, BrokenFat, NotAFile, NoSpace, OutOfBound}
+use Rattle.order.specs.declared.Answer.the-variants.{Done, SizeMismatch, InvalidValue, WorkTooShort}
+use Rattle.order.proofs.One.{one}
+use Rattle.order.proofs.Tests.{none-giving, giving-none}
 use Rattle.fat_node.specs.Entry.{Bytes}
 use Rattle.fat_node.specs.Sizes.{blocks, Misfit, Outside}
 use Rattle.fat_node.specs.Format.{formatted, formatRows, formatDone, FormatPromise}
 use Rattle.fat_node.specs.declared.Formatted.{Formatted}
-use Rattle.fat_node.proofs.Nodes.{le-or-lt}
-use Rattle.links.proofs.Held.{same-or}
-use Rattle.fat_table.specs.Sound.{Sound, File}
-use Rattle.fat_table.specs.Chain.{total, freeAt, fileAt}
-use Rattle.fat_table.proofs.Files.{Whole}
-use Rattle.fat_table.proofs.Decided.{sound-decided, file-decided}
-use Rattle.fat_test.specs.Gate.{testGate, blockGate}
+use Rattle.fat_table.specs.Sound.{Sound}
+use Rattle.fat_test.specs.Gate.{testGate, blockGate, unsound}
 use Rattle.fat_test.specs.Promise.{testRefused, testDone}
 use Rattle.fat_test.specs.declared.Tested.{Tested}
-use Rattle.fat_promises.specs.Promise.{Beside, beside, within}
+use Rattle.fat_promises.specs.Promise.{Beside, beside, within, Promise}
 use Rattle.fat_promises.specs.Calls.{
-  sizeOf,
   Create,
   createGives,
-  createRows,
+  createTests,
+  MayCreate,
   createDone,
   CreatePromise,
   Change,
   changeGives,
-  resizeRows,
+  resizeTests,
+  MayResize,
   resizeDone,
   ResizePromise,
-  deleteRows,
+  deleteTests,
+  MayDelete,
   deleteDone,
   DeletePromise,
   Carry,
   carryGives,
-  carryRows,
+  carryTests,
+  MayCarry,
   readDone,
   ReadPromise,
   writeDone,
   WritePromise,
 }
-use Rattle.words.specs.Word.{AreBytes}
-use Rattle.fat_history.proofs.Rows.{none-of, last-or, last-given}
+use Rattle.fat_promises.proofs.May.{may-create, none-create, may-resize, may-delete, none-delete, may-carry, none-carry}
+use Rattle.fat_promises.proofs.Unique.{one-read}
+use Rattle.fat_history.proofs.Rows.{
+  Each,
+  last-or,
+  last-given,
+  each-any,
+  each-append,
+  each-giving,
+  each-within,
+  each-gate,
+  none-append,
+  append-none,
+  none-within,
+  within-none,
+  not-done,
+  refuses,
+  each-refuses,
+}
+use Rattle.fat_history.proofs.Passes.{Fits, Passed, fits, fits-not-misfit, fits-not-outside, passed, none-passed, tested, none-tested}
 
-pub are-bytes : (t : Bytes) → AreBytes t → words.Bytes t
-are-bytes t g = record { byte = g }
+-- a call went by: its gate has passed, none of its tests applied, and its outcome is what Done gives
+pub record Went {A : Type 0} (t : Bytes) (d l : ℕ) (work : List ℕ) (May : Type 0) (done : A) (o : Beside A) : Type 0 where
+  pub passed : Passed t d l work
+  pub may : May
+  pub is : o ≡ beside done (cleared (blocks t) work)
 
--- a refusal is not Done
-pub not-done : (a : Answer) → 1 ≤ numberOf a → a ≡ Done → ⊥
-not-done a h e = omega (arith, h, ap numberOf e)
+-- any call on files, with its tests and what Done gives ------------------------------------------------------------
 
--- a number that is not otherwise is so
-pub not-not : (a b : ℕ) → ((a ≡ b → ⊥) → ⊥) → a ≡ b
-not-not a b h = ⊎-elim (λ e. e) (λ e. absurd (h e)) (same-or a b)
+module _ {A : Type 0} (g : Answer → A) (t : Bytes) (d l : ℕ) (work : List ℕ) (tests : List (Row Answer)) (done : A) (May : Type 0) where
+  abbrev front : List (Row (Beside A))
+  front = blockGate (λ a w. beside (g a) w) t d l work
 
-pub not-less : (a b : ℕ) → (a < b → ⊥) → b ≤ a
-not-less a b h = ⊎-elim (λ e. e) (λ e. absurd (h e)) (le-or-lt b a)
+  abbrev last : Beside A
+  last = beside done (cleared (blocks t) work)
 
--- the rows that all calls begin with -------------------------------------------------------------------------
+  abbrev Says : Beside A → Type 0
+  Says o = Promise g t d l work (giving g tests) done o
 
--- the sizes of a table fit
-pub record Fits (t : Bytes) : Type 0 where
-  pub room : length t ≡ 8 * (blocks t + 1)
-  pub some : 1 ≤ blocks t
-  pub few : blocks t ≤ 1000000
+  abbrev Goes : Type 0
+  Goes = (Passed t d l work → None tests → May)
 
-pub fits : (t : Bytes) → (Misfit t → ⊥) → (Outside t → ⊥) → Fits t
-fits t m o =
-    let a : 8 ≤ length t = not-less (length t) 8 (λ h. m (inl h)) in
-    let b : length t % 8 ≡ 0 = not-not (length t % 8) 0 (λ h. m (inr h)) in
-    record {
-      room = omega (arith, a, b);
-      some = not-less (blocks t) 1 (λ h. o (inl h));
-      few = not-less 1000000 (blocks t) (λ h. o (inr h));
-    }
+  all : List (Row (Beside A))
+  all = front ++ within (cleared (blocks t) work) (giving g tests)
 
--- and the reverse
-pub fits-not-misfit : (t : Bytes) → Fits t → Misfit t → ⊥
-fits-not-misfit t f m = ⊎-elim (λ h. omega (arith, h, f .room)) (λ h. h (omega (arith, f .room))) m
+  went : Goes → words.Bytes t → (o : Beside A) → None all × (o ≡ last) → Went t d l work May done o
+  unfolding all
+  went f bytes o (n, e) =
+      let w = none-append front (within (cleared (blocks t) work) (giving g tests)) n in
+      let p : Passed t d l work = passed (λ a w. beside (g a) w) t d l work bytes (w .0) in
+      record { passed = p; may = f p (giving-none g tests (none-within (cleared (blocks t) work) (giving g tests) (w .1))); is = e }
 
-pub fits-not-outside : (t : Bytes) → Fits t → Outside t → ⊥
-fits-not-outside t f o = ⊎-elim (λ h. omega (arith, h, f .some)) (λ h. omega (arith, h, f .few)) o
+  -- where every refusal has P, the outcome has P or the call went by
+  either : (Q : Answer → Type 0) (P : Beside A → Type 0) → ((a : Answer) (w : List ℕ) → Q a → P (beside (g a) w)) → Q SizeMismatch → Q InvalidValue → Q WorkTooShort
+      → Each Q (unsound t)
+      → Each (λ a. Q a) tests
+      → Goes
+      → words.Bytes t
+      → (o : Beside A)
+      → Says o
+      → P o ⊎ Went t d l work May done o
+  unfolding Promise all
+  either Q P f a b c u h goes bytes o p =
+      ⊎-elim (λ x. inl x) (λ x. inr (went goes bytes o x))
+      (last-or P all last o
+      (each-append P front (within (cleared (blocks t) work) (giving g tests))
+      (each-gate P (λ a w. beside (g a) w) Q f a b c (Misfit t ⊎ (d ≡ blocks t * l → ⊥)) (Outside t ⊎ (l < 1) ⊎ (65536 < l)) (length work < blocks t) (unsound t) (blocks t) work u)
+      (each-within P (cleared (blocks t) work) (giving g tests)
+      (each-giving (λ x. P (beside x (cleared (blocks t) work))) g tests (turn tests h))))
+      p)
+    where
+      turn : (rs : List (Row Answer)) → Each (λ a. Q a) rs → Each (λ a. P (beside (g a) (cleared (blocks t) work))) rs
+      turn [] h = tt
+      turn (r ∷ rs) h = (f (r .gives) (cleared (blocks t) work) (h .0), turn rs (h .1))
 
--- what has come past the rows of sizes, work list and soundness
-pub record Passed (t : Bytes) (d l : ℕ) (work : List ℕ) : Type 0 where
-  pub whole : Whole (blocks t) t
-  pub some : 1 ≤ blocks t
-  pub data-fits : d ≡ blocks t * l
-  pub length-fits : (1 ≤ l) × (l ≤ 65536)
-  pub work-fits : blocks t ≤ length work
+  -- an outcome whose answer is Done
+  pub means : (answer-of : A → Answer) → ((a : Answer) → answer-of (g a) ≡ a) → refuses tests ≡ true → Goes → words.Bytes t → (o : Beside A) → Says o
+      → answer-of (o .given) ≡ Done
+      → Went t d l work May done o
+  means answer-of same r goes bytes o p e =
+      ⊎-elim (λ z. absurd (z e)) (λ w. w)
+      (either (λ a. a ≡ Done → ⊥) (λ x. answer-of (x .given) ≡ Done → ⊥) (λ a w q z. q (sym (same a) ∙ z)) (not-done SizeMismatch (omega arith)) (not-done InvalidValue (omega arith)) (not-done WorkTooShort (omega arith))
+      (each-refuses (unsound t) refl) (each-refuses tests r) goes bytes o p)
 
-pub whole-of-fits : (t : Bytes) → words.Bytes t → Fits t → Sound t (blocks t) → Whole (blocks t) t
-whole-of-fits t g f s = record { small = f .few; bytes = g; room = f .room; sound = s }
+  -- what every refusal gives alike is what the outcome gives, or the call went by
+  pub keeps : {B : Type 0} (f : A → B) (b : B) → ((a : Answer) → f (g a) ≡ b) → Goes → words.Bytes t → (o : Beside A) → Says o
+      → (f (o .given) ≡ b) ⊎ Went t d l work May done o
+  keeps f b same goes bytes o p =
+      either (λ a. f (g a) ≡ b) (λ x. f (x .given) ≡ b) (λ a w q. q) (same SizeMismatch) (same InvalidValue) (same WorkTooShort)
+      (each-any (λ a. f (g a) ≡ b) same (unsound t)) (each-any (λ a. f (g a) ≡ b) same tests) goes bytes o p
 
-pub sound-stable : (t : Bytes) → words.Bytes t → Fits t → ((Sound t (blocks t) → ⊥) → ⊥) → Sound t (blocks t)
-sound-stable t g f h = ⊎-elim (λ s. s) (λ s. absurd (h s)) (sound-decided (blocks t) (f .few) t g (f .room))
-
-passed : (t : Bytes) (d l : ℕ) (work : List ℕ) → words.Bytes t → (Misfit t ⊎ (d ≡ blocks t * l → ⊥) → ⊥) → (Outside t ⊎ (l < 1) ⊎ (65536 < l) → ⊥)
-    → (length work < blocks t → ⊥) → ((Sound t (blocks t) → ⊥) → ⊥) → Passed t d l work
-passed t d l work g a b c e =
-    let f : Fits t = fits t (λ h. a (inl h)) (λ h. b (inl h)) in
-    record {
-      whole = whole-of-fits t g f (sound-stable t g f e);
-      some = f .some;
-      data-fits = not-not d (blocks t * l) (λ h. a (inr h));
-      length-fits = (not-less l 1 (λ h. b (inr (inl h))), not-less 65536 l (λ h. b (inr (inr h))));
-      work-fits = not-less (length work) (blocks t) c;
-    }
-
-module _ (t : Bytes) (d l : ℕ) (work : List ℕ) (p : Passed t d l work) where
-  fits-of : Fits t
-  fits-of = record { room = p .whole .room; some = p .some; few = p .whole .small }
-
-  row-1 : Misfit t ⊎ (d ≡ blocks t * l → ⊥) → ⊥
-  row-1 h = ⊎-elim (fits-not-misfit t fits-of) (λ k. k (p .data-fits)) h
-
-  row-2 : Outside t ⊎ (l < 1) ⊎ (65536 < l) → ⊥
-  row-2 h =
-      ⊎-elim (fits-not-outside t fits-of)
-      (λ k. ⊎-elim (λ m. omega (arith, m, p .length-fits .0)) (λ m. omega (arith, m, p .length-fits .1)) k)
-      h
-
-  row-3 : length work < blocks t → ⊥
-  row-3 h = omega (arith, h, p .work-fits)
-
-  row-4 : (Sound t (blocks t) → ⊥) → ⊥
-  row-4 h = h (p .whole .sound)
+  -- and where it may go by, it does
+  pub goes-by : Passed t d l work → None tests → Says last
+  unfolding Promise
+  goes-by p n =
+      last-given (front ++ within (cleared (blocks t) work) (giving g tests)) last
+      (append-none front (within (cleared (blocks t) work) (giving g tests)) (none-passed (λ a w. beside (g a) w) t d l work p)
+      (within-none (cleared (blocks t) work) (giving g tests) (none-giving g tests n)))
 
 -- format ---------------------------------------------------------------------------------------------------------
 
 pub format-means : (t t′ : Bytes) (r : Formatted) → FormatPromise t r t′ → r .answer ≡ Done → Fits t × (t′ ≡ formatted (blocks t) t)
 format-means t t′ r p e =
-    let w =
-    none-of (λ (x : Formatted × Bytes). x .0 .answer) Done (formatRows t) (formatDone t) (r, t′)
-    (not-done SizeMismatch (omega arith), (not-done InvalidValue (omega arith), tt)) p e in
-    (fits t (w .0 .0) (w .0 .1 .0), ap (λ (x : Formatted × Bytes). x .1) (w .1))
+    ⊎-elim (λ z. absurd (z e)) (λ w. let n = w .0 in (fits t (n .0) (n .1 .0), ap (λ (x : Formatted × Bytes). x .1) (w .1)))
+    (last-or (λ (x : Formatted × Bytes). x .0 .answer ≡ Done → ⊥) (formatRows t) (formatDone t) (r, t′)
+    (not-done SizeMismatch (omega arith), (not-done InvalidValue (omega arith), tt)) p)
 
 pub format-done : (t : Bytes) → Fits t → FormatPromise t (record { answer = Done }) (formatted (blocks t) t)
 format-done t f = last-given (formatRows t) (formatDone t) (fits-not-misfit t f, (fits-not-outside t f, tt))
@@ -152,264 +163,117 @@ format-done t f = last-given (formatRows t) (formatDone t) (fits-not-misfit t f,
 -- create ----------------------------------------------------------------------------------------------------------
 
 module _ (t : Bytes) (d l : ℕ) (work : List ℕ) (count : ℕ) where
-  abbrev pub createAll : List (Row (Beside Create))
-  createAll = blockGate (λ a w. beside (createGives a 0 t) w) t d l work ++ within (cleared (blocks t) work) (createRows (blocks t) t count)
+  abbrev CreateWent : Beside Create → Type 0
+  CreateWent o = Went t d l work (MayCreate (blocks t) t count) (createDone (blocks t) t count) o
 
   abbrev pub createLast : Beside Create
   createLast = beside (createDone (blocks t) t count) (cleared (blocks t) work)
 
-  -- no row of create applies
-  pub record MayCreate : Type 0 where
-    pub passed : Passed t d l work
-    pub some : 1 ≤ count
-    pub enough : count ≤ total (freeAt (blocks t) t)
-
-  may-create : words.Bytes t → None createAll → MayCreate
-  may-create g w = record {
-    passed = passed t d l work g (w .0) (w .1 .0) (w .1 .1 .0) (w .1 .1 .1 .0);
-    some = ⊎-elim (λ h. h) (λ h. absurd (w .1 .1 .1 .1 .0 (omega (arith, h)))) (le-or-lt 1 count);
-    enough = not-less (total (freeAt (blocks t) t)) count (w .1 .1 .1 .1 .1 .0);
-  }
-
-  pub create-means : (o : Beside Create) → words.Bytes t → CreatePromise t d l work count o → o .given .answer ≡ Done → MayCreate × (o ≡ createLast)
+  pub create-means : (o : Beside Create) → words.Bytes t → CreatePromise t d l work count o → o .given .answer ≡ Done → CreateWent o
   create-means o g p e =
-      let w =
-      none-of (λ (x : Beside Create). x .given .answer) Done createAll createLast o (
-        not-done SizeMismatch (omega arith),
-        (
-          not-done InvalidValue (omega arith),
-          (
-            not-done WorkTooShort (omega arith),
-            (not-done BrokenFat (omega arith), (not-done InvalidValue (omega arith), (not-done NoSpace (omega arith), tt))),
-          ),
-        ),
-      )
-      p e in
-      (may-create g (w .0), w .1)
+      means (λ a. createGives a 0 t) t d l work (createTests (blocks t) t count) (createDone (blocks t) t count) (MayCreate (blocks t) t count)
+      (λ x. x .answer) (λ a. refl) refl (λ q n. may-create (blocks t) t count n) g o p e
 
-  pub create-keeps : (o : Beside Create) → words.Bytes t → CreatePromise t d l work count o → (o .given .table ≡ t) ⊎ (MayCreate × (o ≡ createLast))
+  pub create-keeps : (o : Beside Create) → words.Bytes t → CreatePromise t d l work count o → (o .given .table ≡ t) ⊎ CreateWent o
   create-keeps o g p =
-      ⊎-elim (λ e. inl e) (λ w. inr (may-create g (w .0), w .1))
-      (last-or (λ (x : Beside Create). x .given .table) t createAll createLast o (refl, (refl, (refl, (refl, (refl, (refl, tt)))))) p)
+      keeps (λ a. createGives a 0 t) t d l work (createTests (blocks t) t count) (createDone (blocks t) t count) (MayCreate (blocks t) t count)
+      (λ x. x .table) t (λ a. refl) (λ q n. may-create (blocks t) t count n) g o p
 
-  pub create-done : MayCreate → CreatePromise t d l work count createLast
-  create-done m =
-      last-given createAll createLast (
-        row-1 t d l work (m .passed),
-        (
-          row-2 t d l work (m .passed),
-          (
-            row-3 t d l work (m .passed),
-            (row-4 t d l work (m .passed), (λ h. omega (arith, h, m .some), (λ h. omega (arith, h, m .enough), tt))),
-          ),
-        ),
-      )
-
-pub file-stable : (n : ℕ) (t : Bytes) (b : ℕ) → Whole n t → ((File t n b → ⊥) → ⊥) → File t n b
-file-stable n t b w h = ⊎-elim (λ f. f) (λ f. absurd (h f)) (file-decided n t b w)
+  pub create-done : Passed t d l work → MayCreate (blocks t) t count → CreatePromise t d l work count createLast
+  create-done p m =
+      goes-by (λ a. createGives a 0 t) t d l work (createTests (blocks t) t count) (createDone (blocks t) t count) (MayCreate (blocks t) t count) p
+      (none-create (blocks t) t count m)
 
 -- resize ----------------------------------------------------------------------------------------------------------
 
 module _ (t : Bytes) (d l : ℕ) (work : List ℕ) (b count : ℕ) where
-  abbrev pub resizeAll : List (Row (Beside Change))
-  resizeAll = blockGate (λ a w. beside (changeGives a t) w) t d l work ++ within (cleared (blocks t) work) (resizeRows (blocks t) t b count)
+  abbrev ResizeWent : Beside Change → Type 0
+  ResizeWent o = Went t d l work (MayResize (blocks t) t b count) (resizeDone (blocks t) t b count) o
 
-  abbrev pub resizeLast : Beside Change
-  resizeLast = beside (resizeDone (blocks t) t b count) (cleared (blocks t) work)
-
-  -- no row of resize applies
-  pub record MayResize : Type 0 where
-    pub passed : Passed t d l work
-    pub file : File t (blocks t) b
-    pub some : 1 ≤ count
-    pub enough : count ≤ total (fileAt (blocks t) t b) + total (freeAt (blocks t) t)
-
-  may-resize : words.Bytes t → None resizeAll → MayResize
-  may-resize g w =
-      let p : Passed t d l work = passed t d l work g (w .0) (w .1 .0) (w .1 .1 .0) (w .1 .1 .1 .0) in
-      let v = w .1 .1 .1 .1 in
-      record {
-        passed = p;
-        file = file-stable (blocks t) t b (p .whole) (v .0);
-        some = ⊎-elim (λ h. h) (λ h. absurd (v .1 .0 (omega (arith, h)))) (le-or-lt 1 count);
-        enough = not-less (total (fileAt (blocks t) t b) + total (freeAt (blocks t) t)) count (v .1 .1 .0);
-      }
-
-  pub resize-means : (o : Beside Change) → words.Bytes t → ResizePromise t d l work b count o → o .given .answer ≡ Done → MayResize × (o ≡ resizeLast)
+  pub resize-means : (o : Beside Change) → words.Bytes t → ResizePromise t d l work b count o → o .given .answer ≡ Done → ResizeWent o
   resize-means o g p e =
-      let w =
-      none-of (λ (x : Beside Change). x .given .answer) Done resizeAll resizeLast o (
-        not-done SizeMismatch (omega arith),
-        (
-          not-done InvalidValue (omega arith),
-          (
-            not-done WorkTooShort (omega arith),
-            (
-              not-done BrokenFat (omega arith),
-              (not-done NotAFile (omega arith), (not-done InvalidValue (omega arith), (not-done NoSpace (omega arith), tt))),
-            ),
-          ),
-        ),
-      )
-      p e in
-      (may-resize g (w .0), w .1)
+      means (λ a. changeGives a t) t d l work (resizeTests (blocks t) t b count) (resizeDone (blocks t) t b count) (MayResize (blocks t) t b count)
+      (λ x. x .answer) (λ a. refl) refl (λ q n. may-resize (blocks t) t (q .whole) b count n) g o p e
 
-  pub resize-keeps : (o : Beside Change) → words.Bytes t → ResizePromise t d l work b count o → (o .given .table ≡ t) ⊎ (MayResize × (o ≡ resizeLast))
+  pub resize-keeps : (o : Beside Change) → words.Bytes t → ResizePromise t d l work b count o → (o .given .table ≡ t) ⊎ ResizeWent o
   resize-keeps o g p =
-      ⊎-elim (λ e. inl e) (λ w. inr (may-resize g (w .0), w .1))
-      (last-or (λ (x : Beside Change). x .given .table) t resizeAll resizeLast o (refl, (refl, (refl, (refl, (refl, (refl, (refl, tt))))))) p)
+      keeps (λ a. changeGives a t) t d l work (resizeTests (blocks t) t b count) (resizeDone (blocks t) t b count) (MayResize (blocks t) t b count)
+      (λ x. x .table) t (λ a. refl) (λ q n. may-resize (blocks t) t (q .whole) b count n) g o p
 
 -- delete ----------------------------------------------------------------------------------------------------------
 
 module _ (t : Bytes) (d l : ℕ) (work : List ℕ) (b : ℕ) where
-  abbrev pub deleteAll : List (Row (Beside Change))
-  deleteAll = blockGate (λ a w. beside (changeGives a t) w) t d l work ++ within (cleared (blocks t) work) (deleteRows (blocks t) t b)
+  abbrev DeleteWent : Beside Change → Type 0
+  DeleteWent o = Went t d l work (MayDelete (blocks t) t b) (deleteDone (blocks t) t b) o
 
   abbrev pub deleteLast : Beside Change
   deleteLast = beside (deleteDone (blocks t) t b) (cleared (blocks t) work)
 
-  -- no row of delete applies
-  pub record MayDelete : Type 0 where
-    pub passed : Passed t d l work
-    pub file : File t (blocks t) b
-
-  may-delete : words.Bytes t → None deleteAll → MayDelete
-  may-delete g w =
-      let p : Passed t d l work = passed t d l work g (w .0) (w .1 .0) (w .1 .1 .0) (w .1 .1 .1 .0) in
-      record { passed = p; file = file-stable (blocks t) t b (p .whole) (w .1 .1 .1 .1 .0) }
-
-  pub delete-means : (o : Beside Change) → words.Bytes t → DeletePromise t d l work b o → o .given .answer ≡ Done → MayDelete × (o ≡ deleteLast)
+  pub delete-means : (o : Beside Change) → words.Bytes t → DeletePromise t d l work b o → o .given .answer ≡ Done → DeleteWent o
   delete-means o g p e =
-      let w =
-      none-of (λ (x : Beside Change). x .given .answer) Done deleteAll deleteLast o (
-        not-done SizeMismatch (omega arith),
-        (not-done InvalidValue (omega arith), (not-done WorkTooShort (omega arith), (not-done BrokenFat (omega arith), (not-done NotAFile (omega arith), tt)))),
-      )
-      p e in
-      (may-delete g (w .0), w .1)
+      means (λ a. changeGives a t) t d l work (deleteTests (blocks t) t b) (deleteDone (blocks t) t b) (MayDelete (blocks t) t b)
+      (λ x. x .answer) (λ a. refl) refl (λ q n. may-delete (blocks t) t (q .whole) b n) g o p e
 
-  pub delete-keeps : (o : Beside Change) → words.Bytes t → DeletePromise t d l work b o → (o .given .table ≡ t) ⊎ (MayDelete × (o ≡ deleteLast))
+  pub delete-keeps : (o : Beside Change) → words.Bytes t → DeletePromise t d l work b o → (o .given .table ≡ t) ⊎ DeleteWent o
   delete-keeps o g p =
-      ⊎-elim (λ e. inl e) (λ w. inr (may-delete g (w .0), w .1))
-      (last-or (λ (x : Beside Change). x .given .table) t deleteAll deleteLast o (refl, (refl, (refl, (refl, (refl, tt))))) p)
+      keeps (λ a. changeGives a t) t d l work (deleteTests (blocks t) t b) (deleteDone (blocks t) t b) (MayDelete (blocks t) t b)
+      (λ x. x .table) t (λ a. refl) (λ q n. may-delete (blocks t) t (q .whole) b n) g o p
 
-  pub delete-done : MayDelete → DeletePromise t d l work b deleteLast
-  delete-done m =
-      last-given deleteAll deleteLast (
-        row-1 t d l work (m .passed),
-        (row-2 t d l work (m .passed), (row-3 t d l work (m .passed), (row-4 t d l work (m .passed), (λ h. h (m .file), tt)))),
-      )
+  pub delete-done : Passed t d l work → MayDelete (blocks t) t b → DeletePromise t d l work b deleteLast
+  delete-done p m =
+      goes-by (λ a. changeGives a t) t d l work (deleteTests (blocks t) t b) (deleteDone (blocks t) t b) (MayDelete (blocks t) t b) p
+      (none-delete (blocks t) t b m)
 
 -- read and write --------------------------------------------------------------------------------------------------
 
--- no row of read or write applies: many bytes from byte pos on, of the file at b
-pub record MayCarry (t d : Bytes) (l : ℕ) (work : List ℕ) (b pos many : ℕ) : Type 0 where
-  pub passed : Passed t (length d) l work
-  pub file : File t (blocks t) b
-  pub enough : pos + many ≤ sizeOf (blocks t) t l b
-
 module _ (t d : Bytes) (l : ℕ) (work : List ℕ) (b pos : ℕ) (buf : Bytes) where
-  abbrev pub readAll : List (Row (Beside Carry))
-  readAll = blockGate (λ a w. beside (carryGives a buf) w) t (length d) l work ++ within (cleared (blocks t) work) (carryRows (blocks t) t l b pos (length buf) buf)
+  abbrev May : Type 0
+  May = MayCarry (blocks t) t l b pos (length buf)
+
+  abbrev tests : List (Row Answer)
+  tests = carryTests (blocks t) t l b pos (length buf)
+
+  may : Passed t (length d) l work → None tests → May
+  may q n = may-carry (blocks t) t (q .whole) b l pos (length buf) n
 
   abbrev pub readLast : Beside Carry
   readLast = beside (readDone (blocks t) t d l b pos buf) (cleared (blocks t) work)
 
-  may-read : words.Bytes t → None readAll → MayCarry t d l work b pos (length buf)
-  may-read g w =
-      let p : Passed t (length d) l work = passed t (length d) l work g (w .0) (w .1 .0) (w .1 .1 .0) (w .1 .1 .1 .0) in
-      let v = w .1 .1 .1 .1 in
-      record { passed = p; file = file-stable (blocks t) t b (p .whole) (v .0); enough = not-less (sizeOf (blocks t) t l b) (pos + length buf) (v .1 .0) }
-
   pub read-means : (o : Beside Carry) → words.Bytes t → ReadPromise t d l work b pos buf o → o .given .answer ≡ Done
-      → MayCarry t d l work b pos (length buf) × (o ≡ readLast)
+      → Went t (length d) l work May (readDone (blocks t) t d l b pos buf) o
   read-means o g p e =
-      let w =
-      none-of (λ (x : Beside Carry). x .given .answer) Done readAll readLast o (
-        not-done SizeMismatch (omega arith),
-        (
-          not-done InvalidValue (omega arith),
-          (
-            not-done WorkTooShort (omega arith),
-            (not-done BrokenFat (omega arith), (not-done NotAFile (omega arith), (not-done OutOfBound (omega arith), tt))),
-          ),
-        ),
-      )
-      p e in
-      (may-read g (w .0), w .1)
-
-  pub read-done : MayCarry t d l work b pos (length buf) → ReadPromise t d l work b pos buf readLast
-  read-done m =
-      last-given readAll readLast (
-        row-1 t (length d) l work (m .passed),
-        (
-          row-2 t (length d) l work (m .passed),
-          (
-            row-3 t (length d) l work (m .passed),
-            (row-4 t (length d) l work (m .passed), (λ h. h (m .file), (λ h. omega (arith, h, m .enough), tt))),
-          ),
-        ),
-      )
+      means (λ a. carryGives a buf) t (length d) l work tests (readDone (blocks t) t d l b pos buf) May (λ x. x .answer) (λ a. refl) refl may g o p e
 
   -- a read that may be done is
-  pub read-gives : (o : Beside Carry) → MayCarry t d l work b pos (length buf) → ReadPromise t d l work b pos buf o → o ≡ readLast
-  read-gives o m p = one readAll readLast o readLast p (read-done m)
-
-  abbrev pub writeAll : List (Row (Beside Carry))
-  writeAll = blockGate (λ a w. beside (carryGives a d) w) t (length d) l work ++ within (cleared (blocks t) work) (carryRows (blocks t) t l b pos (length buf) d)
-
-  abbrev pub writeLast : Beside Carry
-  writeLast = beside (writeDone (blocks t) t d l b pos buf) (cleared (blocks t) work)
-
-  may-write : words.Bytes t → None writeAll → MayCarry t d l work b pos (length buf)
-  may-write g w =
-      let p : Passed t (length d) l work = passed t (length d) l work g (w .0) (w .1 .0) (w .1 .1 .0) (w .1 .1 .1 .0) in
-      let v = w .1 .1 .1 .1 in
-      record { passed = p; file = file-stable (blocks t) t b (p .whole) (v .0); enough = not-less (sizeOf (blocks t) t l b) (pos + length buf) (v .1 .0) }
+  pub read-gives : (o : Beside Carry) → Passed t (length d) l work → May → ReadPromise t d l work b pos buf o → o ≡ readLast
+  read-gives o q m p =
+      one-read t d l work b pos buf o readLast p
+      (goes-by (λ a. carryGives a buf) t (length d) l work tests (readDone (blocks t) t d l b pos buf) May q (none-carry (blocks t) t b l pos (length buf) m))
 
   pub write-means : (o : Beside Carry) → words.Bytes t → WritePromise t d l work b pos buf o → o .given .answer ≡ Done
-      → MayCarry t d l work b pos (length buf) × (o ≡ writeLast)
+      → Went t (length d) l work May (writeDone (blocks t) t d l b pos buf) o
   write-means o g p e =
-      let w =
-      none-of (λ (x : Beside Carry). x .given .answer) Done writeAll writeLast o (
-        not-done SizeMismatch (omega arith),
-        (
-          not-done InvalidValue (omega arith),
-          (
-            not-done WorkTooShort (omega arith),
-            (not-done BrokenFat (omega arith), (not-done NotAFile (omega arith), (not-done OutOfBound (omega arith), tt))),
-          ),
-        ),
-      )
-      p e in
-      (may-write g (w .0), w .1)
+      means (λ a. carryGives a d) t (length d) l work tests (writeDone (blocks t) t d l b pos buf) May (λ x. x .answer) (λ a. refl) refl may g o p e
 
   pub write-keeps : (o : Beside Carry) → words.Bytes t → WritePromise t d l work b pos buf o
-      → (o .given .bytes ≡ d) ⊎ (MayCarry t d l work b pos (length buf) × (o ≡ writeLast))
+      → (o .given .bytes ≡ d) ⊎ Went t (length d) l work May (writeDone (blocks t) t d l b pos buf) o
   write-keeps o g p =
-      ⊎-elim (λ e. inl e) (λ w. inr (may-write g (w .0), w .1))
-      (last-or (λ (x : Beside Carry). x .given .bytes) d writeAll writeLast o (refl, (refl, (refl, (refl, (refl, (refl, tt)))))) p)
+      keeps (λ a. carryGives a d) t (length d) l work tests (writeDone (blocks t) t d l b pos buf) May (λ x. x .bytes) d (λ a. refl) may g o p
 
 -- the test --------------------------------------------------------------------------------------------------------
 
-module _ (t : Bytes) (work : List ℕ) where
-  pub test-means : (o : Tested × List ℕ) → words.Bytes t → First (testGate testRefused t work) (testDone t work) o → o .0 .answer ≡ Done
-      → Fits t × Sound t (blocks t)
-  test-means o g p e =
-      let w =
-      none-of (λ (x : Tested × List ℕ). x .0 .answer) Done (testGate testRefused t work) (testDone t work) o (
-        not-done SizeMismatch (omega arith),
-        (not-done InvalidValue (omega arith), (not-done WorkTooShort (omega arith), (not-done BrokenFat (omega arith), tt))),
-      )
-      p e in
-      let f : Fits t = fits t (w .0 .0) (w .0 .1 .0) in
-      (f, sound-stable t g f (w .0 .1 .1 .1 .0))
+module _ (t : Bytes) (work : List ℕ) (o : Tested × List ℕ) where
+  pub test-means : words.Bytes t → First (testGate testRefused t work) (testDone t work) o → o .0 .answer ≡ Done → Fits t × Sound t (blocks t)
+  test-means g p e =
+      ⊎-elim (λ z. absurd (z e)) (λ w. tested testRefused t work g (w .0))
+      (last-or (λ (x : Tested × List ℕ). x .0 .answer ≡ Done → ⊥) (testGate testRefused t work) (testDone t work) o
+      (each-gate (λ (x : Tested × List ℕ). x .0 .answer ≡ Done → ⊥) testRefused (λ a. a ≡ Done → ⊥) (λ a w q. q) (not-done SizeMismatch (omega arith)) (not-done InvalidValue (omega arith))
+      (not-done WorkTooShort (omega arith)) (Misfit t) (Outside t) (length work < blocks t) (unsound t) (blocks t) work (each-refuses (unsound t) refl))
+      p)
 
   -- a sound table is accepted
-  pub test-accepts : (o : Tested × List ℕ) → Fits t → blocks t ≤ length work → Sound t (blocks t) → First (testGate testRefused t work) (testDone t work) o
-      → o .0 .answer ≡ Done
-  test-accepts o f h s (inl p) = absurd (fits-not-misfit t f (p .0))
-  test-accepts o f h s (inr (_, inl p)) = absurd (fits-not-outside t f (p .0))
-  test-accepts o f h s (inr (_, inr (_, inl p))) = let z : ⊥ = omega (arith, h, p .0) in absurd z
-  test-accepts o f h s (inr (_, inr (_, inr (_, inl p)))) = absurd (p .0 s)
-  test-accepts o f h s (inr (_, inr (_, inr (_, inr (_, p))))) = ap (λ (x : Tested × List ℕ). x .0 .answer) p
+  pub test-accepts : Fits t → blocks t ≤ length work → Sound t (blocks t) → First (testGate testRefused t work) (testDone t work) o → o .0 .answer ≡ Done
+  test-accepts f h s p =
+      ap (λ (x : Tested × List ℕ). x .0 .answer)
+      (one (testGate testRefused t work) (testDone t work) o (testDone t work) p
+      (last-given (testGate testRefused t work) (testDone t work) (none-tested testRefused t work f h s)))

@@ -21,13 +21,14 @@ use Rattle.fat_test.specs.Promise.{TestPromise}
 use Rattle.fat_test.specs.declared.Tested.{Tested}
 use Rattle.fat_promises.specs.Promise.{Beside}
 use Rattle.fat_promises.specs.Blocks.{blocksOf, placeOf, bytesAt, written}
-use Rattle.fat_promises.specs.Calls.{Create, CreatePromise, Change, ResizePromise, DeletePromise, Carry, ReadPromise, WritePromise, sizeOf}
+use Rattle.fat_promises.specs.Calls.{Create, CreatePromise, Change, ResizePromise, DeletePromise, Carry, MayCarry, ReadPromise, writeDone, WritePromise, sizeOf}
 use Rattle.words.specs.Word.{AreBytes}
-use Rattle.fat_history.specs.Run.{Run, resizesIn}
+use Rattle.fat_history.specs.History.{History, resizesIn}
 use Rattle.fat_history.specs.OneChain.{OneChain}
 use Rattle.fat_history.specs.Away.{Away, none, writes}
 use Rattle.fat_history.specs.KeptBy.{KeptBy}
-use Rattle.fat_history.proofs.Means.{are-bytes, Fits, Passed, MayCarry, fits, whole-of-fits, format-means, create-means, create-keeps, resize-means, resize-keeps, delete-means, delete-keeps, read-means, read-gives, write-means, write-keeps, test-means, test-accepts}
+use Rattle.fat_history.proofs.Passes.{are-bytes, Fits, Passed, fits, whole-of-fits}
+use Rattle.fat_history.proofs.Means.{Went, format-means, create-means, create-keeps, resize-means, resize-keeps, delete-means, delete-keeps, read-means, read-gives, write-means, write-keeps, test-means, test-accepts}
 use Rattle.fat_history.proofs.Honest.{blocks-of, as-blocks, run-sound, sound-run}
 use Rattle.fat_history.proofs.Lies.{one-chain-of}
 use Rattle.fat_history.proofs.Places.{occurs-mem, places-differ, place-low, length-written, written-other, written-at, read-same, read-is}
@@ -36,8 +37,8 @@ use Rattle.fat_history.proofs.Apart.{Still, still, blocks-once, blocks-
 -- honest: the test of a table of 1 to 1,000,000 blocks answers Done exactly when some run of format and then create, resize and delete, each answered
 -- Done, ends in a table equal to it in every entry that the rules read
 pub honest : (t : Bytes) (work : List ℕ) (o : Tested × List ℕ) → AreBytes t → (Misfit t → ⊥) → (Outside t → ⊥) → blocks t ≤ length work → TestPromise t work o
-    → (o .0 .answer ≡ Done → (k : ℕ) × (t′ : Bytes) × Run k t′ × Agree (blocks t) t t′)
-    × ((k : ℕ) (t′ : Bytes) → Run k t′ → Agree (blocks t) t t′ → o .0 .answer ≡ Done)
+    → (o .0 .answer ≡ Done → (k : ℕ) × (t′ : Bytes) × History k t′ × Agree (blocks t) t t′)
+    × ((k : ℕ) (t′ : Bytes) → History k t′ → Agree (blocks t) t t′ → o .0 .answer ≡ Done)
 honest t work o g m u h p =
     let f : Fits t = fits t m u in (
       λ e. let r = sound-run t g f (test-means t work o (are-bytes t g) p e .1) in (r .k, r .end, r .run-to, r .agrees),
@@ -46,7 +47,7 @@ honest t work o g m u h p =
 
 -- within: an accepted table is reached from a formatted one by at most three calls a node, create and delete alone, each answered Done
 pub within : (t : Bytes) (work : List ℕ) (o : Tested × List ℕ) → AreBytes t → TestPromise t work o → o .0 .answer ≡ Done
-    → (k : ℕ) × (t′ : Bytes) × (r : Run k t′) × (k ≤ 3 * length (nodes (blocks t) t)) × (resizesIn r ≡ 0) × Agree (blocks t) t t′
+    → (k : ℕ) × (t′ : Bytes) × (r : History k t′) × (k ≤ 3 * length (nodes (blocks t) t)) × (resizesIn r ≡ 0) × Agree (blocks t) t t′
 within t work o g p e =
     let w = test-means t work o (are-bytes t g) p e in
     let r = sound-run t g (w .0) (w .1) in
@@ -84,40 +85,40 @@ module _ (t : Bytes) (d l : ℕ) (work : List ℕ) (g : AreBytes t) where
   kept-create count o p = (
     λ e.
         let w = create-means t d l work count o (are-bytes t g) p e in
-        let m = w .0 in
-        let v : Whole (blocks t) t = m .passed .whole in
-        subst⁻¹ (λ (x : Bytes). Sound x (blocks x) × (length x ≡ length t)) (ap (λ (x : Beside Create). x .given .table) (w .1))
+        let m = w .may in
+        let v : Whole (blocks t) t = w .passed .whole in
+        subst⁻¹ (λ (x : Bytes). Sound x (blocks x) × (length x ≡ length t)) (ap (λ (x : Beside Create). x .given .table) (w .is))
         (sound-now (blocks t) t (created (blocks t) t count) (v .room) (whole-created (blocks t) t v count (m .some) (m .enough))),
-    λ e. ⊎-elim (λ q. q) (λ w. absurd (e (ap (λ (x : Beside Create). x .given .answer) (w .1)))) (create-keeps t d l work count o (are-bytes t g) p),
+    λ e. ⊎-elim (λ q. q) (λ w. absurd (e (ap (λ (x : Beside Create). x .given .answer) (w .is)))) (create-keeps t d l work count o (are-bytes t g) p),
   )
 
   pub kept-resize : (b count : ℕ) (o : Beside Change) → ResizePromise t d l work b count o → KeptBy t (o .given .answer) (o .given .table)
   kept-resize b count o p = (
     λ e.
         let w = resize-means t d l work b count o (are-bytes t g) p e in
-        let m = w .0 in
-        let v : Whole (blocks t) t = m .passed .whole in
-        subst⁻¹ (λ (x : Bytes). Sound x (blocks x) × (length x ≡ length t)) (ap (λ (x : Beside Change). x .given .table) (w .1))
+        let m = w .may in
+        let v : Whole (blocks t) t = w .passed .whole in
+        subst⁻¹ (λ (x : Bytes). Sound x (blocks x) × (length x ≡ length t)) (ap (λ (x : Beside Change). x .given .table) (w .is))
         (sound-now (blocks t) t (resized (blocks t) t b count) (v .room) (whole-resized (blocks t) t v b count (m .file) (m .some) (m .enough))),
-    λ e. ⊎-elim (λ q. q) (λ w. absurd (e (ap (λ (x : Beside Change). x .given .answer) (w .1)))) (resize-keeps t d l work b count o (are-bytes t g) p),
+    λ e. ⊎-elim (λ q. q) (λ w. absurd (e (ap (λ (x : Beside Change). x .given .answer) (w .is)))) (resize-keeps t d l work b count o (are-bytes t g) p),
   )
 
   pub kept-delete : (b : ℕ) (o : Beside Change) → DeletePromise t d l work b o → KeptBy t (o .given .answer) (o .given .table)
   kept-delete b o p = (
     λ e.
         let w = delete-means t d l work b o (are-bytes t g) p e in
-        let m = w .0 in
-        let v : Whole (blocks t) t = m .passed .whole in
-        subst⁻¹ (λ (x : Bytes). Sound x (blocks x) × (length x ≡ length t)) (ap (λ (x : Beside Change). x .given .table) (w .1))
+        let m = w .may in
+        let v : Whole (blocks t) t = w .passed .whole in
+        subst⁻¹ (λ (x : Bytes). Sound x (blocks x) × (length x ≡ length t)) (ap (λ (x : Beside Change). x .given .table) (w .is))
         (sound-now (blocks t) t (deleted (blocks t) t b) (v .room) (whole-deleted (blocks t) t v b (m .file))),
-    λ e. ⊎-elim (λ q. q) (λ w. absurd (e (ap (λ (x : Beside Change). x .given .answer) (w .1)))) (delete-keeps t d l work b o (are-bytes t g) p),
+    λ e. ⊎-elim (λ q. q) (λ w. absurd (e (ap (λ (x : Beside Change). x .given .answer) (w .is)))) (delete-keeps t d l work b o (are-bytes t g) p),
   )
 
 -- a refused write leaves the data as it was; the table it is lent unchangeable
 pub kept-write : (t d : Bytes) (l : ℕ) (work : List ℕ) (b pos : ℕ) (buf : Bytes) (o : Beside Carry) → AreBytes t → WritePromise t d l work b pos buf o
     → (o .given .answer ≡ Done → ⊥) → o .given .bytes ≡ d
 kept-write t d l work b pos buf o g p e =
-    ⊎-elim (λ q. q) (λ w. absurd (e (ap (λ (x : Beside Carry). x .given .answer) (w .1)))) (write-keeps t d l work b pos buf o (are-bytes t g) p)
+    ⊎-elim (λ q. q) (λ w. absurd (e (ap (λ (x : Beside Carry). x .given .answer) (w .is)))) (write-keeps t d l work b pos buf o (are-bytes t g) p)
 
 -- apart: over any run of calls from a sound table, a file that no call names stays a file with the same chain and reads the same bytes -------------------
 
@@ -164,24 +165,25 @@ files-apart t b c x g m u s i j ne p q =
 -- files -------------------------------------------------------------------------------------------------------------------------------------------------
 
 -- a read after the run, where one before it may be done
-may-after : (l b : ℕ) (t d t′ d′ : Bytes) (work work′ : List ℕ) (pos many : ℕ) → Still (blocks t) l b t d t′ d′ → Passed t (length d) l work
-    → pos + many ≤ sizeOf (blocks t) t l b
-    → blocks t ≤ length work′
-    → MayCarry t′ d′ l work′ b pos many
-may-after l b t d t′ d′ work work′ pos many v q h k =
-    let n : ℕ = blocks t in
-    let e : blocks t′ ≡ n = blocks-of n t′ (v .whole .room) in
-    record {
-      passed = record {
-        whole = as-blocks n t′ (v .whole);
-        some = omega (arith, e, q .some);
-        data-fits = v .long ∙ q .data-fits ∙ ap (λ (x : ℕ). x * l) (sym e);
-        length-fits = q .length-fits;
-        work-fits = omega (arith, e, k);
-      };
-      file = subst⁻¹ (λ (x : ℕ). File t′ x b) e (v .file);
-      enough = subst⁻¹ (λ (x : ℕ). pos + many ≤ total (fileAt x t′ b) * l) e (subst⁻¹ (λ (f : List nodes-of.Run). pos + many ≤ total f * l) (v .same) h);
-    }
+module _ (l b : ℕ) (t d t′ d′ : Bytes) (work work′ : List ℕ) (pos many : ℕ) (v : Still (blocks t) l b t d t′ d′) where
+  same-blocks : blocks t′ ≡ blocks t
+  same-blocks = blocks-of (blocks t) t′ (v .whole .room)
+
+  passed-after : Passed t (length d) l work → blocks t ≤ length work′ → Passed t′ (length d′) l work′
+  passed-after q k = record {
+    whole = as-blocks (blocks t) t′ (v .whole);
+    some = omega (arith, same-blocks, q .some);
+    data-fits = v .long ∙ q .data-fits ∙ ap (λ (x : ℕ). x * l) (sym same-blocks);
+    length-fits = q .length-fits;
+    work-fits = omega (arith, same-blocks, k);
+  }
+
+  may-after : pos + many ≤ sizeOf (blocks t) t l b → MayCarry (blocks t′) t′ l b pos many
+  may-after h = record {
+    file = subst⁻¹ (λ (x : ℕ). File t′ x b) same-blocks (v .file);
+    enough = subst⁻¹ (λ (x : ℕ). pos + many ≤ total (fileAt x t′ b) * l) same-blocks
+        (subst⁻¹ (λ (f : List nodes-of.Run). pos + many ≤ total f * l) (v .same) h);
+  }
 
 -- apart, by the promise of read: a read of a file that no call of the run names is answered Done after it as before, with the same bytes
 pub apart-read : (l b pos : ℕ) (t d t′ d′ : Bytes) (work work′ : List ℕ) (buf buf′ : Bytes) (r r′ : Beside Carry) → AreBytes t → Away l b t d t′ d′
@@ -194,35 +196,35 @@ pub apart-read : (l b pos : ℕ) (t d t′ d′ : Bytes) (work work′ : List �
 apart-read l b pos t d t′ d′ work work′ buf buf′ r r′ g a p done e k q =
     let n : ℕ = blocks t in
     let v = read-means t d l work b pos buf r (are-bytes t g) p done in
-    let m : MayCarry t d l work b pos (length buf) = v .0 in
-    let s : Still n l b t d t′ d′ = still n l b t d (m .passed .whole) (m .file) a in
-    let h : pos + length buf′ ≤ sizeOf n t l b = subst⁻¹ (λ (x : ℕ). pos + x ≤ sizeOf n t l b) e (m .enough) in
-    let z = read-gives t′ d′ l work′ b pos buf′ r′ (may-after l b t d t′ d′ work work′ pos (length buf′) s (m .passed) h k) q in (
+    let s : Still n l b t d t′ d′ = still n l b t d (v .passed .whole) (v .may .file) a in
+    let h : pos + length buf′ ≤ sizeOf n t l b = subst⁻¹ (λ (x : ℕ). pos + x ≤ sizeOf n t l b) e (v .may .enough) in
+    let z = read-gives t′ d′ l work′ b pos buf′ r′ (passed-after l b t d t′ d′ work work′ pos (length buf′) s (v .passed) k)
+    (may-after l b t d t′ d′ work work′ pos (length buf′) s h) q in (
       ap (λ (x : Beside Carry). x .given .answer) z,
       ap (λ (x : Beside Carry). x .given .bytes) z
           ∙ ap (λ (x : ℕ). bytesAt (length buf′) d′ l (blocksOf (fileAt x t′ b)) pos) (blocks-of n t′ (s .whole .room))
           ∙ ap (λ (f : List nodes-of.Run). bytesAt (length buf′) d′ l (blocksOf f) pos) (s .same)
           ∙ read-same (length buf′) d d′ l (blocksOf (fileAt n t b)) pos (λ x y w. s .bytes x (omega (arith, w, h)))
           ∙ ap (λ (x : ℕ). bytesAt x d l (blocksOf (fileAt n t b)) pos) e
-          ∙ sym (ap (λ (x : Beside Carry). x .given .bytes) (v .1)),
+          ∙ sym (ap (λ (x : Beside Carry). x .given .bytes) (v .is)),
     )
 
 module _ (l b : ℕ) (t d : Bytes) (work : List ℕ) (pos : ℕ) (buf : Bytes) (o : Beside Carry) (t′ d′ : Bytes) (g : AreBytes t)
     (p : WritePromise t d l work b pos buf o) (done : o .given .answer ≡ Done) (a : Away l b t (o .given .bytes) t′ d′) where
-  may-write : MayCarry t d l work b pos (length buf)
-  may-write = write-means t d l work b pos buf o (are-bytes t g) p done .0
+  wrote : Went t (length d) l work (MayCarry (blocks t) t l b pos (length buf)) (writeDone (blocks t) t d l b pos buf) o
+  wrote = write-means t d l work b pos buf o (are-bytes t g) p done
 
   now-is : o .given .bytes ≡ written buf d l (blocksOf (fileAt (blocks t) t b)) pos
-  now-is = ap (λ (x : Beside Carry). x .given .bytes) (write-means t d l work b pos buf o (are-bytes t g) p done .1)
+  now-is = ap (λ (x : Beside Carry). x .given .bytes) (wrote .is)
 
   after : Still (blocks t) l b t (o .given .bytes) t′ d′
-  after = still (blocks t) l b t (o .given .bytes) (may-write .passed .whole) (may-write .file) a
+  after = still (blocks t) l b t (o .given .bytes) (wrote .passed .whole) (wrote .may .file) a
 
   long : length (o .given .bytes) ≡ length d
   long = ap {B = ℕ} length now-is ∙ length-written buf d l (blocksOf (fileAt (blocks t) t b)) pos
 
   passed-now : Passed t (length (o .given .bytes)) l work
-  passed-now = subst⁻¹ (λ (x : ℕ). Passed t x l work) long (may-write .passed)
+  passed-now = subst⁻¹ (λ (x : ℕ). Passed t x l work) long (wrote .passed)
 
   -- what a read after the run gives, in terms of the data after the write
   reads-now : (work′ : List ℕ) (at : ℕ) (buf′ : Bytes) (r : Beside Carry) → blocks t ≤ length work′ → at + length buf′ ≤ sizeOf (blocks t) t l b
@@ -231,8 +233,8 @@ module _ (l b : ℕ) (t d : Bytes) (work : List ℕ) (pos : ℕ) (buf : Bytes) (
   reads-now work′ at buf′ r k h q =
       let n : ℕ = blocks t in
       let e : blocks t′ ≡ n = blocks-of n t′ (after .whole .room) in
-      let m = may-after l b t (o .given .bytes) t′ d′ work work′ at (length buf′) after passed-now h k in
-      let z = read-gives t′ d′ l work′ b at buf′ r m q in (
+      let z = read-gives t′ d′ l work′ b at buf′ r (passed-after l b t (o .given .bytes) t′ d′ work work′ at (length buf′) after passed-now k)
+      (may-after l b t (o .given .bytes) t′ d′ work work′ at (length buf′) after h) q in (
         ap (λ (x : Beside Carry). x .given .answer) z,
         ap (λ (x : Beside Carry). x .given .bytes) z
             ∙ ap (λ (x : ℕ). bytesAt (length buf′) d′ l (blocksOf (fileAt x t′ b)) at) e
@@ -246,9 +248,9 @@ module _ (l b : ℕ) (t d : Bytes) (work : List ℕ) (pos : ℕ) (buf : Bytes) (
   read-back work′ buf′ r k e q =
       let n : ℕ = blocks t in
       let C : List ℕ = blocksOf (fileAt n t b) in
-      let w : Whole n t = may-write .passed .whole in
-      let lp : 0 < l = omega (arith, may-write .passed .length-fits .0) in
-      let en : pos + length buf ≤ sizeOf n t l b = may-write .enough in
+      let w : Whole n t = wrote .passed .whole in
+      let lp : 0 < l = omega (arith, wrote .passed .length-fits .0) in
+      let en : pos + length buf ≤ sizeOf n t l b = wrote .may .enough in
       let low : (x : ℕ) → x < pos + length buf → x < length C * l = λ x h. below-end n t w b l x (omega (arith, h, en)) in
       let z = reads-now work′ pos buf′ r k (subst⁻¹ (λ (x : ℕ). pos + x ≤ sizeOf n t l b) e en) q in (
         z .0,
@@ -257,10 +259,10 @@ module _ (l b : ℕ) (t d : Bytes) (work : List ℕ) (pos : ℕ) (buf : Bytes) (
             ∙ ap (λ (y : Bytes). bytesAt (length buf) y l C pos) now-is
             ∙ read-is buf (written buf d l C pos) l C pos
             (written-at buf d l C pos
-            (λ x y h m. places-differ l lp C (blocks-once n t w b (may-write .file)) x y (low x h) (low y m))
+            (λ x y h m. places-differ l lp C (blocks-once n t w b (wrote .may .file)) x y (low x h) (low y m))
             (λ x h.
-            subst⁻¹ (λ (y : ℕ). placeOf C l x < y) (may-write .passed .data-fits)
-            (place-low l lp C n x (blocks-low n t w b (may-write .file)) (low x h)))),
+            subst⁻¹ (λ (y : ℕ). placeOf C l x < y) (wrote .passed .data-fits)
+            (place-low l lp C n x (blocks-low n t w b (wrote .may .file)) (low x h)))),
       )
 
   -- a read beside it, which before the write was answered Done, is answered Done and gives what it gave
@@ -274,11 +276,11 @@ module _ (l b : ℕ) (t d : Bytes) (work : List ℕ) (pos : ℕ) (buf : Bytes) (
   read-beside work₀ work′ at buf₀ buf′ r₀ r away e k p₀ d₀ q =
       let n : ℕ = blocks t in
       let C : List ℕ = blocksOf (fileAt n t b) in
-      let w : Whole n t = may-write .passed .whole in
-      let lp : 0 < l = omega (arith, may-write .passed .length-fits .0) in
-      let en : pos + length buf ≤ sizeOf n t l b = may-write .enough in
+      let w : Whole n t = wrote .passed .whole in
+      let lp : 0 < l = omega (arith, wrote .passed .length-fits .0) in
+      let en : pos + length buf ≤ sizeOf n t l b = wrote .may .enough in
       let v = read-means t d l work₀ b at buf₀ r₀ (are-bytes t g) p₀ d₀ in
-      let en₀ : at + length buf₀ ≤ sizeOf n t l b = v .0 .enough in
+      let en₀ : at + length buf₀ ≤ sizeOf n t l b = v .may .enough in
       let en′ : at + length buf′ ≤ sizeOf n t l b = subst⁻¹ (λ (x : ℕ). at + x ≤ sizeOf n t l b) e en₀ in
       let z = reads-now work′ at buf′ r k en′ q in (
         z .0,
@@ -289,9 +291,9 @@ module _ (l b : ℕ) (t d : Bytes) (work : List ℕ) (pos : ℕ) (buf : Bytes) (
             written-other buf d l C pos (placeOf C l x)
             (λ i y c.
             let same : x ≡ pos + i =
-            places-differ l lp C (blocks-once n t w b (may-write .file)) x (pos + i) (below-end n t w b l x (omega (arith, m, en′)))
+            places-differ l lp C (blocks-once n t w b (wrote .may .file)) x (pos + i) (below-end n t w b l x (omega (arith, m, en′)))
             (below-end n t w b l (pos + i) (omega (arith, y, en))) c in
             ⊎-elim (λ s. omega (arith, s, same, h, m, y)) (λ s. omega (arith, s, same, h, m, y)) away))
             ∙ ap (λ (x : ℕ). bytesAt x d l C at) e
-            ∙ sym (ap (λ (x : Beside Carry). x .given .bytes) (v .1)),
+            ∙ sym (ap (λ (x : Beside Carry). x .given .bytes) (v .is)),
       )

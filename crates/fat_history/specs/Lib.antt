@@ -1,4 +1,4 @@
-pub mod Run
+pub mod History
 pub mod Away
 pub mod OneChain
 pub mod KeptBy

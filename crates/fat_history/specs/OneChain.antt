@@ -20,5 +20,6 @@ pub record InFile (n : ℕ) (t : Bytes) (x : ℕ) : Type 0 where
   pub free : covers x (freeAt n t) ≡ 0
   pub others : (b : ℕ) → File t n b → b ≢ first → covers x (fileAt n t b) ≡ 0
 
-abbrev pub OneChain : ℕ → Bytes → ℕ → Type 0
+-- one or the other
+abbrev pub OneChain : (n : ℕ) (t : Bytes) (x : ℕ) → Type 0
 OneChain n t x = InFree n t x ⊎ InFile n t x

@@ -15,21 +15,32 @@ use Rattle.fat_node.specs.Entry.{Bytes}
 use Rattle.fat_node.specs.Node.{Run, nextAt}
 use Rattle.fat_node.proofs.Nodes.{le-or-lt}
 use Rattle.order.specs.First.{First}
+use Rattle.order.specs.Given.{Given}
+use Rattle.order.specs.declared.Answer.{Answer}
 use Rattle.order.specs.declared.Answer.the-variants as is
+use Rattle.order.proofs.Tests.{test-refused, tests-passed}
+use mir.Syntax.{w64}
+use mir.Val.{Fits}
+use Rattle.words.proofs.Laws as words
 use Rattle.fat_node.specs.Sizes.{blocks}
 use Rattle.fat_table.specs.Sound.{File}
 use Rattle.fat_table.specs.Chain.{total, sizeAt, chainAt}
 use Rattle.fat_table.specs.Steps.{first}
 use Rattle.fat_promises.specs.Blocks.{blocksOf, bytesAt, written}
-use Rattle.fat_promises.specs.Calls.{Carry, carryGives, carryRows, readDone, writeDone, sizeOf}
-use Rattle.fat_inner.specs.Inner.{Standing, Chain, ChainFrom, SeekSays, Least}
-use Rattle.fat_inner.specs.Stretches.{Data, CursorAt, StretchOf}
+use Rattle.fat_promises.specs.Calls.{Carry, carryGives, carryTests, MayCarry, carryRows, readDone, writeDone, sizeOf}
+use Rattle.fat_promises.proofs.May.{none-carry}
+use Rattle.fat_inner.specs.Volume.{Volume, Data}
+use Rattle.fat_inner.specs.inner.Chains.{Standing, Chain, ChainFrom, SeekSays, Least}
+use Rattle.fat_inner.specs.inner.Plans.{CarryPlanned}
+use Rattle.fat_inner.specs.declared.judge.CarryPlan.{CarryPlan}
+use Rattle.fat_inner.specs.declared.judge.CarryPlan.the-variants as carry-plan
+use Rattle.fat_inner.specs.inner.Stretches.{CursorAt, StretchOf}
 use Rattle.fat_inner.specs.declared.walk.Sought.{Sought}
 use Rattle.fat_inner.specs.declared.walk.Sought.the-variants.{Within, Past}
 use Rattle.fat_table.proofs.Unchanged.{total-append}
 use Rattle.fat_inner.proofs.Joins.{mid-size, mid-next, mid-standing, mid-pos, mid-within}
 use Rattle.fat_inner.proofs.Cases.{standing-size}
-use Rattle.fat_inner.proofs.Done.{inside-count, says-within, says-past}
+use Rattle.fat_inner.proofs.Found.{inside-count, file-from, says-within, says-past}
 use Rattle.fat_inner.proofs.Lists.{sets-append}
 use Rattle.fat_inner.proofs.Puts.{lent-back, sets-whole}
 use Rattle.fat_inner.proofs.InRow.{length-bytes, bytes-split, bytes-row, written-append, written-row, InRow, in-row}
@@ -336,30 +347,50 @@ passes-before size pos len h = ((λ e. omega (arith, h)), (λ e. let z : _≡_ {
 pub passes-after : (size pos len : ℕ) → pos ≤ size → Passes (ltb (size - pos) len) size pos len
 passes-after size pos len h = ((λ e. omega (arith, h, ltb-true (size - pos) len e)), (λ e. omega (arith, h, ltb-false (size - pos) len e)))
 
--- the calls ---------------------------------------------------------------------------------------------------------------
+-- the judge ---------------------------------------------------------------------------------------------------------------
 
-module _ (n : ℕ) (t : Bytes) (l b pos many : ℕ) (r : Bool) (s : (r ≡ true → File t n b) × (File t n b → r ≡ true)) (y : r ≡ true) (k : ℕ)
-    (e : k ≡ total (chainAt t n (b + 1))) (o : Bool) (w : (o ≡ true → k * l < pos + many) × (o ≡ false → pos + many ≤ k * l)) where
+pub size-fits : (n : ℕ) (t : Bytes) (l b k : ℕ) → Volume n t → words.Bytes t → l ≤ 65536 → File t n b → k ≡ total (chainAt t n (b + 1)) → Fits w64 (k * l)
+size-fits n t l b k v g h f e = omega (arith, few-bytes n l k (v .few) h (omega (arith, e, file-from n t v g b f .chain .sum)))
+
+module _ (n : ℕ) (t : Bytes) (l b pos many k : ℕ) (f : File t n b) (e : k ≡ total (chainAt t n (b + 1))) (o : Bool) (w : Passes o (k * l) pos many) where
   size-is : k * l ≡ sizeOf n t l b
   size-is = ap (λ (x : ℕ). x * l) (e ∙ ap (λ (i : ℕ). total (chainAt t n i)) (add-one b))
 
-  pub carry-room : o ≡ false → pos + many ≤ total (chainAt t n (b + 1)) * l
-  carry-room z = omega (arith, w .1 z, ap (λ (x : ℕ). x * l) e)
+  pub carry-past : o ≡ true → Given (carryTests n t l b pos many) is.OutOfBound
+  carry-past z = inr ((λ q. q f), inl (omega (arith, w .0 z, size-is), refl))
 
-  pub carry-past : (bytes : Bytes) (done : Carry) → o ≡ true → First (carryRows n t l b pos many bytes) done (carryGives is.OutOfBound bytes)
-  carry-past bytes done z = inr ((λ f. f (s .0 y)), inl (omega (arith, w .0 z, size-is), refl))
+  pub carry-within : o ≡ false → MayCarry n t l b pos many
+  carry-within z = record { file = f; enough = omega (arith, w .1 z, size-is) }
 
-  carry-done : (bytes : Bytes) (done : Carry) (u : Bytes) → o ≡ false → carryGives is.Done u ≡ done → First (carryRows n t l b pos many bytes) done (carryGives is.Done u)
-  carry-done bytes done u z q = inr ((λ f. f (s .0 y)), inr ((λ f. omega (arith, w .1 z, size-is, f)), q))
+-- the calls ---------------------------------------------------------------------------------------------------------------
 
-  pub read-done : (d buf u : Bytes) → o ≡ false → u ≡ bytesAt (length buf) d l (blocksOf (chainAt t n (b + 1))) pos
-      → First (carryRows n t l b pos many buf) (readDone n t d l b pos buf) (carryGives is.Done u)
-  read-done d buf u z q =
-      carry-done buf (readDone n t d l b pos buf) u z
-      (ap (carryGives is.Done) (q ∙ ap (λ (i : ℕ). bytesAt (length buf) d l (blocksOf (chainAt t n i)) pos) (add-one b)))
+module _ (n : ℕ) (t : Bytes) (l b pos many : ℕ) (r : CarryPlan) (s : CarryPlanned n t l b pos many r) where
+  pub carry-refused : (bytes : Bytes) (done : Carry) (a : Answer) → r ≡ carry-plan.Refused a → First (carryRows n t l b pos many bytes) done (carryGives a bytes)
+  carry-refused bytes done a e = test-refused (λ a. carryGives a bytes) done (carryTests n t l b pos many) a (subst (CarryPlanned n t l b pos many) e s)
 
-  pub write-done : (d buf u : Bytes) → o ≡ false → u ≡ written buf d l (blocksOf (chainAt t n (b + 1))) pos
-      → First (carryRows n t l b pos many d) (writeDone n t d l b pos buf) (carryGives is.Done u)
-  write-done d buf u z q =
-      carry-done d (writeDone n t d l b pos buf) u z
-      (ap (carryGives is.Done) (q ∙ ap (λ (i : ℕ). written buf d l (blocksOf (chainAt t n i)) pos) (add-one b)))
+  module _ (e : r ≡ carry-plan.Within) where
+    may : MayCarry n t l b pos many
+    may = subst (CarryPlanned n t l b pos many) e s
+
+    pub carry-file : File t n b
+    carry-file = may .file
+
+    pub carry-room : pos + many ≤ total (chainAt t n (b + 1)) * l
+    carry-room = omega (arith, may .enough, ap (λ (i : ℕ). total (chainAt t n i) * l) (add-one b))
+
+    done-as : (bytes : Bytes) (done : Carry) (o : Carry) → o ≡ done → First (carryRows n t l b pos many bytes) done o
+    done-as bytes done o q =
+        subst⁻¹ (λ (z : Carry). First (carryRows n t l b pos many bytes) done z) q
+        (tests-passed (λ a. carryGives a bytes) done (carryTests n t l b pos many) (none-carry n t b l pos many may))
+
+    pub read-done : (d buf u : Bytes) → u ≡ bytesAt (length buf) d l (blocksOf (chainAt t n (b + 1))) pos
+        → First (carryRows n t l b pos many buf) (readDone n t d l b pos buf) (carryGives is.Done u)
+    read-done d buf u q =
+        done-as buf (readDone n t d l b pos buf) (carryGives is.Done u)
+        (ap (carryGives is.Done) (q ∙ ap (λ (i : ℕ). bytesAt (length buf) d l (blocksOf (chainAt t n i)) pos) (add-one b)))
+
+    pub write-done : (d buf u : Bytes) → u ≡ written buf d l (blocksOf (chainAt t n (b + 1))) pos
+        → First (carryRows n t l b pos many d) (writeDone n t d l b pos buf) (carryGives is.Done u)
+    write-done d buf u q =
+        done-as d (writeDone n t d l b pos buf) (carryGives is.Done u)
+        (ap (carryGives is.Done) (q ∙ ap (λ (i : ℕ). written buf d l (blocksOf (chainAt t n i)) pos) (add-one b)))

@@ -9,7 +9,8 @@ use Rattle.fat_node.specs.Node.{run, NodeAt, prevAt, nextAt, setNode, setHead}
 use Rattle.fat_node.proofs.Nodes.{length-setNode}
 use Rattle.fat_table.specs.Chain.{sizeAt}
 use Rattle.fat_table.proofs.Sounds.{node-size}
-use Rattle.fat_inner.specs.Inner.{Standing, StandingAt, withPrev, joinAt, endAt, splitAt, cutAt}
+use Rattle.fat_inner.specs.inner.Chains.{Standing, StandingAt}
+use Rattle.fat_inner.specs.inner.Writes.{withPrev, joinAt, endAt, splitAt, cutAt}
 
 pub size-is : (t : Bytes) (n b s : ℕ) → NodeAt t n b s → s ≡ sizeAt t b
 size-is t n b s w = sym (node-size t n b s w)

@@ -31,7 +31,8 @@ use Rattle.fat_table.proofs.Layouts.{
 }
 use Rattle.fat_table.proofs.Writes.{cut-within, cut-between, lay-as, first-same}
 use Rattle.fat_table.proofs.Files.{Whole, seen, seen-file, bytes-lay}
-use Rattle.fat_inner.specs.Inner.{Chain, ChainFrom, joinAt, cutAt}
+use Rattle.fat_inner.specs.inner.Chains.{Chain, ChainFrom}
+use Rattle.fat_inner.specs.inner.Writes.{joinAt, cutAt}
 use Rattle.fat_inner.proofs.Over.{Begins, here, there, begins-right}
 use Rattle.fat_table.proofs.Unchanged.{total-append}
 use Rattle.fat_inner.proofs.Joins.{mid-size, end-relaid, split-relaid, join-lay, join-chain, join-over}

@@ -18,7 +18,8 @@ use Rattle.fat_table.proofs.Layouts.{hits-in, hits-most, covers-perm}
 use Rattle.fat_table.proofs.Chains.{pick, mem-perm, mem-hits}
 use Rattle.fat_table.proofs.Sounds.{node-size, run-node, node-run}
 use Rattle.fat_table.proofs.Files.{Whole, seen}
-use Rattle.fat_inner.specs.Inner.{Volume, Standing}
+use Rattle.fat_inner.specs.Volume.{Volume}
+use Rattle.fat_inner.specs.inner.Chains.{Standing}
 
 pub whole-of : (n : ℕ) (t : Bytes) → Volume n t → words.Bytes t → Whole n t
 whole-of n t v g = record { small = v .few; bytes = g; room = v .room; sound = v .sound }

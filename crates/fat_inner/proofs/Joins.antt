@@ -20,7 +20,8 @@ use Rattle.fat_table.proofs.Sounds.{holds-node}
 use Rattle.fat_table.proofs.Resizes.{last-inside}
 use Rattle.fat_table.proofs.Unchanged.{total-append}
 use Rattle.fat_table.proofs.Writes.{lastOf, relink, lay-after, lay-relink, keep-laid, laid-suffix}
-use Rattle.fat_inner.specs.Inner.{Standing, Chain, withPrev, joinAt, endAt, splitAt}
+use Rattle.fat_inner.specs.inner.Chains.{Standing, Chain}
+use Rattle.fat_inner.specs.inner.Writes.{withPrev, joinAt, endAt, splitAt}
 use Rattle.fat_inner.proofs.Over.{setNode-link, setNode-beside, Begins, relaid-over}
 
 -- the node x of a chain that stands: what is read of it

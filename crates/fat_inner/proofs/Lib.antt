@@ -4,8 +4,9 @@ pub mod Few
 pub mod Cases
 pub mod Walks
 pub mod Hops
-pub mod Done
-pub mod Resizes
+pub mod Found
+pub mod Judges
+pub mod Steps
 pub mod Lists
 pub mod Copied
 pub mod InRow

@@ -1,5 +1,5 @@
 -- The blocks of a chain written into a list.
-use mathlib.Core.Path.{_≡_, refl, sym, ap, subst, _∙_}
+use mathlib.Core.Path.{_≡_, refl, sym, ap, subst, subst⁻¹, _∙_}
 use mathlib.Core.List.{List, [], _∷_, _++_, append-assoc}
 use mathlib.Core.Logic.{inl, inr, ⊎-elim}
 use Prim.Native.Nat.{ℕ, zero, suc, _+_, _-_, _*_, _≤_, _<_}
@@ -7,18 +7,28 @@ use native.Mathlib.Omega.{arith}
 use native.Mathlib.Numerals.{add-one}
 use lib.ListN.{length, set, drop, length-set, length-append}
 use lib.Seq.{sets, length-sets, sets-eq}
-use Rattle.order.specs.First.{First}
+use Rattle.words.proofs.Laws as words
+use Rattle.order.specs.Given.{Given}
+use Rattle.order.specs.declared.Answer.{Answer}
 use Rattle.order.specs.declared.Answer.the-variants as is
+use Rattle.order.proofs.Tests.{test-refused, tests-passed}
 use Rattle.fat_node.specs.Entry.{Bytes}
 use Rattle.fat_node.proofs.Nodes.{le-or-lt}
 use Rattle.fat_table.specs.Sound.{File}
-use Rattle.fat_promises.specs.Calls.{listGives, listRows, listDone}
-use Rattle.fat_inner.proofs.Done.{inside-count}
+use Rattle.fat_promises.specs.Calls.{listGives, listTests, listRows, listDone, ListSound}
+use Rattle.fat_promises.proofs.May.{none-list}
+use Rattle.fat_inner.proofs.Found.{inside-count, file-from, says-within, says-past}
 use Rattle.fat_node.specs.Node.{Run, nextAt}
 use Rattle.fat_table.specs.Chain.{total, sizeAt, chainAt, fileAt}
 use Rattle.fat_table.specs.Steps.{first}
 use Rattle.fat_promises.specs.Blocks.{blocksFrom, blocksOf}
-use Rattle.fat_inner.specs.Inner.{Standing, Chain, ChainFrom, Inside, Beyond, Least}
+use Rattle.fat_inner.specs.Volume.{Volume}
+use Rattle.fat_inner.specs.inner.Chains.{Standing, Chain, SeekSays, Beyond, Least}
+use Rattle.fat_inner.specs.inner.Plans.{ListAt, ListPlanned}
+use Rattle.fat_inner.specs.declared.judge.ListPlan.{ListPlan}
+use Rattle.fat_inner.specs.declared.judge.ListPlan.the-variants as list-plan
+use Rattle.fat_inner.specs.declared.walk.Sought.{Sought}
+use Rattle.fat_inner.specs.declared.walk.Sought.the-variants.{Within, Past}
 use Rattle.fat_table.proofs.Unchanged.{total-append}
 use Rattle.fat_inner.proofs.Joins.{mid-size, mid-next, mid-standing, mid-pos, mid-within}
 use Rattle.fat_inner.proofs.Walks.{Named, named, ended}
@@ -144,35 +154,55 @@ listed-is c l h =
     sets-eq (blocksOf c) l 0 (omega (arith, e, h)) ∙ ap (λ (j : ℕ). blocksOf c ++ drop j l) e
 
 -- open list: what is sought past the list's room, or past the table's blocks
-module _ (n : ℕ) (t : Bytes) (b : ℕ) (list : List ℕ) (c : ChainFrom n t (b + 1)) (f : File t n b) (room : ℕ) (o : Least (length list) n room) where
+module _ (n : ℕ) (t : Bytes) (v : Volume n t) (g : words.Bytes t) (b : ℕ) (f : File t n b) (room most : ℕ) (o : Least room n most) (r : Sought)
+    (s : SeekSays (chainAt t n (b + 1)) (most + 1) r) where
   same : total (chainAt t n (b + 1)) ≡ total (fileAt n t b)
   same = ap (λ (i : ℕ). total (chainAt t n i)) (add-one b)
 
-  pub list-short : (x m : ℕ) → Inside (chainAt t n (b + 1)) (room + 1) x m → First (listRows n t b list) (listDone n t b list) (listGives is.ListTooShort 0 list)
-  list-short x m w =
-      let k : room + 1 ≤ total (chainAt t n (b + 1)) = inside-count n t (chainAt t n (b + 1)) (room + 1) x m (c .chain) w in
-      let l : length list < total (fileAt n t b) = ⊎-elim
+  chain : Chain n t (chainAt t n (b + 1))
+  chain = file-from n t v g b f .chain
+
+  pub list-short : (x m : ℕ) → r ≡ Within x m → Given (listTests n t b room) is.ListTooShort
+  list-short x m e =
+      let k : most + 1 ≤ total (chainAt t n (b + 1)) =
+      inside-count n t (chainAt t n (b + 1)) (most + 1) x m chain (says-within (chainAt t n (b + 1)) (most + 1) r x m s e) in
+      let l : room < total (fileAt n t b) = ⊎-elim
       (λ h. omega (arith, h, k, same))
-      (λ h. let z : ⊥ = omega (arith, o .one h, k, c .chain .sum) in absurd z)
-      (le-or-lt (length list) room) in
+      (λ h. let z : ⊥ = omega (arith, o .one h, k, chain .sum) in absurd z)
+      (le-or-lt room most) in
       inr ((λ z. z f), inl (l, refl))
 
-  pub list-room : (i m : ℕ) → Beyond (chainAt t n (b + 1)) (room + 1) i m → total (chainAt t n (b + 1)) ≤ length list
-  list-room i m w = omega (arith, w .sum, w .some, o .left)
+  module _ (i m : ℕ) (e : r ≡ Past i m) where
+    past : Beyond (chainAt t n (b + 1)) (most + 1) i m
+    past = says-past (chainAt t n (b + 1)) (most + 1) r i m s e
 
-  pub list-count : (i m : ℕ) → Beyond (chainAt t n (b + 1)) (room + 1) i m → (room + 1 - m ≡ total (fileAt n t b)) × (m ≤ room + 1)
-  list-count i m w = (omega (arith, w .sum, same), omega (arith, w .sum))
+    pub list-fits : m ≤ most + 1
+    list-fits = omega (arith, past .sum)
 
-  pub list-done : (i m : ℕ) (l : List ℕ) → Beyond (chainAt t n (b + 1)) (room + 1) i m → l ≡ sets list 0 (blocksOf (chainAt t n (b + 1)))
-      → First (listRows n t b list) (listDone n t b list) (listGives is.Done (room + 1 - m) l)
-  list-done i m l w e =
-      let h : total (chainAt t n (b + 1)) ≤ length list = list-room i m w in
-      let p : l ≡ blocksOf (fileAt n t b) ++ drop (total (fileAt n t b)) list =
-      e ∙ listed-is (chainAt t n (b + 1)) list h ∙ ap (λ (j : ℕ). blocksOf (chainAt t n j) ++ drop (total (chainAt t n j)) list) (add-one b) in
-      inr (
-        (λ z. z f),
-        inr (
-          (λ z. omega (arith, z, h, same)),
-          ap (λ (j : ℕ). listGives is.Done j l) (list-count i m w .0) ∙ ap (listGives is.Done (total (fileAt n t b))) p,
-        ),
-      )
+    pub list-at : ListAt n t b room (most + 1 - m)
+    list-at = record {
+      may = record { file = f; enough = omega (arith, past .sum, past .some, o .left, same) };
+      all = omega (arith, past .sum, same);
+    }
+
+module _ (n : ℕ) (t : Bytes) (b : ℕ) (list : List ℕ) (r : ListPlan) (s : ListPlanned n t b (length list) r) where
+  pub list-refused : (a : Answer) → r ≡ list-plan.Refused a → ListSound n t b list (listGives a 0 list)
+  list-refused a e = test-refused (λ a. listGives a 0 list) (listDone n t b list) (listTests n t b (length list)) a (subst (ListPlanned n t b (length list)) e s)
+
+  module _ (count : ℕ) (e : r ≡ list-plan.Listing count) where
+    list-as : ListAt n t b (length list) count
+    list-as = subst (ListPlanned n t b (length list)) e s
+
+    pub list-file : File t n b
+    list-file = list-as .may .file
+
+    pub list-room : total (chainAt t n (b + 1)) ≤ length list
+    list-room = omega (arith, list-as .may .enough, ap (λ (i : ℕ). total (chainAt t n i)) (add-one b))
+
+    pub list-done : (l : List ℕ) → l ≡ sets list 0 (blocksOf (chainAt t n (b + 1))) → ListSound n t b list (listGives is.Done count l)
+    list-done l p =
+        let q : l ≡ blocksOf (fileAt n t b) ++ drop (total (fileAt n t b)) list =
+        p ∙ listed-is (chainAt t n (b + 1)) list list-room ∙ ap (λ (j : ℕ). blocksOf (chainAt t n j) ++ drop (total (chainAt t n j)) list) (add-one b) in
+        subst⁻¹ (λ (z : List ℕ). ListSound n t b list (listGives is.Done count z)) q
+        (subst⁻¹ (λ (z : ℕ). ListSound n t b list (listGives is.Done z (blocksOf (fileAt n t b) ++ drop (total (fileAt n t b)) list))) (list-as .all)
+        (tests-passed (λ a. listGives a 0 list) (listDone n t b list) (listTests n t b (length list)) (none-list n t b (length list) (list-as .may))))

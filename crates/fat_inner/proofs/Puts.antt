@@ -7,7 +7,7 @@ use native.Mathlib.Nat.{mod-lt}
 use native.Mathlib.Omega.{arith}
 use lib.ListN.{length, take, drop, length-drop}
 use Rattle.fat_node.proofs.Nodes.{le-or-lt}
-use Rattle.fat_inner.specs.Inner.{Least}
+use Rattle.fat_inner.specs.inner.Chains.{Least}
 use Rattle.fat_inner.proofs.Lists.{sets-append}
 use lib.Seq.{sets, sets-eq, length-sets, drop-drop, drop-length, take-add, length-take-le, take-length}
 

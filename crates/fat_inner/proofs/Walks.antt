@@ -8,7 +8,7 @@ use Rattle.fat_node.specs.Entry.{Bytes}
 use Rattle.fat_node.specs.Node.{Run, nextAt}
 use Rattle.fat_table.specs.Chain.{total, sizeAt}
 use Rattle.fat_table.specs.Steps.{first}
-use Rattle.fat_inner.specs.Inner.{Standing, Chain, Inside, LastIs, none, node, Beyond}
+use Rattle.fat_inner.specs.inner.Chains.{Standing, Chain, Inside, LastIs, none, node, Beyond}
 use Rattle.fat_table.proofs.Unchanged.{total-append}
 use Rattle.fat_inner.proofs.Joins.{mid-size, mid-next, mid-standing, mid-pos}
 

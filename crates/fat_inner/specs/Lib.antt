@@ -1,2 +1,2 @@
-pub mod Inner
-pub mod Stretches
+pub mod Volume
+pub mod inner

@@ -3,20 +3,16 @@ ghost use mathlib.Core.Path.{_≡_};
 ghost use Prim.Native.Nat.{_+_, _*_, _≤_, _<_};
 ghost use lib.ListN.{length};
 ghost use lib.Seq.{sets};
-ghost use mathlib.Core.Bool.{true};
-ghost use Rattle.fat_table.specs.Chain.{total, sizeAt, chainAt};
-ghost use Rattle.fat_inner.specs.Inner.{Volume, Standing, ChainFrom};
-ghost use Rattle.order.specs.First.{First};
-ghost use Rattle.fat_promises.specs.Blocks.{blocksOf};
-ghost use mathlib.Core.Bool.{true, false};
 ghost use Rattle.fat_table.specs.Chain.{total, sizeAt, chainAt};
 ghost use Rattle.fat_promises.specs.Blocks.{blocksOf, bytesAt, written};
-ghost use Rattle.fat_inner.specs.Inner.{Volume, Standing, ChainFrom};
-ghost use Rattle.fat_inner.specs.Stretches.{Data, CursorAt, StretchOf};
-ghost use Rattle.fat_promises.specs.Calls.{carryGives, carryRows, readDone, writeDone};
+ghost use Rattle.fat_promises.specs.Calls.{carryGives, ReadSound, WriteSound};
+ghost use Rattle.fat_inner.specs.Volume.{Volume, Data};
+ghost use Rattle.fat_inner.specs.inner.Chains.{Standing, ChainFrom};
+ghost use Rattle.fat_inner.specs.inner.Stretches.{CursorAt, StretchOf};
+use crate::judge::CarryPlan;
+use crate::judge::judge_carry;
 use crate::step::Answered;
 use crate::walk::Sought;
-use crate::walk::is_file;
 use crate::walk::least;
 use crate::walk::seek;
 use crate::walk::size_at;
@@ -33,18 +29,6 @@ fn copy(dst: &mut [u8], src: &[u8])
     while i < len {
         dst[i] = src[i];
         i += 1;
-    }
-}
-
-// The number of blocks of the chain that index first starts.
-fn count_of(table: &[u8], n: usize, first: usize) -> usize
-    requires { ⌜ ChainFrom n (now table) first ⌝ }
-    ensures { λ r. ⌜ r ≡ total (chainAt (now (table .entry)) n first) ⌝ }
-{
-    let sought = seek(table, n, first, n + 1);
-    match sought {
-        Sought::Within { node: _, part: _ } => 0,
-        Sought::Past { last: _, part } => n + 1 - part,
     }
 }
 
@@ -176,16 +160,6 @@ fn store(
     }
 }
 
-// Whether so many bytes from pos on pass the end of a file of so many bytes. Nothing wraps, whatever the numbers.
-fn passes(size: usize, pos: usize, len: usize) -> bool
-    ensures { λ r. ⌜ (r ≡ true → size < pos + len) × (r ≡ false → pos + len ≤ size) ⌝ }
-{
-    if size < pos {
-        return true;
-    }
-    size - pos < len
-}
-
 // Reads bytes of the file at a block, on a sound table.
 pub fn read_sound(
     table: &[u8],
@@ -198,22 +172,17 @@ pub fn read_sound(
 ) -> Answered
     requires { ⌜ Volume n (now table) ⌝ }
     requires { ⌜ Data n (length (now «data»)) «block_len» ⌝ }
-    ensures { λ r. ⌜ First (carryRows n (now (table .entry)) «block_len» «first_block» pos (length (now (buf .entry))) (now (buf .entry))) (readDone n (now (table .entry)) (now («data» .entry)) «block_len» «first_block» pos (now (buf .entry))) (carryGives (r .answer) (now (buf .exit))) ⌝ }
+    ensures { λ r. ⌜ ReadSound n (now (table .entry)) (now («data» .entry)) «block_len» «first_block» pos (now (buf .entry)) (carryGives (r .answer) (now (buf .exit))) ⌝ }
 {
-    if !is_file(table, n, first_block) {
-        return Answered {
-            answer: Answer::NotAFile,
-        };
-    }
-    let size = count_of(table, n, first_block + 1) * block_len;
-    if passes(size, pos, buf.len()) {
-        return Answered {
-            answer: Answer::OutOfBound,
-        };
-    }
-    fetch(table, data, block_len, n, first_block + 1, pos, buf);
-    Answered {
-        answer: Answer::Done,
+    let plan = judge_carry(table, n, block_len, first_block, pos, buf.len());
+    match plan {
+        CarryPlan::Refused { answer } => Answered { answer },
+        CarryPlan::Within => {
+            fetch(table, data, block_len, n, first_block + 1, pos, buf);
+            Answered {
+                answer: Answer::Done,
+            }
+        }
     }
 }
 
@@ -229,21 +198,16 @@ pub fn write_sound(
 ) -> Answered
     requires { ⌜ Volume n (now table) ⌝ }
     requires { ⌜ Data n (length (now «data»)) «block_len» ⌝ }
-    ensures { λ r. ⌜ First (carryRows n (now (table .entry)) «block_len» «first_block» pos (length (now (buf .entry))) (now («data» .entry))) (writeDone n (now (table .entry)) (now («data» .entry)) «block_len» «first_block» pos (now (buf .entry))) (carryGives (r .answer) (now («data» .exit))) ⌝ }
+    ensures { λ r. ⌜ WriteSound n (now (table .entry)) (now («data» .entry)) «block_len» «first_block» pos (now (buf .entry)) (carryGives (r .answer) (now («data» .exit))) ⌝ }
 {
-    if !is_file(table, n, first_block) {
-        return Answered {
-            answer: Answer::NotAFile,
-        };
-    }
-    let size = count_of(table, n, first_block + 1) * block_len;
-    if passes(size, pos, buf.len()) {
-        return Answered {
-            answer: Answer::OutOfBound,
-        };
-    }
-    store(table, data, block_len, n, first_block + 1, pos, buf);
-    Answered {
-        answer: Answer::Done,
+    let plan = judge_carry(table, n, block_len, first_block, pos, buf.len());
+    match plan {
+        CarryPlan::Refused { answer } => Answered { answer },
+        CarryPlan::Within => {
+            store(table, data, block_len, n, first_block + 1, pos, buf);
+            Answered {
+                answer: Answer::Done,
+            }
+        }
     }
 }

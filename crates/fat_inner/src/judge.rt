@@ -1,52 +1,213 @@
-// What a change of a file would do, known before the first write.
-ghost use Prim.Native.Nat.{_+_, _≤_};
+// What a call will answer on a sound table, known before its first write, with what its step needs. Nothing is changed here.
+ghost use mathlib.Core.Path.{_≡_};
+ghost use mathlib.Core.Bool.{true, false};
+ghost use Prim.Native.Nat.{_+_, _≤_, _<_};
 ghost use Rattle.fat_table.specs.Sound.{File};
-ghost use Rattle.fat_inner.specs.Inner.{Volume, PlanSays};
-ghost use Rattle.fat_inner.specs.Inner.{Volume};
+ghost use Rattle.fat_inner.specs.Volume.{Volume};
+ghost use Rattle.fat_inner.specs.inner.Plans.{CreatePlanned, ResizePlanned, DeletePlanned, ListPlanned, CarryPlanned};
 use crate::walk::Sought;
+use crate::walk::count_of;
 use crate::walk::head_of;
 use crate::walk::is_end;
+use crate::walk::is_file;
 use crate::walk::last_of;
+use crate::walk::least;
 use crate::walk::seek;
+use order::Answer;
 
-// Where a resize cuts the file joined with the free chain, and the file's last node; or that it changes nothing; or that there is no space.
-pub enum Planned {
+// What a create will do: its file, of first block `first`, is the free chain cut after `part` blocks of the node at block `node`. Or its refusal.
+pub enum CreatePlan {
+    Refused {
+        answer: Answer,
+    },
     Cut {
+        first: usize,
+        node: usize,
+        part: usize,
+    },
+}
+
+// Judges a create of so many blocks: InvalidValue, NoSpace.
+pub fn judge_create(table: &[u8], n: usize, block_count: usize) -> CreatePlan
+    requires { ⌜ Volume n (now table) ⌝ }
+    ensures { λ r. ⌜ CreatePlanned n (now (table .entry)) «block_count» r ⌝ }
+{
+    if block_count == 0 {
+        return CreatePlan::Refused {
+            answer: Answer::InvalidValue,
+        };
+    }
+    let head = head_of(table);
+    let sought = seek(table, n, head, block_count);
+    let Sought::Within { node, part } = sought else {
+        return CreatePlan::Refused {
+            answer: Answer::NoSpace,
+        };
+    };
+    CreatePlan::Cut {
+        first: head - 1,
+        node,
+        part,
+    }
+}
+
+// What a resize will do to the file whose last node is at block `last`: nothing; or it ends after `part` blocks of the node at block `node`, which is its
+// own, or a free one. Or its refusal.
+pub enum ResizePlan {
+    Refused {
+        answer: Answer,
+    },
+    Same,
+    Shrink {
         last: usize,
         node: usize,
         part: usize,
     },
-    Same,
-    Full,
+    Grow {
+        last: usize,
+        node: usize,
+        part: usize,
+    },
 }
 
-// Plans a resize of the file at a block to so many blocks.
-pub fn plan(table: &[u8], n: usize, first_block: usize, block_count: usize) -> Planned
+// Judges a resize of a file to some blocks: NoSpace.
+fn judge_count(table: &[u8], n: usize, first_block: usize, block_count: usize) -> ResizePlan
     requires { ⌜ Volume n (now table) ⌝ }
     requires { ⌜ File (now table) n «first_block» ⌝ }
     requires { ⌜ 1 ≤ «block_count» ⌝ }
-    ensures { λ r. ⌜ PlanSays n (now (table .entry)) «first_block» «block_count» r ⌝ }
+    ensures { λ r. ⌜ ResizePlanned n (now (table .entry)) «first_block» «block_count» r ⌝ }
 {
     let sought = seek(table, n, first_block + 1, block_count);
     match sought {
         Sought::Within { node, part } => {
             if is_end(table, n, node, part) {
-                return Planned::Same;
+                return ResizePlan::Same;
             }
             let last = last_of(table, n, first_block + 1);
-            Planned::Cut { last, node, part }
+            ResizePlan::Shrink { last, node, part }
         }
         Sought::Past { last, part } => {
             let head = head_of(table);
             let more = seek(table, n, head, part);
             match more {
-                Sought::Within { node, part } => Planned::Cut {
+                Sought::Within { node, part } => ResizePlan::Grow {
                     last: last - 1,
                     node,
                     part,
                 },
-                Sought::Past { last: _, part: _ } => Planned::Full,
+                Sought::Past { last: _, part: _ } => ResizePlan::Refused {
+                    answer: Answer::NoSpace,
+                },
             }
         }
     }
+}
+
+// Judges a resize of the file at a block to so many blocks: NotAFile, InvalidValue, NoSpace.
+pub fn judge_resize(table: &[u8], n: usize, first_block: usize, block_count: usize) -> ResizePlan
+    requires { ⌜ Volume n (now table) ⌝ }
+    ensures { λ r. ⌜ ResizePlanned n (now (table .entry)) «first_block» «block_count» r ⌝ }
+{
+    if !is_file(table, n, first_block) {
+        return ResizePlan::Refused {
+            answer: Answer::NotAFile,
+        };
+    }
+    if block_count == 0 {
+        return ResizePlan::Refused {
+            answer: Answer::InvalidValue,
+        };
+    }
+    judge_count(table, n, first_block, block_count)
+}
+
+// What a delete will do: the free chain comes after the file's last node, at block `last`. Or its refusal.
+pub enum DeletePlan {
+    Refused { answer: Answer },
+    Join { last: usize },
+}
+
+// Judges a delete of the file at a block: NotAFile.
+pub fn judge_delete(table: &[u8], n: usize, first_block: usize) -> DeletePlan
+    requires { ⌜ Volume n (now table) ⌝ }
+    ensures { λ r. ⌜ DeletePlanned n (now (table .entry)) «first_block» r ⌝ }
+{
+    if !is_file(table, n, first_block) {
+        return DeletePlan::Refused {
+            answer: Answer::NotAFile,
+        };
+    }
+    let last = last_of(table, n, first_block + 1);
+    DeletePlan::Join { last }
+}
+
+// What an open list will do: list so many blocks. Or its refusal.
+pub enum ListPlan {
+    Refused { answer: Answer },
+    Listing { count: usize },
+}
+
+// Judges an open list of the file at a block, into a list of room places: NotAFile, ListTooShort.
+pub fn judge_list(table: &[u8], n: usize, first_block: usize, room: usize) -> ListPlan
+    requires { ⌜ Volume n (now table) ⌝ }
+    ensures { λ r. ⌜ ListPlanned n (now (table .entry)) «first_block» room r ⌝ }
+{
+    if !is_file(table, n, first_block) {
+        return ListPlan::Refused {
+            answer: Answer::NotAFile,
+        };
+    }
+    let most = least(room, n);
+    let sought = seek(table, n, first_block + 1, most + 1);
+    let Sought::Past { last: _, part } = sought else {
+        return ListPlan::Refused {
+            answer: Answer::ListTooShort,
+        };
+    };
+    ListPlan::Listing {
+        count: most + 1 - part,
+    }
+}
+
+// Whether so many bytes from pos on pass the end of a file of so many bytes. Nothing wraps, whatever the numbers.
+fn passes(size: usize, pos: usize, len: usize) -> bool
+    ensures { λ r. ⌜ (r ≡ true → size < pos + len) × (r ≡ false → pos + len ≤ size) ⌝ }
+{
+    if size < pos {
+        return true;
+    }
+    size - pos < len
+}
+
+// Whether a read or a write lies within the file. Or its refusal.
+pub enum CarryPlan {
+    Refused { answer: Answer },
+    Within,
+}
+
+// Judges a read or write of so many bytes of the file at a block, from byte pos on: NotAFile, OutOfBound.
+pub fn judge_carry(
+    table: &[u8],
+    n: usize,
+    block_len: usize,
+    first_block: usize,
+    pos: usize,
+    len: usize,
+) -> CarryPlan
+    requires { ⌜ Volume n (now table) ⌝ }
+    requires { ⌜ «block_len» ≤ 65536 ⌝ }
+    ensures { λ r. ⌜ CarryPlanned n (now (table .entry)) «block_len» «first_block» pos len r ⌝ }
+{
+    if !is_file(table, n, first_block) {
+        return CarryPlan::Refused {
+            answer: Answer::NotAFile,
+        };
+    }
+    let size = count_of(table, n, first_block + 1) * block_len;
+    if passes(size, pos, len) {
+        return CarryPlan::Refused {
+            answer: Answer::OutOfBound,
+        };
+    }
+    CarryPlan::Within
 }

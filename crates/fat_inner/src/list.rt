@@ -4,17 +4,12 @@ ghost use Prim.Native.Nat.{_+_, _≤_, _<_};
 ghost use lib.ListN.{length};
 ghost use lib.Seq.{sets};
 ghost use Rattle.fat_table.specs.Chain.{total, chainAt};
-ghost use Rattle.fat_inner.specs.Inner.{Volume, ChainFrom};
-ghost use Rattle.order.specs.First.{First};
-ghost use Rattle.fat_promises.specs.Calls.{listGives, listRows, listDone};
 ghost use Rattle.fat_promises.specs.Blocks.{blocksFrom, blocksOf};
-ghost use Rattle.fat_table.specs.Chain.{total, chainAt};
-ghost use Rattle.fat_promises.specs.Blocks.{blocksOf};
-ghost use Rattle.fat_inner.specs.Inner.{Volume, ChainFrom};
-use crate::walk::Sought;
-use crate::walk::is_file;
-use crate::walk::least;
-use crate::walk::seek;
+ghost use Rattle.fat_promises.specs.Calls.{listGives, ListSound};
+ghost use Rattle.fat_inner.specs.Volume.{Volume};
+ghost use Rattle.fat_inner.specs.inner.Chains.{ChainFrom};
+use crate::judge::ListPlan;
+use crate::judge::judge_list;
 use crate::walk::size_at;
 use order::Answer;
 
@@ -57,25 +52,17 @@ pub struct Listed {
 // Lists the blocks of the file at a block, on a sound table, in chain order.
 pub fn open_list_sound(table: &[u8], n: usize, first_block: usize, list: &mut [u32]) -> Listed
     requires { ⌜ Volume n (now table) ⌝ }
-    ensures { λ r. ⌜ First (listRows n (now (table .entry)) «first_block» (now (list .entry))) (listDone n (now (table .entry)) «first_block» (now (list .entry))) (listGives (r .answer) (r .count) (now (list .exit))) ⌝ }
+    ensures { λ r. ⌜ ListSound n (now (table .entry)) «first_block» (now (list .entry)) (listGives (r .answer) (r .count) (now (list .exit))) ⌝ }
 {
-    if !is_file(table, n, first_block) {
-        return Listed {
-            answer: Answer::NotAFile,
-            count: 0,
-        };
-    }
-    let room = least(list.len(), n);
-    let sought = seek(table, n, first_block + 1, room + 1);
-    let Sought::Past { last: _, part } = sought else {
-        return Listed {
-            answer: Answer::ListTooShort,
-            count: 0,
-        };
-    };
-    number_chain(table, n, first_block + 1, list);
-    Listed {
-        answer: Answer::Done,
-        count: room + 1 - part,
+    let plan = judge_list(table, n, first_block, list.len());
+    match plan {
+        ListPlan::Refused { answer } => Listed { answer, count: 0 },
+        ListPlan::Listing { count } => {
+            number_chain(table, n, first_block + 1, list);
+            Listed {
+                answer: Answer::Done,
+                count,
+            }
+        }
     }
 }

@@ -1,21 +1,22 @@
-// The calls that change a sound table: create, resize and delete, each as few writes.
+// The calls that change a sound table: create, resize and delete, each as few writes, once it is judged.
 ghost use mathlib.Core.Path.{_≡_};
-ghost use Prim.Native.Nat.{_+_, _≤_, _<_};
+ghost use Prim.Native.Nat.{ℕ, _+_, _≤_, _<_};
 ghost use Rattle.fat_node.specs.Node.{nextAt};
-ghost use Rattle.fat_table.specs.Chain.{sizeAt};
-ghost use Rattle.fat_inner.specs.Inner.{Volume, Standing, StandingAt, withPrev, joinAt, endAt, splitAt, cutAt};
-ghost use Rattle.order.specs.First.{First};
-ghost use Rattle.fat_promises.specs.Calls.{createGives, createRows, createDone, changeGives, deleteRows, deleteDone, resizeRows, resizeDone};
-ghost use Rattle.fat_table.specs.Chain.{sizeAt};
-ghost use Rattle.fat_inner.specs.Inner.{Volume, Standing};
-use crate::judge::Planned;
-use crate::judge::plan;
-use crate::walk::Sought;
+ghost use Rattle.fat_table.specs.Chain.{sizeAt, freeAt};
+ghost use Rattle.fat_table.specs.Steps.{created, resized, deleted};
+ghost use Rattle.fat_promises.specs.Calls.{createGives, CreateSound, changeGives, ResizeSound, DeleteSound};
+ghost use Rattle.fat_inner.specs.Volume.{Volume};
+ghost use Rattle.fat_inner.specs.inner.Chains.{Standing, StandingAt, Inside};
+ghost use Rattle.fat_inner.specs.inner.Writes.{withPrev, joinAt, endAt, splitAt, cutAt};
+ghost use Rattle.fat_inner.specs.inner.Plans.{TakeAt, Recut, RecutAt, DeleteAt};
+use crate::judge::CreatePlan;
+use crate::judge::DeletePlan;
+use crate::judge::ResizePlan;
+use crate::judge::judge_create;
+use crate::judge::judge_delete;
+use crate::judge::judge_resize;
 use crate::walk::head_of;
-use crate::walk::is_file;
-use crate::walk::last_of;
 use crate::walk::node_at;
-use crate::walk::seek;
 use crate::walk::size_at;
 use fat_node::Node;
 use order::Answer;
@@ -134,28 +135,40 @@ fn cut(table: &mut [u8], n: usize, b: usize, m: usize)
     }
 }
 
-// The answer of a call that answers its number alone.
-pub struct Answered {
-    pub answer: Answer,
+// Takes the first blocks of the free chain, up to part blocks of the node at block b, as a file of their own.
+pub fn create_step(table: &mut [u8], n: usize, b: usize, part: usize)
+    requires { ⌜ Volume n (now table) ⌝ }
+    requires { ⌜ TakeAt n (now table) b part ⌝ }
+    ensures { λ _. ⌜ ((c : ℕ) → Inside (freeAt n (now (table .entry))) c b part → now (table .exit) ≡ created n (now (table .entry)) c) ⌝ }
+{
+    cut(table, n, b, part);
 }
 
-// Deletes the file at a block, on a sound table: all its nodes go before the free front, in their order.
-pub fn delete_sound(table: &mut [u8], n: usize, first_block: usize) -> Answered
+// Lets a file whose last node is at block last end after part blocks of the node at block b, its own or a free one.
+pub fn resize_step(table: &mut [u8], n: usize, last: usize, b: usize, part: usize)
     requires { ⌜ Volume n (now table) ⌝ }
-    ensures { λ r. ⌜ First (deleteRows n (now (table .entry)) «first_block») (deleteDone n (now (table .entry)) «first_block») (changeGives (r .answer) (now (table .exit))) ⌝ }
+    requires { ⌜ Recut n (now table) last b part ⌝ }
+    ensures { λ _. ⌜ ((f c : ℕ) → RecutAt n (now (table .entry)) f c last b part → now (table .exit) ≡ resized n (now (table .entry)) f c) ⌝ }
 {
-    if !is_file(table, n, first_block) {
-        return Answered {
-            answer: Answer::NotAFile,
-        };
-    }
-    let last = last_of(table, n, first_block + 1);
+    let head = head_of(table);
+    join(table, n, last, head);
+    cut(table, n, b, part);
+}
+
+// Puts the nodes of the file at a block, whose last is at block last, before the free front.
+pub fn delete_step(table: &mut [u8], n: usize, first_block: usize, last: usize)
+    requires { ⌜ Volume n (now table) ⌝ }
+    requires { ⌜ DeleteAt n (now table) «first_block» last ⌝ }
+    ensures { λ _. ⌜ now (table .exit) ≡ deleted n (now (table .entry)) «first_block» ⌝ }
+{
     let head = head_of(table);
     join(table, n, last, head);
     fat_node::set_head(table, first_block + 1);
-    Answered {
-        answer: Answer::Done,
-    }
+}
+
+// The answer of a call that answers its number alone.
+pub struct Answered {
+    pub answer: Answer,
 }
 
 // The answer of create: the first block of the file that it made.
@@ -167,56 +180,57 @@ pub struct Created {
 // Creates a file of so many blocks, on a sound table: the first of the free chain.
 pub fn create_sound(table: &mut [u8], n: usize, block_count: usize) -> Created
     requires { ⌜ Volume n (now table) ⌝ }
-    ensures { λ r. ⌜ First (createRows n (now (table .entry)) «block_count») (createDone n (now (table .entry)) «block_count») (createGives (r .answer) (r .first) (now (table .exit))) ⌝ }
+    ensures { λ r. ⌜ CreateSound n (now (table .entry)) «block_count» (createGives (r .answer) (r .first) (now (table .exit))) ⌝ }
 {
-    if block_count == 0 {
-        return Created {
-            answer: Answer::InvalidValue,
-            first: 0,
-        };
-    }
-    let head = head_of(table);
-    let sought = seek(table, n, head, block_count);
-    let Sought::Within { node, part } = sought else {
-        return Created {
-            answer: Answer::NoSpace,
-            first: 0,
-        };
-    };
-    cut(table, n, node, part);
-    Created {
-        answer: Answer::Done,
-        first: head - 1,
+    let plan = judge_create(table, n, block_count);
+    match plan {
+        CreatePlan::Refused { answer } => Created { answer, first: 0 },
+        CreatePlan::Cut { first, node, part } => {
+            create_step(table, n, node, part);
+            Created {
+                answer: Answer::Done,
+                first,
+            }
+        }
     }
 }
 
 // Resizes the file at a block to so many blocks, on a sound table: the file and the free chain after it, cut where the file is to end.
 pub fn resize_sound(table: &mut [u8], n: usize, first_block: usize, block_count: usize) -> Answered
     requires { ⌜ Volume n (now table) ⌝ }
-    ensures { λ r. ⌜ First (resizeRows n (now (table .entry)) «first_block» «block_count») (resizeDone n (now (table .entry)) «first_block» «block_count») (changeGives (r .answer) (now (table .exit))) ⌝ }
+    ensures { λ r. ⌜ ResizeSound n (now (table .entry)) «first_block» «block_count» (changeGives (r .answer) (now (table .exit))) ⌝ }
 {
-    if !is_file(table, n, first_block) {
-        return Answered {
-            answer: Answer::NotAFile,
-        };
-    }
-    if block_count == 0 {
-        return Answered {
-            answer: Answer::InvalidValue,
-        };
-    }
-    let planned = plan(table, n, first_block, block_count);
-    match planned {
-        Planned::Full => Answered {
-            answer: Answer::NoSpace,
-        },
-        Planned::Same => Answered {
+    let plan = judge_resize(table, n, first_block, block_count);
+    match plan {
+        ResizePlan::Refused { answer } => Answered { answer },
+        ResizePlan::Same => Answered {
             answer: Answer::Done,
         },
-        Planned::Cut { last, node, part } => {
-            let head = head_of(table);
-            join(table, n, last, head);
-            cut(table, n, node, part);
+        ResizePlan::Shrink { last, node, part } => {
+            resize_step(table, n, last, node, part);
+            Answered {
+                answer: Answer::Done,
+            }
+        }
+        ResizePlan::Grow { last, node, part } => {
+            resize_step(table, n, last, node, part);
+            Answered {
+                answer: Answer::Done,
+            }
+        }
+    }
+}
+
+// Deletes the file at a block, on a sound table: all its nodes go before the free front, in their order.
+pub fn delete_sound(table: &mut [u8], n: usize, first_block: usize) -> Answered
+    requires { ⌜ Volume n (now table) ⌝ }
+    ensures { λ r. ⌜ DeleteSound n (now (table .entry)) «first_block» (changeGives (r .answer) (now (table .exit))) ⌝ }
+{
+    let plan = judge_delete(table, n, first_block);
+    match plan {
+        DeletePlan::Refused { answer } => Answered { answer },
+        DeletePlan::Join { last } => {
+            delete_step(table, n, first_block, last);
             Answered {
                 answer: Answer::Done,
             }

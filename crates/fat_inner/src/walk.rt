@@ -1,15 +1,13 @@
 // Going along chains of a sound table: nodes, files, and where a block of a chain lies.
 ghost use mathlib.Core.Path.{_≡_};
+ghost use mathlib.Core.Bool.{true};
 ghost use Prim.Native.Nat.{_+_, _≤_, _<_};
 ghost use lib.ListN.{length};
 ghost use Rattle.fat_node.specs.Node.{prevAt, nextAt};
-ghost use mathlib.Core.Bool.{true};
 ghost use Rattle.fat_table.specs.Sound.{IsNode, File};
-ghost use Rattle.fat_table.specs.Chain.{sizeAt, headAt, chainAt};
-ghost use Rattle.fat_inner.specs.Inner.{Volume, Standing, ChainFrom, SeekSays, LastAt, Least};
-ghost use mathlib.Core.Bool.{true, false};
-ghost use Rattle.fat_table.specs.Chain.{sizeAt, chainAt};
-ghost use Rattle.fat_inner.specs.Inner.{Volume, Standing, ChainFrom};
+ghost use Rattle.fat_table.specs.Chain.{total, sizeAt, headAt, chainAt};
+ghost use Rattle.fat_inner.specs.Volume.{Volume};
+ghost use Rattle.fat_inner.specs.inner.Chains.{Standing, ChainFrom, SeekSays, LastAt, Least};
 use fat_node::Node;
 
 // The size of the node that stands at block b.
@@ -109,6 +107,18 @@ pub fn last_of(table: &[u8], n: usize, first: usize) -> usize
     match sought {
         Sought::Within { node, part: _ } => node,
         Sought::Past { last, part: _ } => last - 1,
+    }
+}
+
+// The number of blocks of the chain that index first starts.
+pub fn count_of(table: &[u8], n: usize, first: usize) -> usize
+    requires { ⌜ ChainFrom n (now table) first ⌝ }
+    ensures { λ r. ⌜ r ≡ total (chainAt (now (table .entry)) n first) ⌝ }
+{
+    let sought = seek(table, n, first, n + 1);
+    match sought {
+        Sought::Within { node: _, part: _ } => 0,
+        Sought::Past { last: _, part } => n + 1 - part,
     }
 }
 

@@ -9,8 +9,8 @@ use borrow.Author.Tests.{not-true, not-false, leb-true, le-leb}
 use Rattle.words.specs.Word.{putWord}
 use Rattle.fat_node.specs.Entry.{Bytes, entry, put, top, uAt, vAt}
 use Rattle.fat_node.specs.Node.{run, NodeAt, HeldBy, prevAt, nextAt, prevHalf, startEntry, spanEntry, setNode, setHead}
-use Rattle.fat_node.specs.Reads.{Reads}
-use Rattle.fat_node.specs.Ends.{Ends}
+use Rattle.fat_node.specs.inner.Reads.{Reads}
+use Rattle.fat_node.specs.inner.Ends.{Ends}
 use Rattle.fat_node.specs.declared.Node.{Node}
 use Rattle.fat_node.specs.declared.NodeRead.{NodeRead}
 use Rattle.fat_node.specs.declared.NodeRead.the-variants.{Found, Broken}

@@ -10,18 +10,20 @@ pub record Run : Type 0 where
   pub start : ℕ
   pub size : ℕ
 
-abbrev pub run : ℕ → ℕ → Run
+-- the same, by the numbers
+abbrev pub run : (b s : ℕ) → Run
 run b s = record { start = b; size = s }
 
--- the index of the previous node of a node that starts at block b, and of the next
-abbrev pub prevAt : Bytes → ℕ → ℕ
+-- the index of the previous node of a node that starts at block b
+abbrev pub prevAt : (t : Bytes) (b : ℕ) → ℕ
 prevAt t b = uAt t (b + 1) % top
 
-abbrev pub nextAt : Bytes → ℕ → ℕ
+-- the index of its next
+abbrev pub nextAt : (t : Bytes) (b : ℕ) → ℕ
 nextAt t b = vAt t (b + 1) % top
 
 -- entry e is held by the node of s blocks from b: u = (b + 1, flag 1), v = (b + s, flag 0)
-abbrev pub HeldBy : Bytes → ℕ → ℕ → ℕ → Type 0
+abbrev pub HeldBy : (t : Bytes) (e b s : ℕ) → Type 0
 HeldBy t e b s = (uAt t e ≡ top + (b + 1)) × (vAt t e ≡ b + s)
 
 -- a node of s blocks stands at block b, of n
@@ -39,11 +41,11 @@ unfoldable pub prevHalf : ℕ → ℕ
 prevHalf p = cond (eqb p 0) top p
 
 -- the half that holds a node's next: the flag is set exactly when the size is not 1
-unfoldable pub nextHalf : ℕ → ℕ → ℕ
+unfoldable pub nextHalf : (s q : ℕ) → ℕ
 nextHalf s q = cond (eqb s 1) q (top + q)
 
 -- a node's start entry, with the indexes of its previous and its next
-abbrev pub startEntry : Run → ℕ → ℕ → Entry
+abbrev pub startEntry : (r : Run) (p q : ℕ) → Entry
 startEntry r p q = entry (prevHalf p) (nextHalf (r .size) q)
 
 -- its second entry and its last, if it has 2 blocks or more
@@ -51,7 +53,7 @@ abbrev pub spanEntry : Run → Entry
 spanEntry r = entry (top + (r .start + 1)) (r .start + r .size)
 
 -- the table with a node's one, two or three entries written
-unfoldable pub setNode : Bytes → Run → ℕ → ℕ → Bytes
+unfoldable pub setNode : (t : Bytes) (r : Run) (p q : ℕ) → Bytes
 setNode t r p q =
     cond (eqb (r .size) 1)
     (put t (r .start + 1) (startEntry r p q))
@@ -62,5 +64,5 @@ abbrev pub HeadForm : Bytes → Type 0
 HeadForm t = (uAt t 0 ≡ 0) × (vAt t 0 < top)
 
 -- the table with the head written: the index of the first free node
-unfoldable pub setHead : Bytes → ℕ → Bytes
+unfoldable pub setHead : (t : Bytes) (i : ℕ) → Bytes
 setHead t i = put t 0 (entry 0 i)

@@ -10,8 +10,8 @@ ghost use Rattle.fat_node.specs.Entry.{entry, put, top, uAt, vAt};
 ghost use Rattle.fat_node.specs.Node.{run, prevAt, nextAt, NodeAt, prevHalf, setNode, setHead};
 ghost use Rattle.fat_node.specs.Sizes.{blocks, Misfit, Outside};
 ghost use Rattle.fat_node.specs.Format.{FormatPromise};
-ghost use Rattle.fat_node.specs.Reads.{Reads, HeadReads};
-ghost use Rattle.fat_node.specs.Ends.{Ends};
+ghost use Rattle.fat_node.specs.inner.Reads.{Reads, HeadReads};
+ghost use Rattle.fat_node.specs.inner.Ends.{Ends};
 
 // A run of size blocks, with the indexes of the previous node and of the next: block numbers plus 1, or 0 for none.
 pub struct Node {

@@ -42,6 +42,7 @@ use Rattle.fat_promises.specs.Calls.{
 -- whatever its own rows are
 pub one-promise : {A : Type 0} (refuse : Answer → A) (t : Bytes) (d l : ℕ) (work : List ℕ) (own : List (Row A)) (done : A) (o o′ : Beside A)
     → Promise refuse t d l work own done o → Promise refuse t d l work own done o′ → o ≡ o′
+unfolding Promise
 one-promise refuse t d l work own done o o′ p q =
     one (blockGate (λ a w. beside (refuse a) w) t d l work ++ within (cleared (blocks t) work) own) (beside done (cleared (blocks t) work)) o o′ p q
 

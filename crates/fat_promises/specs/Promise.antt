@@ -12,5 +12,5 @@ use Rattle.fat_test.specs.Gate.{blockGate}
 
 -- the whole promise over a table t, data of d bytes, blocks of l bytes and a work list: refuse a is what the call gives with the answer a, own its own
 -- rows, done what it gives where none applies
-abbrev pub Promise : {A : Type 0} → (Answer → A) → Bytes → ℕ → ℕ → List ℕ → List (Row A) → A → Beside A → Type 0
+unfoldable pub Promise : {A : Type 0} (refuse : Answer → A) (t : Bytes) (d l : ℕ) (work : List ℕ) (own : List (Row A)) (done : A) (o : Beside A) → Type 0
 Promise refuse t d l work own done o = Promised (blockGate (λ a w. beside (refuse a) w) t d l work) (cleared (blocks t) work) own done o

@@ -29,5 +29,6 @@ abbrev pub startsOf : Bytes → List Run → ℕ
 startsOf t [] = 0
 startsOf t (r ∷ l) = starts t (r .start) + startsOf t l
 
+-- the number of chains other than the free one
 abbrev pub otherChains : ℕ → Bytes → ℕ
 otherChains n t = startsOf t (nodes n t)

@@ -20,6 +20,7 @@ abbrev pub Laid : Bytes → List Run → ℕ → Type 0
 Laid t [] p = Unit {0}
 Laid t (r ∷ l) p = HoldsNode t r p (first l) × Laid t l (suc (r .start))
 
+-- the same of each of some chains
 abbrev pub AllLaid : Bytes → List (List Run) → Type 0
 AllLaid t [] = Unit {0}
 AllLaid t (f ∷ fs) = Laid t f 0 × AllLaid t fs

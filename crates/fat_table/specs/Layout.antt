@@ -12,6 +12,7 @@ pub record Layout : Type 0 where
   pub free : List Run
   pub files : List (List Run)
 
+-- the same, by its parts
 abbrev pub layout : List Run → List (List Run) → Layout
 layout free files = record { free = free; files = files }
 

@@ -9,6 +9,7 @@ pub data Starts (t : Bytes) (n : ℕ) : ℕ → Type 0 where
   begin : Starts t n 0
   after : {b s c : ℕ} → Starts t n b → NodeAt t n b s → c ≡ b + s → Starts t n c
 
+-- a node is due at block b, of n
 abbrev pub IsNode : Bytes → ℕ → ℕ → Type 0
 IsNode t n b = Starts t n b × (b < n)
 
@@ -28,6 +29,7 @@ pub record Reached (t : Bytes) (n j : ℕ) : Type 0 where
   pub first : prevAt t start ≡ 0
   pub path : Path (nextAt t) start j
 
+-- a table of n blocks is sound
 pub record Sound (t : Bytes) (n : ℕ) : Type 0 where
   -- the head has its form
   pub head : HeadForm t

@@ -13,17 +13,17 @@ use Rattle.fat_table.specs.Sound.{Sound}
 use Rattle.fat_node.specs.Sizes.{blocks, Misfit, Outside}
 
 -- the row of soundness
-abbrev pub unsound : Bytes → List (Row Answer)
+abbrev pub unsound : (t : Bytes) → List (Row Answer)
 unsound t = row (Sound t (blocks t) → ⊥) BrokenFat ∷ []
 
 -- of the test, which takes the table alone; refuse a w is what the call gives with the answer a and the work list w
-abbrev pub testGate : {A : Type 0} → (Answer → List ℕ → A) → Bytes → List ℕ → List (Row A)
+abbrev pub testGate : {A : Type 0} (refuse : Answer → List ℕ → A) (t : Bytes) (work : List ℕ) → List (Row A)
 testGate refuse t work =
     gate refuse (Misfit t) (Outside t) (length work < blocks t) (unsound t) (blocks t) work
 
 -- of every call that takes data also: d is the length of the data, l the block length. All of row 1 comes before any of row 2, and n x l is a number
 -- with no bound.
-abbrev pub blockGate : {A : Type 0} → (Answer → List ℕ → A) → Bytes → ℕ → ℕ → List ℕ → List (Row A)
+abbrev pub blockGate : {A : Type 0} (refuse : Answer → List ℕ → A) (t : Bytes) (d l : ℕ) (work : List ℕ) → List (Row A)
 blockGate refuse t d l work =
     gate refuse
     (Misfit t ⊎ (d ≡ blocks t * l → ⊥))

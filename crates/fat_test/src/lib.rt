@@ -10,7 +10,8 @@ ghost use Rattle.order.specs.Gate.{cleared};
 ghost use Rattle.order.specs.declared.Answer.the-variants.{Done};
 ghost use Rattle.fat_node.specs.Sizes.{blocks, Misfit, Outside};
 ghost use Rattle.fat_ends.specs.Promise.{Judged};
-ghost use Rattle.fat_test.specs.Promise.{tested, TestPromise, GateOf};
+ghost use Rattle.fat_test.specs.Promise.{tested, TestPromise};
+ghost use Rattle.fat_test.specs.inner.Gated.{GateOf};
 
 // The test's answer: of a sound table its free blocks and the number of its other chains, of any other table 0 and 0.
 pub struct Tested {

@@ -1,8 +1,7 @@
 // The inner calls on the block table, for a side that has tested its table once and keeps it sound. Each requires what the test tells, and tests nothing.
 ghost use lib.ListN.{length};
 ghost use Rattle.order.specs.First.{First};
-ghost use Rattle.fat_inner.specs.Inner.{Volume};
-ghost use Rattle.fat_inner.specs.Stretches.{Data};
+ghost use Rattle.fat_inner.specs.Volume.{Volume, Data};
 ghost use Rattle.fat_promises.specs.Calls.{createRows, createDone, createGives, resizeRows, resizeDone, deleteRows, deleteDone, changeGives, listRows, listDone, listGives, carryRows, readDone, writeDone, carryGives};
 ghost use Rattle.mukthiban.specs.Export.{Exported};
 use crate::Created;

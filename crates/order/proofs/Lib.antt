@@ -1,3 +1,4 @@
 pub mod One
 pub mod Gate
 pub mod Beside
+pub mod Tests

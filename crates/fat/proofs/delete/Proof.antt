@@ -1,7 +1,4 @@
-use native.Mathlib.Omega.{arith}
-use Rattle.fat_node.specs.Sizes.{blocks}
-use Rattle.fat_promises.specs.Calls.{changeGives, deleteRows, deleteDone}
-use Rattle.fat.proofs.Public.{shut, passed, open-eight, open-volume, says-open, says-refused}
+use Rattle.fat.proofs.Public.{call-ready, call-refused, delete-passed}
 use borrow.Author.Needs.{needs}
 use Rattle.fat.proofs.delete.Statement.{statement}
 use Rattle.fat.proofs.delete.Tie as tie
@@ -15,13 +12,11 @@ enum-known-gated c = search needs
 enum-told : tie.Need-enum-told
 enum-told c = search needs
 
-sub-n : tie.Need-sub-n
-sub-n c = omega (arith, open-eight _ _ _ _ _ _ _ (says-open _ _ _ _ _ _ _ _ (c .before .before .before .before .gate .ensures) (c .enum-told .given .1)))
+blocks-requires : tie.Need-blocks-requires
+blocks-requires c κs = search needs
 
 delete-sound-requires : tie.Need-delete-sound-requires
-delete-sound-requires c κs =
-    let at-gate = c .before .before .before .before .before .gate in
-    open-volume _ _ _ _ _ _ _ (says-open _ _ _ _ _ _ _ _ (at-gate .ensures) (c .before .enum-told .given .1))
+delete-sound-requires c κs = search (call-ready)
 
 same-length : tie.Need-same-length
 same-length c = search needs
@@ -30,13 +25,7 @@ same-length-2 : tie.Need-same-length-2
 same-length-2 c = search needs
 
 returns : tie.Need-returns
-returns c =
-    let args = c .before .before .before .before .before .before .before .before .before .before .before .args in
-    let at-gate = c .before .before .before .before .before .gate in
-    shut (λ a. changeGives a (args .table .now)) _ _ _ _
-    (deleteRows (blocks (args .table .now)) (args .table .now) (args .first-block))
-    (deleteDone (blocks (args .table .now)) (args .table .now) (args .first-block)) _ _
-    (says-refused _ _ _ _ _ _ _ (at-gate .ensures) (c .before .gated .given .1))
+returns c = search (call-refused)
 
 same-length-3 : tie.Need-same-length-3
 same-length-3 c = search needs
@@ -45,14 +34,7 @@ same-length-4 : tie.Need-same-length-4
 same-length-4 c = search needs
 
 returns-2 : tie.Need-returns-2
-returns-2 c =
-    let args = c .before .before .before .before .before .before .before .before .before .before .before .before .before .before .args in
-    let at-gate = c .before .before .before .before .before .before .before .before .gate in
-    passed (λ a. changeGives a (args .table .now)) _ _ _ _
-    (deleteRows (blocks (args .table .now)) (args .table .now) (args .first-block))
-    (deleteDone (blocks (args .table .now)) (args .table .now) (args .first-block)) _ _ _ _
-    (says-open _ _ _ _ _ _ _ _ (at-gate .ensures) (c .before .before .before .before .enum-told .given .1))
-    (c .before .before .delete-sound .ensures)
+returns-2 c = search (delete-passed)
 
 pub delete-spec : {M : Type 1} → statement M
 delete-spec =
@@ -61,7 +43,7 @@ delete-spec =
     gate-requires
     enum-known-gated
     enum-told
-    sub-n
+    blocks-requires
     delete-sound-requires
     same-length
     same-length-2

@@ -1,7 +1,4 @@
-use native.Mathlib.Omega.{arith}
-use Rattle.fat_node.specs.Sizes.{blocks}
-use Rattle.fat_promises.specs.Calls.{listGives, listRows, listDone}
-use Rattle.fat.proofs.Public.{shut, passed, open-eight, open-volume, says-open, says-refused}
+use Rattle.fat.proofs.Public.{call-ready, call-refused, list-passed}
 use borrow.Author.Needs.{needs}
 use Rattle.fat.proofs.open_list.Statement.{statement}
 use Rattle.fat.proofs.open_list.Tie as tie
@@ -15,25 +12,17 @@ enum-known-gated c = search needs
 enum-told : tie.Need-enum-told
 enum-told c = search needs
 
-sub-n : tie.Need-sub-n
-sub-n c = omega (arith, open-eight _ _ _ _ _ _ _ (says-open _ _ _ _ _ _ _ _ (c .before .before .before .before .gate .ensures) (c .enum-told .given .1)))
+blocks-requires : tie.Need-blocks-requires
+blocks-requires c κs = search needs
 
 open-list-sound-requires : tie.Need-open-list-sound-requires
-open-list-sound-requires c κs =
-    let at-gate = c .before .before .before .before .before .gate in
-    open-volume _ _ _ _ _ _ _ (says-open _ _ _ _ _ _ _ _ (at-gate .ensures) (c .before .enum-told .given .1))
+open-list-sound-requires c κs = search (call-ready)
 
 same-length : tie.Need-same-length
 same-length c = search needs
 
 returns : tie.Need-returns
-returns c =
-    let args = c .before .before .before .before .before .before .before .before .before .before .before .args in
-    let at-gate = c .before .before .before .before .before .gate in
-    shut (λ a. listGives a 0 (args .list .now)) _ _ _ _
-    (listRows (blocks (args .table .now)) (args .table .now) (args .first-block) (args .list .now))
-    (listDone (blocks (args .table .now)) (args .table .now) (args .first-block) (args .list .now)) _ _
-    (says-refused _ _ _ _ _ _ _ (at-gate .ensures) (c .before .gated .given .1))
+returns c = search (call-refused)
 
 same-length-2 : tie.Need-same-length-2
 same-length-2 c = search needs
@@ -42,14 +31,7 @@ same-length-3 : tie.Need-same-length-3
 same-length-3 c = search needs
 
 returns-2 : tie.Need-returns-2
-returns-2 c =
-    let args = c .before .before .before .before .before .before .before .before .before .before .before .before .before .before .args in
-    let at-gate = c .before .before .before .before .before .before .before .before .gate in
-    passed (λ a. listGives a 0 (args .list .now)) _ _ _ _
-    (listRows (blocks (args .table .now)) (args .table .now) (args .first-block) (args .list .now))
-    (listDone (blocks (args .table .now)) (args .table .now) (args .first-block) (args .list .now)) _ _ _ _
-    (says-open _ _ _ _ _ _ _ _ (at-gate .ensures) (c .before .before .before .before .enum-told .given .1))
-    (c .before .before .open-list-sound .ensures)
+returns-2 c = search (list-passed)
 
 pub open-list-spec : {M : Type 1} → statement M
 open-list-spec =
@@ -58,7 +40,7 @@ open-list-spec =
     gate-requires
     enum-known-gated
     enum-told
-    sub-n
+    blocks-requires
     open-list-sound-requires
     same-length
     returns

@@ -1,8 +1,4 @@
-use Rattle.fat.proofs.Public.{shut, passed, open-eight, open-volume, open-blocks, says-open, says-refused}
-use Rattle.fat_promises.specs.Calls.{carryGives, carryRows, writeDone}
-use Rattle.fat_node.specs.Sizes.{blocks}
-use lib.ListN.{length}
-use native.Mathlib.Omega.{arith}
+use Rattle.fat.proofs.Public.{call-ready, call-data, call-refused, write-passed}
 use borrow.Author.Needs.{needs}
 use Rattle.fat.proofs.write.Statement.{statement}
 use Rattle.fat.proofs.write.Tie as tie
@@ -16,25 +12,17 @@ enum-known-gated c = search needs
 enum-told : tie.Need-enum-told
 enum-told c = search needs
 
-sub-n : tie.Need-sub-n
-sub-n c = omega (arith, open-eight _ _ _ _ _ _ _ (says-open _ _ _ _ _ _ _ _ (c .before .before .before .before .gate .ensures) (c .enum-told .given .1)))
+blocks-requires : tie.Need-blocks-requires
+blocks-requires c κs = search needs
 
 write-sound-requires : tie.Need-write-sound-requires
-write-sound-requires c κs =
-    let at-gate = c .before .before .before .before .before .gate in
-    (open-volume _ _ _ _ _ _ _ (says-open _ _ _ _ _ _ _ _ (at-gate .ensures) (c .before .enum-told .given .1)), open-blocks _ _ _ _ _ _ _ (says-open _ _ _ _ _ _ _ _ (at-gate .ensures) (c .before .enum-told .given .1)))
+write-sound-requires c κs = search (call-ready, call-data)
 
 same-length : tie.Need-same-length
 same-length c = search needs
 
 returns : tie.Need-returns
-returns c =
-    let args = c .before .before .before .before .before .before .before .before .before .before .before .args in
-    let at-gate = c .before .before .before .before .before .gate in
-    shut (λ a. carryGives a (args .«data» .now)) _ _ _ _
-    (carryRows (blocks (args .table .now)) (args .table .now) (args .block-len) (args .first-block) (args .pos) (length (args .buf .now)) (args .«data» .now))
-    (writeDone (blocks (args .table .now)) (args .table .now) (args .«data» .now) (args .block-len) (args .first-block) (args .pos) (args .buf .now)) _ _
-    (says-refused _ _ _ _ _ _ _ (at-gate .ensures) (c .before .gated .given .1))
+returns c = search (call-refused)
 
 same-length-2 : tie.Need-same-length-2
 same-length-2 c = search needs
@@ -43,14 +31,7 @@ same-length-3 : tie.Need-same-length-3
 same-length-3 c = search needs
 
 returns-2 : tie.Need-returns-2
-returns-2 c =
-    let args = c .before .before .before .before .before .before .before .before .before .before .before .before .before .before .args in
-    let at-gate = c .before .before .before .before .before .before .before .before .gate in
-    passed (λ a. carryGives a (args .«data» .now)) _ _ _ _
-    (carryRows (blocks (args .table .now)) (args .table .now) (args .block-len) (args .first-block) (args .pos) (length (args .buf .now)) (args .«data» .now))
-    (writeDone (blocks (args .table .now)) (args .table .now) (args .«data» .now) (args .block-len) (args .first-block) (args .pos) (args .buf .now)) _ _ _ _
-    (says-open _ _ _ _ _ _ _ _ (at-gate .ensures) (c .before .before .before .before .enum-told .given .1))
-    (c .before .before .write-sound .ensures)
+returns-2 c = search (write-passed)
 
 pub write-spec : {M : Type 1} → statement M
 write-spec =
@@ -59,7 +40,7 @@ write-spec =
     gate-requires
     enum-known-gated
     enum-told
-    sub-n
+    blocks-requires
     write-sound-requires
     same-length
     returns

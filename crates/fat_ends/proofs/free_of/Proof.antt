@@ -1,6 +1,7 @@
 -- `fat_ends::free_of` meets its contract.
-use Rattle.fat_ends.proofs.Ends.{free-frag, free-in, free-sum, free-done}
-use Rattle.fat_ends.specs.Ends.{span}
+use Rattle.fat_ends.proofs.Joins.{free-frag}
+use Rattle.fat_ends.proofs.Ends.{free-in, free-sum, free-done}
+use Rattle.fat_ends.specs.inner.Ends.{span}
 use Rattle.fat_table.specs.Sound.{Along}
 use lib.ListN.{length, getD}
 use native.Mathlib.Omega.{arith}

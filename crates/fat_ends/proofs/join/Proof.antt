@@ -2,13 +2,13 @@
 use Prim.Native.Nat.{_-_}
 use native.Mathlib.Omega.{arith}
 use Rattle.fat_node.proofs.Cases.{untrue}
-use Rattle.fat_ends.proofs.Ends.{start-of, end-of, ring-broken}
+use Rattle.fat_ends.proofs.Joins.{start-of, end-of, ring-broken}
 use borrow.Author.Needs.{needs}
 use Rattle.fat_ends.proofs.join.Statement.{statement}
 use Rattle.fat_ends.proofs.join.Tie as tie
 
 returns : tie.Need-returns
-returns c = ((λ e. untrue e), λ s. let f = s .forth (c .before .before .before .args .b) (c .before .before .before .args .x - 1) (c .before .before .before .pre .1 .1 .0 .0) (omega arith) in absurd (omega (arith, f .0 .1)))
+returns c = record { yes = λ e. untrue e; sound = λ s. let f = s .forth (c .before .before .before .args .b) (c .before .before .before .args .x - 1) (c .before .before .before .pre .1 .1 .0 .0) (omega arith) in absurd (omega (arith, f .0 .1)) }
 
 sub-j : tie.Need-sub-j
 sub-j c = search needs
@@ -20,7 +20,7 @@ slice-read-v : tie.Need-slice-read-v
 slice-read-v c = search needs
 
 returns-2 : tie.Need-returns-2
-returns-2 c = ((λ e. untrue e), λ s. let f = s .forth (c .before .before .before .before .before .args .b) (c .before .before .before .before .before .args .x - 1) (c .before .before .before .before .before .pre .1 .1 .0 .0) (omega arith) in absurd (omega (arith, (c .before .before .before .before .before .pre .1 .1 .1 .1) .mark (c .before .before .before .before .before .args .x - 1) (f .0))))
+returns-2 c = record { yes = λ e. untrue e; sound = λ s. let f = s .forth (c .before .before .before .before .before .args .b) (c .before .before .before .before .before .args .x - 1) (c .before .before .before .before .before .pre .1 .1 .0 .0) (omega arith) in absurd (omega (arith, (c .before .before .before .before .before .pre .1 .1 .1 .1) .mark (c .before .before .before .before .before .args .x - 1) (f .0))) }
 
 prev-of-requires : tie.Need-prev-of-requires
 prev-of-requires c κs = search needs
@@ -29,7 +29,7 @@ add-if3 : tie.Need-add-if3
 add-if3 c = search needs
 
 returns-3 : tie.Need-returns-3
-returns-3 c = ((λ e. untrue e), λ s. let f = s .forth (c .before .before .before .before .before .before .before .args .b) (c .before .before .before .before .before .before .before .args .x - 1) (c .before .before .before .before .before .before .before .pre .1 .1 .0 .0) (omega arith) in absurd (omega (arith, f .1)))
+returns-3 c = record { yes = λ e. untrue e; sound = λ s. let f = s .forth (c .before .before .before .before .before .before .before .args .b) (c .before .before .before .before .before .before .before .args .x - 1) (c .before .before .before .before .before .before .before .pre .1 .1 .0 .0) (omega arith) in absurd (omega (arith, f .1)) }
 
 mul-wide : tie.Need-mul-wide
 mul-wide c = search needs
@@ -44,7 +44,7 @@ sub-h : tie.Need-sub-h
 sub-h c = omega (arith, start-of (c .before .before .before .before .before .before .before .before .before .pre .1 .1 .1 .1) (c .before .before .before .before .before .before .before .before .before .pre .1 .1 .0 .0) .1 .0)
 
 returns-4 : tie.Need-returns-4
-returns-4 c = ((λ e. untrue e), λ s. absurd (ring-broken (c .before .before .before .before .before .before .before .before .before .before .pre .1 .1 .1 .1) (c .before .before .before .before .before .before .before .before .before .before .pre .1 .1 .0 .0) (c .before .before .before .before .before .before .before .before .before .before .args .x - 1) (omega arith) (omega arith) (omega (arith, start-of (c .before .before .before .before .before .before .before .before .before .before .pre .1 .1 .1 .1) (c .before .before .before .before .before .before .before .before .before .before .pre .1 .1 .0 .0) .1 .0)) s))
+returns-4 c = record { yes = λ e. untrue e; sound = λ s. absurd (ring-broken (c .before .before .before .before .before .before .before .before .before .before .pre .1 .1 .1 .1) (c .before .before .before .before .before .before .before .before .before .before .pre .1 .1 .0 .0) (c .before .before .before .before .before .before .before .before .before .before .args .x - 1) (omega arith) (omega arith) (omega (arith, start-of (c .before .before .before .before .before .before .before .before .before .before .pre .1 .1 .1 .1) (c .before .before .before .before .before .before .before .before .before .before .pre .1 .1 .0 .0) .1 .0)) s) }
 
 wide-requires-2 : tie.Need-wide-requires-2
 wide-requires-2 c κs = search needs

@@ -1,9 +1,9 @@
 -- `fat_ends::judge` meets its contract.
 use Rattle.fat_ends.proofs.Ends.{links-ready, head-is, head-fits, tile-covered, free-ready, all-good, sound-long, backs-long}
 use Rattle.fat_node.proofs.Cases.{untrue}
-use Rattle.fat_ends.specs.Ends.{TiledAs}
+use Rattle.fat_ends.specs.inner.Ends.{TiledAs}
 use Rattle.fat_table.specs.Sound.{Counted, File}
-use Rattle.fat_node.specs.Reads.{HeadReads}
+use Rattle.fat_node.specs.inner.Reads.{HeadReads}
 use lib.ListN.{length}
 use native.Mathlib.Omega.{arith}
 use Prim.Native.Nat.{ℕ}

@@ -12,7 +12,7 @@ next-of-requires c κs = search needs
 
 returns : tie.Need-returns
 returns c =
-    (omega arith, (λ _ k st. link-none (omega arith) st), λ e. absurd (omega arith))
+    record { few = omega arith; joins = λ _ k st. link-none (omega arith) st; broken = λ e. absurd (omega arith) }
 
 join-requires : tie.Need-join-requires
 join-requires c κs =
@@ -23,14 +23,14 @@ same-length c = search needs
 
 returns-2 : tie.Need-returns-2
 returns-2 c =
-    (omega arith, (λ _ k st. c .before .before .before .join .ensures .0 (c .if2 .taken) k st), λ e. absurd (omega arith))
+    record { few = omega arith; joins = λ _ k st. c .before .before .before .join .ensures .yes (c .if2 .taken) k st; broken = λ e. absurd (omega arith) }
 
 same-length-2 : tie.Need-same-length-2
 same-length-2 c = search needs
 
 returns-3 : tie.Need-returns-3
 returns-3 c =
-    (omega arith, (λ l. absurd (omega arith)), λ _ s. untrue (sym (c .if2 .left) ∙ c .before .before .before .join .ensures .1 s))
+    record { few = omega arith; joins = λ l. absurd (omega arith); broken = λ _ s. untrue (sym (c .if2 .left) ∙ c .before .before .before .join .ensures .sound s) }
 
 pub link-spec : {M : Type 1} → statement M
 link-spec =

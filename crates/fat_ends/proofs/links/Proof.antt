@@ -4,10 +4,11 @@ use Prim.Native.Nat.{ℕ, _-_, _≤_}
 use native.Mathlib.Omega.{arith}
 use borrow.Author.Needs.{needs}
 use Rattle.fat_table.specs.Sound.{IsNode, Starts}
-use Rattle.fat_ends.specs.Ends.{State}
+use Rattle.fat_ends.specs.inner.Ends.{State}
 use Rattle.fat_node.proofs.Cases.{untrue}
 use Rattle.fat_table.specs.Sound.Starts.{begin, after}
-use Rattle.fat_ends.proofs.Ends.{state-long, linked-on, past-joined, sound-long, ends-differ-n, ends-agree-n}
+use Rattle.fat_ends.proofs.Ends.{state-long, linked-on, sound-long, ends-differ-n, ends-agree-n}
+use Rattle.fat_ends.proofs.Joins.{past-joined}
 use Rattle.fat_ends.proofs.links.Statement.{statement}
 use Rattle.fat_ends.proofs.links.Tie as tie
 
@@ -44,7 +45,7 @@ same-length c = search needs
 returns : tie.Need-returns Inv-loop μ-loop
 returns c =
     let at-loop = c .before .before .before .before .before .before .before .before .loop in
-    ((λ e. untrue e), λ s. absurd (c .before .before .before .link .ensures .2 (c .if1 .taken) (sound-long (at-loop .inv .2 .long) s)))
+    ((λ e. untrue e), λ s. absurd (c .before .before .before .link .ensures .broken (c .if1 .taken) (sound-long (at-loop .inv .2 .long) s)))
 
 add-joins : tie.Need-add-joins Inv-loop μ-loop
 add-joins c =
@@ -62,7 +63,7 @@ loop-again c =
     rw (c .before .before .before .before .before .wide .ensures) (
       omega (arith, nd .within),
       after sb nd refl,
-      past-joined sb nd (linked-on st (λ s. c .before .before .before .link .ensures .1 (omega arith) _ s)),
+      past-joined sb nd (linked-on st (λ s. c .before .before .before .link .ensures .joins (omega arith) _ s)),
       omega (arith, nd .some),
     )
 

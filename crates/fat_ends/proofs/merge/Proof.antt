@@ -1,7 +1,7 @@
 -- `fat_ends::merge` meets its contract.
 use mathlib.Core.Path.{refl}
 use native.Mathlib.Omega.{arith}
-use Rattle.fat_ends.proofs.Ends.{places, packed-i, packed-j, both-fit, merged-small, merged-grown, merged-large}
+use Rattle.fat_ends.proofs.Joins.{places, packed-i, packed-j, both-fit, merged-small, merged-grown, merged-large}
 use borrow.Author.Needs.{needs}
 use Rattle.fat_ends.proofs.merge.Statement.{statement}
 use Rattle.fat_ends.proofs.merge.Tie as tie

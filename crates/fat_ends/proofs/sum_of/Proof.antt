@@ -1,7 +1,7 @@
 -- `fat_ends::sum_of` meets its contract.
 use native.Mathlib.Omega.{arith}
 use borrow.Author.Needs.{needs}
-use Rattle.fat_ends.proofs.Ends.{sum-small, sum-one, sum-more, is-one}
+use Rattle.fat_ends.proofs.Joins.{sum-small, sum-one, sum-more, is-one}
 use Rattle.fat_ends.proofs.sum_of.Statement.{statement}
 use Rattle.fat_ends.proofs.sum_of.Tie as tie
 

@@ -1,9 +1,9 @@
 -- `fat_ends::tile` meets its contract.
 use borrow.Author.Needs.{needs}
 use Rattle.fat_ends.proofs.Ends.{Laid, laid-none, laid-more, tiled-as, no-backs, some-le, file-le, backs-on, count-on}
-use Rattle.fat_ends.specs.Ends.{Backs}
+use Rattle.fat_ends.specs.inner.Ends.{Backs}
 use Rattle.fat_table.specs.Sound.{Counted, File}
-use Rattle.fat_node.specs.Reads.{Reads}
+use Rattle.fat_node.specs.inner.Reads.{Reads}
 use Rattle.fat_node.specs.Node.{NodeAt}
 use lib.ListN.{length}
 use mathlib.Core.Path.{refl, subst}

@@ -1,4 +1,4 @@
-use Rattle.fat_inner.proofs.Resizes.{end-yes, end-no}
+use Rattle.fat_inner.proofs.Judges.{end-yes, end-no}
 use borrow.Author.Needs.{needs}
 use Rattle.fat_inner.proofs.walk.is_end.Statement.{statement}
 use Rattle.fat_inner.proofs.walk.is_end.Tie as tie

@@ -1,4 +1,4 @@
-use Rattle.fat_inner.proofs.Done.{last-in, last-out, last-out-some}
+use Rattle.fat_inner.proofs.Found.{last-in, last-out, last-out-some}
 use borrow.Author.Needs.{needs}
 use Rattle.fat_inner.proofs.walk.last_of.Statement.{statement}
 use Rattle.fat_inner.proofs.walk.last_of.Tie as tie

@@ -4,14 +4,16 @@
 use mathlib.Core.Path.{_≡_}
 use mathlib.Core.List.{List}
 use mathlib.Core.Logic.{_⊎_}
+use mathlib.Core.Bool.{Bool, true}
 use Prim.Native.Nat.{ℕ, _+_, _/_, _%_, _<_, _≤_}
 use lib.ListN.{length, getD, set}
 use Rattle.fat_node.specs.Node.{NodeAt, prevAt, nextAt}
-use Rattle.fat_table.specs.Sound.{IsNode, Path, Along, Covered, Counted, File}
+use Rattle.fat_table.specs.Sound.{IsNode, Path, Along, Covered, Counted, File, Sound}
 use Rattle.fat_ends.specs.declared.Tiles.{Tiles}
 use Rattle.fat_ends.specs.declared.Tiles.the-variants.{Whole, Ragged}
-use Rattle.fat_ends.specs.Marks.{total, Tiled}
+use Rattle.fat_ends.specs.inner.Marks.{sum, SizesAt}
 
+-- the low 20 bits of a word count so many
 abbrev pub span : ℕ
 span = 1048576
 
@@ -27,8 +29,9 @@ pub record Fresh (t : List ℕ) (n : ℕ) (g w : List ℕ) : Type 0 where
   pub end : (x : ℕ) → 0 < getD g x 0 → getD w x 0 % span ≡ x + 1
   pub part : (x : ℕ) → 0 < getD g x 0 → Packed t n x x (getD w x 0 / span) (getD w x 0 / span) (getD g x 0)
 
+-- the sizes stand somewhere, and the work list is fresh
 abbrev pub Tile : List ℕ → ℕ → List ℕ → Type 0
-Tile t n w = (g : List ℕ) × (Tiled t n g × Fresh t n g w × (length g ≡ n))
+Tile t n w = (g : List ℕ) × (SizesAt t n g × Fresh t n g w × (length g ≡ n))
 
 -- node z ends a fragment, when the links of the nodes below b have been joined
 abbrev pub Tail : List ℕ → ℕ → ℕ → ℕ → Type 0
@@ -52,8 +55,8 @@ pub record State (t : List ℕ) (n b : ℕ) (w : List ℕ) (k : ℕ) : Type 0 wh
   pub long : length w ≡ n
   pub long-a : length a ≡ n
   pub long-g : length g ≡ n
-  pub whole : total g ≡ n
-  pub joins : total a ≡ k
+  pub whole : sum g ≡ n
+  pub joins : sum a ≡ k
   pub mark : (x : ℕ) → IsNode t n x → 0 < getD w x 0
   pub node : (x : ℕ) → 0 < getD w x 0 → IsNode t n x
   pub tail : (z : ℕ) → Tail t n b z → (h : ℕ) × Frag t n b w a g h z
@@ -66,10 +69,11 @@ pub record State (t : List ℕ) (n b : ℕ) (w : List ℕ) (k : ℕ) : Type 0 wh
 pub record Backs (t : List ℕ) (n b k : ℕ) : Type 0 where
   pub c : List ℕ
   pub long : length c ≡ n
-  pub count : total c ≡ k
+  pub count : sum c ≡ k
   pub yes : (x : ℕ) → IsNode t n x → x < b → 0 < prevAt t x → getD c x 0 ≡ 1
   pub only : (x : ℕ) → 0 < getD c x 0 → IsNode t n x × (x < b) × (0 < prevAt t x) × (getD c x 0 ≡ 1)
 
+-- the places h and z of the work list have been written: each names the other, with the parts p and q
 pub record TiedEnds (w w′ : List ℕ) (h z p q : ℕ) : Type 0 where
   pub A : ℕ
   pub B : ℕ
@@ -95,6 +99,7 @@ pub record Joinable (t : List ℕ) (n b : ℕ) (w : List ℕ) (j h z : ℕ) : Ty
 abbrev pub Joined : List ℕ → ℕ → ℕ → List ℕ → List ℕ → Type 0
 Joined t n b w w′ = (k : ℕ) → State t n b w k → State t n (b + 1) w′ (k + 1)
 
+-- what the first pass tells
 abbrev pub TiledAs : List ℕ → ℕ → List ℕ → Tiles → Type 0
 TiledAs t n w (Whole files backs) = Tile t n w × Backs t n n backs × Counted (File t n) n files
 TiledAs t n w Ragged = Covered t n → ⊥
@@ -102,3 +107,14 @@ TiledAs t n w Ragged = Covered t n → ⊥
 -- all links are joined: as many as nodes have a previous
 abbrev pub Linked : List ℕ → ℕ → List ℕ → Type 0
 Linked t n w = (k : ℕ) × (State t n n w k × Backs t n n k)
+
+-- what a join of the node at b answers: whether its link is joined; on a sound table it is
+pub record JoinSays (t : List ℕ) (n b : ℕ) (w w′ : List ℕ) (r : Bool) : Type 0 where
+  pub yes : r ≡ true → Joined t n b w w′
+  pub sound : Sound t n → r ≡ true
+
+-- what the link of the node at b answers: the number of joins, or 2 where the table is not sound
+pub record LinkSays (t : List ℕ) (n b : ℕ) (w w′ : List ℕ) (r : ℕ) : Type 0 where
+  pub few : r ≤ 2
+  pub joins : r < 2 → (k : ℕ) → State t n b w k → State t n (b + 1) w′ (k + r)
+  pub broken : r ≡ 2 → Sound t n → ⊥

@@ -1,27 +1,16 @@
--- What the functions inside the calls ask for and say: chains that stand, and a step as the few writes that the code makes. No promise needs it.
+-- Chains that stand in a table, and where a block of one lies.
 use mathlib.Core.Path.{_≡_}
 use mathlib.Core.List.{List, [], _∷_, _++_}
-use mathlib.Core.Bool.{cond}
-use Prim.Native.Nat.{ℕ, zero, suc, _+_, _-_, _*_, _≤_, _<_}
-use lib.Dec.{eqb}
+use Prim.Native.Nat.{ℕ, suc, _+_, _*_, _≤_, _<_}
 use lib.ListN.{length}
 use Rattle.fat_node.specs.Entry.{Bytes}
-use Rattle.fat_node.specs.Node.{Run, run, NodeAt, prevAt, nextAt, setNode, setHead}
-use Rattle.fat_table.specs.Sound.{Sound}
-use Rattle.fat_table.specs.Chain.{total, sizeAt, chainAt, freeAt, fileAt}
+use Rattle.fat_node.specs.Node.{Run, run, NodeAt, prevAt, nextAt}
+use Rattle.fat_table.specs.Chain.{total, chainAt}
 use Rattle.fat_table.specs.Layout.{hits, covers, empties}
 use Rattle.fat_table.specs.Steps.{first}
 use Rattle.fat_table.specs.Holds.{Laid}
 use Rattle.fat_inner.specs.declared.walk.Sought.{Sought}
-use Rattle.fat_inner.specs.declared.judge.Planned.{Planned}
-use Rattle.fat_inner.specs.declared.judge.Planned.the-variants.{Cut, Same, Full}
 use Rattle.fat_inner.specs.declared.walk.Sought.the-variants.{Within, Past}
-
--- what the calls that require soundness ask for: a sound table of n blocks
-pub record Volume (n : ℕ) (t : Bytes) : Type 0 where
-  pub few : n ≤ 1000000
-  pub room : length t ≡ 8 * (n + 1)
-  pub sound : Sound t n
 
 -- a node stands at block b, and its links are indexes of blocks
 pub record Standing (n : ℕ) (t : Bytes) (b : ℕ) : Type 0 where
@@ -49,29 +38,6 @@ pub record Chain (n : ℕ) (t : Bytes) (l : List Run) : Type 0 where
 pub record ChainFrom (n : ℕ) (t : Bytes) (i : ℕ) : Type 0 where
   pub chain : Chain n t (chainAt t n i)
   pub at : first (chainAt t n i) ≡ i
-
--- the node that an index names, if it names one, gets p for its previous
-unfoldable pub withPrev : Bytes → ℕ → ℕ → Bytes
-withPrev t zero p = t
-withPrev t (suc b) p = setNode t (run b (sizeAt t b)) p (nextAt t b)
-
--- the chain whose last node is at block y goes on with the chain that index i starts
-unfoldable pub joinAt : Bytes → ℕ → ℕ → Bytes
-joinAt t y i = setNode (withPrev t i (y + 1)) (run y (sizeAt t y)) (prevAt t y) i
-
--- a chain ends after the node at block b, and what comes after is free
-unfoldable pub endAt : Bytes → ℕ → Bytes
-endAt t b = setHead (setNode (withPrev t (nextAt t b) 0) (run b (sizeAt t b)) (prevAt t b) 0) (nextAt t b)
-
--- a chain ends after m blocks of the node at block b, and the rest of it and what comes after is free
-unfoldable pub splitAt : Bytes → ℕ → ℕ → Bytes
-splitAt t b m =
-    setHead
-    (setNode (setNode (withPrev t (nextAt t b) (b + m + 1)) (run b m) (prevAt t b) 0) (run (b + m) (sizeAt t b - m)) 0 (nextAt t b))
-    (b + m + 1)
-
-unfoldable pub cutAt : Bytes → ℕ → ℕ → Bytes
-cutAt t b m = cond (eqb m (sizeAt t b)) (endAt t b) (splitAt t b m)
 
 -- the m-th block of the node at block b is the k-th of a chain
 pub record Inside (l : List Run) (k b m : ℕ) : Type 0 where
@@ -106,18 +72,6 @@ pub record LastAt (l : List Run) (b : ℕ) : Type 0 where
   pub node : Run
   pub is : l ≡ before ++ node ∷ []
   pub at : node .start ≡ b
-
--- the file at block b ends after the node at block last; joined with the free chain and cut after c blocks, the cut is after m blocks of the node at
--- block x
-pub record CutAt (n : ℕ) (t : Bytes) (b c last x m : ℕ) : Type 0 where
-  pub end : LastAt (fileAt n t b) last
-  pub cut : Inside (fileAt n t b ++ freeAt n t) c x m
-
--- what a resize to c blocks plans
-abbrev pub PlanSays : ℕ → Bytes → ℕ → ℕ → Planned → Type 0
-PlanSays n t b c (Cut last x m) = CutAt n t b c last x m
-PlanSays n t b c Same = c ≡ total (fileAt n t b)
-PlanSays n t b c Full = total (fileAt n t b) + total (freeAt n t) < c
 
 -- r is the smaller of two numbers
 pub record Least (a b r : ℕ) : Type 0 where

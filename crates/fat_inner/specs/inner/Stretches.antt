@@ -1,16 +1,10 @@
--- What the functions inside read and write ask for and say. No promise needs it.
+-- Where the bytes of a file lie, for read and write.
 use mathlib.Core.Path.{_≡_}
 use mathlib.Core.List.{List, _∷_, _++_}
 use Prim.Native.Nat.{ℕ, suc, _+_, _*_, _≤_, _<_}
 use Rattle.fat_node.specs.Entry.{Bytes}
 use Rattle.fat_node.specs.Node.{Run, nextAt}
 use Rattle.fat_table.specs.Chain.{total, sizeAt}
-
--- d bytes of data are n blocks of l bytes
-pub record Data (n d l : ℕ) : Type 0 where
-  pub some : 1 ≤ l
-  pub few : l ≤ 65536
-  pub fits : d ≡ n * l
 
 -- byte p of a file with this chain is byte f of the node that index i names
 pub record CursorAt (c : List Run) (l p i f : ℕ) : Type 0 where

@@ -1,7 +1,7 @@
 use Rattle.fat_inner.proofs.Carries.{count-in, count-out, count-fits}
 use borrow.Author.Needs.{needs}
-use Rattle.fat_inner.proofs.copy.count_of.Statement.{statement}
-use Rattle.fat_inner.proofs.copy.count_of.Tie as tie
+use Rattle.fat_inner.proofs.walk.count_of.Statement.{statement}
+use Rattle.fat_inner.proofs.walk.count_of.Tie as tie
 
 add-seek : tie.Need-add-seek
 add-seek c = search needs

@@ -1,6 +1,6 @@
 use Rattle.fat_inner.proofs.Carries.{passes-before, passes-after}
-use Rattle.fat_inner.proofs.copy.passes.Statement.{statement}
-use Rattle.fat_inner.proofs.copy.passes.Tie as tie
+use Rattle.fat_inner.proofs.judge.passes.Statement.{statement}
+use Rattle.fat_inner.proofs.judge.passes.Tie as tie
 
 returns : tie.Need-returns
 returns c = passes-before _ _ _ (c .if1 .taken)

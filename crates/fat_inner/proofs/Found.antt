@@ -1,27 +1,27 @@
--- What the inner calls return, from what they call.
-use mathlib.Core.Path.{_≡_, refl, sym, ap, subst, subst⁻¹, _∙_}
+-- The chains of a sound table and their nodes, as the functions that go along them find them.
+use mathlib.Core.Path.{_≡_, sym, ap, subst, subst⁻¹, _∙_}
 use mathlib.Core.List.{List, [], _∷_, _++_, append-assoc}
-use mathlib.Core.Logic.{inl, inr}
 use mathlib.Core.Bool.{Bool, true, false}
 use Prim.Native.Nat.{ℕ, _+_, _-_, _≤_}
 use native.Mathlib.Omega.{arith}
 use native.Mathlib.Numerals.{add-one}
+use mir.Syntax.{w8, w64}
+use mir.Val.{Fits}
+use lib.ListN.{getD}
 use Rattle.words.proofs.Laws as words
-use Rattle.order.specs.First.{First}
-use Rattle.order.specs.declared.Answer.the-variants as is
 use Rattle.fat_node.specs.Entry.{Bytes}
-use Rattle.fat_node.specs.Node.{Run, nextAt, setHead}
+use Rattle.fat_node.specs.Node.{Run, nextAt}
 use Rattle.fat_table.specs.Sound.{File}
-use Rattle.fat_table.specs.Chain.{total, sizeAt, headAt, chainAt, freeAt, fileAt}
-use Rattle.fat_table.specs.Steps.{first, created, deleted}
+use Rattle.fat_table.specs.Chain.{total, sizeAt, headAt, chainAt}
+use Rattle.fat_table.specs.Steps.{first}
 use Rattle.fat_table.proofs.Laying.{first-inside}
-use Rattle.fat_promises.specs.Calls.{createGives, createRows, createDone, changeGives, deleteRows, deleteDone}
-use Rattle.fat_inner.specs.Inner.{Volume, Standing, StandingAt, Chain, ChainFrom, joinAt, cutAt, Inside, LastIs, none, node, Beyond, SeekSays, LastAt}
+use Rattle.fat_inner.specs.Volume.{Volume}
+use Rattle.fat_inner.specs.inner.Chains.{Standing, StandingAt, Chain, ChainFrom, Inside, LastIs, none, node, Beyond, SeekSays, LastAt}
 use Rattle.fat_inner.specs.declared.walk.Sought.{Sought}
 use Rattle.fat_inner.specs.declared.walk.Sought.the-variants.{Within, Past}
 use Rattle.fat_table.proofs.Unchanged.{total-append}
 use Rattle.fat_inner.proofs.Joins.{mid-standing, mid-next, mid-size}
-use Rattle.fat_inner.proofs.Few.{free-chain, file-chain, created-few, deleted-few}
+use Rattle.fat_inner.proofs.Few.{free-chain, file-chain}
 use Rattle.fat_inner.proofs.Hops.{whole-of}
 
 -- chains and their nodes --------------------------------------------------------------------------------
@@ -100,41 +100,13 @@ module _ (n : ℕ) (t : Bytes) (v : Volume n t) (g : words.Bytes t) where
   pub file-from : (b : ℕ) → File t n b → ChainFrom n t (b + 1)
   file-from b f = subst⁻¹ (ChainFrom n t) (add-one b) (file-chain n t (whole-of n t v g) b f)
 
-  -- delete -------------------------------------------------------------------------------------------------
+-- the bytes of a lent slice, as the borrow checker says it of them
+pub are-bytes : (t : Bytes) → ((i : ℕ) → Fits w8 (getD t i 0)) → words.Bytes t
+are-bytes t g = record { byte = λ i. omega (arith, g i) }
 
-  pub deleted-is : (b y h : ℕ) (u x : Bytes) → File t n b → LastAt (chainAt t n (b + 1)) y → h ≡ headAt t → u ≡ joinAt t y h → x ≡ setHead u (b + 1) → x ≡ deleted n t b
-  deleted-is b y h u x f w e p q =
-      let k : fileAt n t b ≡ w .before ++ w .node ∷ [] = ap (chainAt t n) (sym (add-one b)) ∙ w .is in
-      q
-      ∙ ap (λ (z : Bytes). setHead z (b + 1)) (p ∙ ap (λ (z : ℕ). joinAt t z h) (sym (w .at)) ∙ ap (joinAt t (w .node .start)) e)
-      ∙ deleted-few n t (whole-of n t v g) b f (w .before) (w .node) k
-
-  pub delete-done : (b y h : ℕ) (u x : Bytes) (r : Bool) → (r ≡ true → File t n b) × (File t n b → r ≡ true) → r ≡ true → LastAt (chainAt t n (b + 1)) y → h ≡ headAt t
-      → u ≡ joinAt t y h → x ≡ setHead u (b + 1) → First (deleteRows n t b) (deleteDone n t b) (changeGives is.Done x)
-  delete-done b y h u x r s i w e p q = inr (
-    (λ z. z (s .0 i)),
-    ap (changeGives is.Done) (deleted-is b y h u x (s .0 i) w e p q),
-  )
-
-  -- create -------------------------------------------------------------------------------------------------
-
-  pub create-none : (k h i m : ℕ) → (k ≡ 0 → ⊥) → h ≡ headAt t → Beyond (chainAt t n h) k i m → First (createRows n t k) (createDone n t k) (createGives is.NoSpace 0 t)
-  create-none k h i m z e w = inr (z, inl (omega (arith, w .sum, w .some, ap (λ (j : ℕ). total (chainAt t n j)) e), refl))
-
-  pub create-done : (k h b m : ℕ) (u : Bytes) → (k ≡ 0 → ⊥) → h ≡ headAt t → Inside (chainAt t n h) k b m → u ≡ cutAt t b m
-      → First (createRows n t k) (createDone n t k) (createGives is.Done (h - 1) u)
-  create-done k h b m u z e w p =
-      let q : freeAt n t ≡ w .before ++ w .node ∷ w .after = ap (chainAt t n) (sym e) ∙ w .is in
-      let c : u ≡ created n t k =
-      p ∙ ap (λ (j : ℕ). cutAt t j m) (sym (w .at)) ∙ created-few n t (whole-of n t v g) (w .before) (w .node) (w .after) m k q (w .some) (w .fits) (w .sum) in
-      let l : k ≤ total (chainAt t n h) = inside-count n t (chainAt t n h) k b m (head-chain h e .chain) w in
-      inr (
-        z,
-        inr (
-          (λ o. omega (arith, o, l, ap (λ (j : ℕ). total (chainAt t n j)) e)),
-          ap (λ (j : ℕ). createGives is.Done (j - 1) u) e ∙ ap (createGives is.Done (headAt t - 1)) c,
-        ),
-      )
+-- the index of a file's first block is a number of the code
+pub file-fits : (n : ℕ) (t : Bytes) (b : ℕ) → Volume n t → File t n b → Fits w64 (b + 1)
+file-fits n t b v f = omega (arith, v .few, f .0 .1)
 
 -- a block that is no file's first
 pub not-file : (t : Bytes) (n b : ℕ) (r : Bool) → (r ≡ true → File t n b) × (File t n b → r ≡ true) → r ≡ false → File t n b → ⊥

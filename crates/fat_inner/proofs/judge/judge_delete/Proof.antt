@@ -1,0 +1,25 @@
+use native.Mathlib.Omega.{arith}
+use Rattle.fat_inner.proofs.Judges.{is-file, delete-no-file, delete-at}
+use Rattle.fat_inner.proofs.Found.{file-fits, file-from, are-bytes}
+use borrow.Author.Needs.{needs}
+use Rattle.fat_inner.proofs.judge.judge_delete.Statement.{statement}
+use Rattle.fat_inner.proofs.judge.judge_delete.Tie as tie
+
+is-file-requires : tie.Need-is-file-requires
+is-file-requires c κs = search needs
+
+returns : tie.Need-returns
+returns c = search (delete-no-file)
+
+add-last-of : tie.Need-add-last-of
+add-last-of c = search (file-fits, is-file)
+
+last-of-requires : tie.Need-last-of-requires
+last-of-requires c κs = (search (file-from, is-file, are-bytes), λ e. omega (arith, e))
+
+returns-2 : tie.Need-returns-2
+returns-2 c = search (delete-at)
+
+pub judge-delete-spec : {M : Type 1} → statement M
+judge-delete-spec =
+    tie.close (tie.spec is-file-requires returns add-last-of last-of-requires returns-2)

@@ -1,0 +1,3 @@
+-- What functions inside the crates answer. No promise needs it.
+pub mod Reads
+pub mod Ends

@@ -1,0 +1,26 @@
+-- What the gate of a call tells.
+use mathlib.Core.Path.{_≡_}
+use mathlib.Core.List.{List}
+use Prim.Native.Nat.{ℕ}
+use Rattle.order.specs.Gate.{cleared, refusal}
+use Rattle.order.specs.Given.{Given, None}
+use Rattle.fat_node.specs.Entry.{Bytes}
+use Rattle.fat_node.specs.Sizes.{blocks}
+use Rattle.fat_table.specs.Sound.{Sound}
+use Rattle.fat_table.specs.Counts.{freeBlocks, otherChains}
+use Rattle.fat_test.specs.Gate.{blockGate}
+use Rattle.fat_test.specs.declared.Gated.{Gated}
+use Rattle.fat_test.specs.declared.Gated.the-variants.{Open, Refused}
+
+-- the gate of a call with data of length d and block length l is open: no row applies, the table is sound, the work list is cleared, and the counts are the table's
+pub record Opened (t : Bytes) (d l : ℕ) (work work′ : List ℕ) (free files : ℕ) : Type 0 where
+  pub none : None (blockGate refusal t d l work)
+  pub sound : Sound t (blocks t)
+  pub clear : work′ ≡ cleared (blocks t) work
+  pub count : free ≡ freeBlocks (blocks t) t
+  pub others : files ≡ otherChains (blocks t) t
+
+-- it is open, or the first row that applies refuses
+abbrev pub GateOf : (t : Bytes) (d l : ℕ) (work work′ : List ℕ) → Gated → Type 0
+GateOf t d l work work′ (Open free files) = Opened t d l work work′ free files
+GateOf t d l work work′ (Refused answer) = Given (blockGate refusal t d l work) (refusal answer work′)
