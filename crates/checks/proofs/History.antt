@@ -12,7 +12,26 @@ use Rattle.fat_table.specs.Sound.{Starts, File}
 use Rattle.fat_table.specs.Chain.{total, freeAt, fileAt}
 use Rattle.fat_table.specs.Steps.{created, deleted, shrunk, grown, resized}
 use Rattle.fat_table.proofs.Files.{Whole, whole-formatted, whole-created, whole-deleted, whole-resized}
-use Rattle.checks.specs.Blocks.{zeros, t0, t1, t2, t3, t4, t5}
+use Rattle.checks.specs.Blocks.{zeros}
+
+-- the tables of the history: format, create 1, create 2, delete 0, create 2, resize 1 to 1
+abbrev pub t0 : Bytes
+t0 = formatted 4 (zeros 4)
+
+abbrev pub t1 : Bytes
+t1 = created 4 t0 1
+
+abbrev pub t2 : Bytes
+t2 = created 4 t1 2
+
+abbrev pub t3 : Bytes
+t3 = deleted 4 t2 0
+
+abbrev pub t4 : Bytes
+t4 = created 4 t3 2
+
+abbrev pub t5 : Bytes
+t5 = resized 4 t4 1 1
 
 zero-bytes : (n : ℕ) → words.Bytes (replicate n 0)
 zero-bytes n = record { byte = go n }

@@ -1,5 +1,6 @@
 pub mod Formats
 pub mod Passes
+pub mod Then
 pub mod History
 pub mod Blocks
 pub mod Fresh

@@ -1,4 +1,4 @@
--- A call on a table that is whole passes the rows of sizes, work list and soundness, and its own rows decide.
+-- There is one outcome: of any promise that its rows decide, and of a call on a whole table, which passes the rows of sizes, work list and soundness.
 use mathlib.Core.Path.{_≡_, refl, sym, ap, subst, _∙_}
 use mathlib.Core.List.{List, [], _∷_, _++_}
 use mathlib.Core.Logic.{inl, inr, ⊎-elim}
@@ -6,16 +6,19 @@ use Prim.Native.Nat.{ℕ, _*_, _<_, _≤_}
 use native.Mathlib.Omega.{arith}
 use lib.ListN.{length}
 use Rattle.order.specs.First.{Row, First}
-use Rattle.order.specs.Given.{None}
+use Rattle.order.specs.Given.{Given, None}
 use Rattle.order.specs.Gate.{cleared}
 use Rattle.order.specs.declared.Answer.{Answer}
 use Rattle.order.specs.declared.Answer.the-variants.{InvalidValue}
-use Rattle.order.proofs.One.{refused}
+use Rattle.order.proofs.One.{one, refused}
+use Rattle.order.proofs.Beside.{passed}
 use Rattle.fat_node.specs.Entry.{Bytes}
 use Rattle.fat_node.specs.Sizes.{blocks, Misfit, Outside}
 use Rattle.fat_table.specs.Sound.{Sound}
 use Rattle.fat_table.proofs.Files.{Whole}
 use Rattle.fat_test.specs.Gate.{blockGate, testGate}
+use Rattle.fat_test.specs.Promise.{testRefused, testDone, TestPromise}
+use Rattle.fat_test.specs.declared.Tested.{Tested}
 use Rattle.order.specs.Beside.{Beside, beside, within, Promised}
 use Rattle.fat_promises.specs.Promise.{Promise}
 
@@ -36,6 +39,35 @@ own-of work (r ∷ rs) done o (inr p) = inr (p .0, own-of work rs done o (p .1))
 pub own-rows : {A : Type 0} (front : List (Row (Beside A))) (work : List ℕ) (own : List (Row A)) (done : A) (o : Beside A) → None front
     → Promised front work own done o → First own done (o .given)
 own-rows front work own done o n p = own-of work own done o (past front (within work own) (beside done work) o n p)
+
+-- where no row applies, what Done gives keeps the promise
+pub none-first : {A : Type 0} (rs : List (Row A)) (d : A) → None rs → First rs d d
+none-first [] d n = refl
+none-first (r ∷ rs) d n = inr (n .0, none-first rs d (n .1))
+
+-- what the first row that applies gives keeps it
+pub given-first : {A : Type 0} (rs : List (Row A)) (d o : A) → Given rs o → First rs d o
+given-first [] d o g = absurd g
+given-first (r ∷ rs) d o (inl g) = inl g
+given-first (r ∷ rs) d o (inr g) = inr (g .0, given-first rs d o (g .1))
+
+-- something keeps a promise, and whatever does gives x
+abbrev pub Sole : {A : Type 0} → (A → Type 0) → A → Type 0
+Sole {A} P x = ((o : A) × P o) × ((o : A) → P o → o ≡ x)
+
+pub sole : {A : Type 0} (rs : List (Row A)) (d x : A) → First rs d x → Sole (First rs d) x
+sole rs d x f = ((x, f), λ o p. one rs d o x p f)
+
+-- the same, the work list left aside
+abbrev pub SoleGiven : {A : Type 0} → (Beside A → Type 0) → A → Type 0
+SoleGiven {A} P x = ((o : Beside A) × P o) × ((o : Beside A) → P o → o .given ≡ x)
+
+pub sole-given : {A : Type 0} (front : List (Row (Beside A))) (work : List ℕ) (own : List (Row A)) (done x : A) → None front → First own done x
+    → SoleGiven (Promised front work own done) x
+sole-given front work own done x n f = (
+  (beside x work, passed front work own done x n f),
+  λ o p. one own done (o .given) x (own-rows front work own done o n p) f,
+)
 
 module _ (n : ℕ) (some : 1 ≤ n) (t : Bytes) (w : Whole n t) (work : List ℕ) (room : n ≤ length work) where
   blocks-of : blocks t ≡ n
@@ -63,12 +95,12 @@ module _ (n : ℕ) (some : 1 ≤ n) (t : Bytes) (w : Whole n t) (work : List ℕ
       ),
     )
 
-    pub passes : (own : ℕ → List (Row A)) (done : ℕ → A) (o : Beside A) → Promise refuse t d l work (own (blocks t)) (done (blocks t)) o
-        → First (own n) (done n) (o .given)
+    pub settles : (own : ℕ → List (Row A)) (done : ℕ → A) (x : A) → First (own n) (done n) x
+        → SoleGiven (Promise refuse t d l work (own (blocks t)) (done (blocks t))) x
     unfolding Promise
-    passes own done o p =
-        subst (λ (i : ℕ). First (own i) (done i) (o .given)) blocks-of
-        (own-rows (blockGate (λ a w. beside (refuse a) w) t d l work) (cleared (blocks t) work) (own (blocks t)) (done (blocks t)) o call-passes p)
+    settles own done x f =
+        sole-given (blockGate (λ a w. beside (refuse a) w) t d l work) (cleared (blocks t) work) (own (blocks t)) (done (blocks t)) x call-passes
+        (subst (λ (i : ℕ). First (own i) (done i) x) (sym blocks-of) f)
 
 -- beside the list: on a table of more than a million blocks every call on files, its data being as long, is refused with InvalidValue and leaves all as it was
 pub call-many : {A : Type 0} (refuse : Answer → A) (t : Bytes) (d l : ℕ) (work : List ℕ) (own : List (Row A)) (done : A) → (Misfit t → ⊥) → d ≡ blocks t * l
@@ -77,3 +109,9 @@ unfolding Promise
 call-many refuse t d l work own done fit even many o p =
     refused (blockGate (λ a w. beside (refuse a) w) t d l work ++ within (cleared (blocks t) work) own) (beside done (cleared (blocks t) work)) o
     (beside (refuse InvalidValue) work) (inr ((λ m. ⊎-elim fit (λ h. h even) m), inl (inl (inr many), refl))) p
+
+-- and so is the test, with no counts
+pub test-many : (t : Bytes) (work : List ℕ) → (Misfit t → ⊥) → 1000000 < blocks t → (o : Tested × List ℕ) → TestPromise t work o
+    → o ≡ testRefused InvalidValue work
+test-many t work fit many o p =
+    refused (testGate testRefused t work) (testDone t work) o (testRefused InvalidValue work) (inr (fit, inl (inr many, refl))) p

@@ -1,17 +1,15 @@
 -- The checks of the entry tables.
 use mathlib.Core.Path.{_≡_, refl, sym, ap, _∙_}
-use mathlib.Core.List.{List, [], _∷_, _++_}
+use mathlib.Core.List.{List, [], _∷_}
 use mathlib.Core.Logic.{inl, inr, ⊎-elim}
-use Prim.Native.Nat.{ℕ, zero, suc, _/_, _<_}
+use Prim.Native.Nat.{ℕ, zero, suc, _/_, _%_, _<_}
 use native.Mathlib.Omega.{arith}
 use lib.ListN.{length, replicate}
 use Rattle.words.specs.Word.{word, putWord}
-use Rattle.order.specs.Answer.{numberOf}
-use Rattle.order.specs.Beside.{Beside, beside}
+use Rattle.order.specs.Beside.{beside}
 use Rattle.order.specs.Given.{None}
 use Rattle.order.specs.declared.Answer.{Answer}
 use Rattle.order.specs.declared.Answer.the-variants.{Done, NoSpace}
-use Rattle.order.proofs.One.{settled, refused}
 use Rattle.tree_key.specs.Key.{nameKey}
 use Rattle.tree_key.specs.Hash.{hashOf, mix, rotated}
 use Rattle.tree_table.specs.Field.{field}
@@ -24,52 +22,64 @@ use Rattle.tree_sound.specs.Tables.{Tables, tables, dirs, files}
 use Rattle.tree_promises.specs.declared.Kind.the-variants.{Directory, File}
 use Rattle.tree_promises.specs.Has.{Has}
 use Rattle.tree_promises.specs.Calls.{Carry, carryGives, Make, makeGives, makeRows, makeDone, Lookup, lookupGives, lookupRows, lookupDone}
-use Rattle.tree_promises.specs.Format.{formatRows, formatted, FormatMisfit, FormatOutside}
+use Rattle.tree_promises.specs.Format.{formatRows, formatted, FormatMisfit, FormatOutside, FormatPromise}
+use Rattle.tree_promises.specs.Steps.{made}
 use Rattle.tree_promises.specs.Promise.{worked, TreePromise, OpensPromise}
-use Rattle.tree_promises.specs.Public.{LookupPromise}
-use Rattle.checks.specs.Check.{Shows}
+use Rattle.tree_promises.specs.Public.{LookupPromise, MakeDirPromise, MakeFilePromise}
+use Rattle.checks.specs.Check.{Check, Shows}
 use Rattle.checks.specs.Tree.{
-  s0,
-  s1,
-  s2,
+  rootKey,
   name,
   key,
+  junk,
   work5,
   opens4,
-  wordsAt,
-  rootHash,
+  computed,
   rootIn5,
   rootIn3,
   keyHash,
   keyIn5,
+  hashes,
   formatTree,
   makeDir,
-  makeFile,
+  lookup,
   lookupDir,
   lookupRoot,
+  tree,
+  makeFile,
+  noSpace,
 }
-use Rattle.checks.proofs.Passes.{own-rows}
+use Rattle.checks.proofs.Passes.{none-first, Sole, sole, SoleGiven, sole-given}
+use Rattle.checks.proofs.Then.{then}
 use Rattle.checks.proofs.Fresh.{NoFiles, no-live, Fresh, fresh-sound, Second, second-sound, not-removed}
 
-pub shows-rootHash : Shows rootHash
-unfolding hashOf mix rotated
-shows-rootHash r p = ap (λ (x : ℕ). x ∷ []) p
+-- a number that is what it has to be, and the checks after it
+shows-number : (number wanted : ℕ) (cs : List (Check (Unit {0}))) → number ≡ wanted → Shows cs tt → Shows (computed number wanted ∷ cs) tt
+shows-number number wanted cs e rest =
+    then (computed number wanted) cs tt tt (number, refl) (λ r p. (ap (λ (x : ℕ). x ∷ []) (p ∙ e), refl)) rest
 
-pub shows-rootIn5 : Shows rootIn5
+root-hash : hashOf rootKey ≡ 0xC091A2B3
 unfolding hashOf mix rotated
-shows-rootIn5 r p = ap (λ (x : ℕ). x ∷ []) p
+root-hash = refl
 
-pub shows-rootIn3 : Shows rootIn3
-unfolding hashOf mix rotated
-shows-rootIn3 r p = ap (λ (x : ℕ). x ∷ []) p
-
-pub shows-keyHash : Shows keyHash
+key-hash : hashOf key ≡ 0xF091A2BF
 unfolding hashOf mix rotated word
-shows-keyHash r p = ap (λ (x : ℕ). x ∷ []) p
+key-hash = refl
 
-pub shows-keyIn5 : Shows keyIn5
-unfolding hashOf mix rotated word
-shows-keyIn5 r p = ap (λ (x : ℕ). x ∷ []) p
+pub shows-hashes : Shows (hashes .checks) tt
+shows-hashes =
+    shows-number (hashOf rootKey) 0xC091A2B3 (rootIn5 ∷ rootIn3 ∷ keyHash ∷ keyIn5 ∷ []) root-hash
+    (shows-number (hashOf rootKey % 5) 3 (rootIn3 ∷ keyHash ∷ keyIn5 ∷ []) (ap (λ (x : ℕ). x % 5) root-hash)
+    (shows-number (hashOf rootKey % 3) 0 (keyHash ∷ keyIn5 ∷ []) (ap (λ (x : ℕ). x % 3) root-hash)
+    (shows-number (hashOf key) 0xF091A2BF (keyIn5 ∷ []) key-hash
+    (shows-number (hashOf key % 5) 3 [] (ap (λ (x : ℕ). x % 5) key-hash) tt))))
+
+-- the tables, formatted; with the directory made
+abbrev s1 : Tables
+s1 = formatted junk 4 1
+
+abbrev s2 : Tables
+s2 = made Directory s1 1 name (replicate 4 0)
 
 -- tables of these lengths pass the sizes
 module _ (dh d fh f : List ℕ) (e1 : length dh ≡ 20) (e2 : length d ≡ 160) (e3 : length fh ≡ 4) (e4 : length f ≡ 48) where
@@ -103,17 +113,17 @@ module _ (dh d fh f : List ℕ) (e1 : length dh ≡ 20) (e2 : length d ≡ 160) 
       m2)
       m
 
-format-fits : FormatMisfit s0 4 1 → ⊥
+format-fits : FormatMisfit junk 4 1 → ⊥
 format-fits m =
     ⊎-elim
-    (fits (s0 .dirHash) (s0 .dirTable) (s0 .fileHash) (s0 .fileTable) refl refl refl refl)
+    (fits (junk .dirHash) (junk .dirTable) (junk .fileHash) (junk .fileTable) refl refl refl refl)
     (λ m2. ⊎-elim (λ h. omega (arith, h)) (λ h. omega (arith, h)) m2)
     m
 
-format-inside : FormatOutside s0 4 1 → ⊥
+format-inside : FormatOutside junk 4 1 → ⊥
 format-inside m =
     ⊎-elim
-    (inside (s0 .dirHash) (s0 .dirTable) (s0 .fileHash) (s0 .fileTable) refl refl refl refl)
+    (inside (junk .dirHash) (junk .dirTable) (junk .fileHash) (junk .fileTable) refl refl refl refl)
     (λ m2.
     ⊎-elim
     (λ h. omega (arith, h))
@@ -121,11 +131,17 @@ format-inside m =
     m2)
     m
 
-pub shows-formatTree : Shows formatTree
+sees-format : formatTree .seen (carryGives Done s1) ≡ formatTree .wanted
 unfolding word putWord hashOf mix rotated
-shows-formatTree o p =
-    ap (λ (x : Carry). numberOf (x .answer) ∷ (wordsAt 5 0 (x .tables .dirHash) ++ wordsAt 20 0 (x .tables .dirTable)))
-    (settled (formatRows s0 4 1) (carryGives Done (formatted s0 4 1)) o (format-fits, (format-inside, tt)) p)
+sees-format = refl
+
+shows-format : (cs : List (Check Tables)) → Shows cs s1 → Shows (formatTree ∷ cs) junk
+shows-format cs rest =
+    let q : Sole (FormatPromise junk 4 1) (carryGives Done s1) =
+    sole (formatRows junk 4 1) (carryGives Done s1) (carryGives Done s1)
+    (none-first (formatRows junk 4 1) (carryGives Done s1) (format-fits, (format-inside, tt))) in
+    then formatTree cs junk s1 (q .0)
+    (λ o p. (ap (λ (x : Carry). formatTree .seen x) (q .1 o p) ∙ sees-format, ap (λ (x : Carry). x .tables) (q .1 o p))) rest
 
 -- the formatted tables ------------------------------------------------------------------------------------------------------------------------------
 
@@ -205,28 +221,31 @@ room1 : freeOf (dirs s1) ≡ 2
 unfolding word putWord field
 room1 = refl
 
-make-done : (o : Beside Make) → makeDir .promise o → o .given ≡ makeDone Directory s1 opens4 1 name (replicate 4 0)
+make-done : SoleGiven (MakeDirPromise s1 opens4 work5 1 name (replicate 4 0)) (makeDone Directory s1 opens4 1 name (replicate 4 0))
 unfolding OpensPromise
-make-done o p =
-    settled (makeRows s1 (dirs s1) opens4 1 key) (makeDone Directory s1 opens4 1 name (replicate 4 0)) (o .given)
-    (λ h. h live1, (no-key1, (λ h. omega (arith, room1, h), tt)))
-    (own-rows
+make-done =
+    sole-given
     (openGate (λ a w. beside (makeGives a 0 s1 opens4) w) s1 4 (length (s1 .dirTable) / 40) work5)
     (worked s1 work5)
     (makeRows s1 (dirs s1) opens4 1 key)
     (makeDone Directory s1 opens4 1 name (replicate 4 0))
-    o
+    (makeDone Directory s1 opens4 1 name (replicate 4 0))
     (open-passes s1 (lengths1 .0) (lengths1 .1) (lengths1 .2) (lengths1 .3) (fresh-sound (dirs s1) (files s1) fresh1)
     (λ a w. beside (makeGives a 0 s1 opens4) w))
-    p)
+    (none-first (makeRows s1 (dirs s1) opens4 1 key) (makeDone Directory s1 opens4 1 name (replicate 4 0))
+    (λ h. h live1, (no-key1, (λ h. omega (arith, room1, h), tt))))
 
-pub shows-makeDir : Shows makeDir
+sees-make : makeDir .seen (beside (makeDone Directory s1 opens4 1 name (replicate 4 0)) work5) ≡ makeDir .wanted
 unfolding word putWord field hashOf mix rotated
-shows-makeDir o p =
-    ap
-    (λ (x : Make).
-    numberOf (x .answer) ∷ x .inode ∷ field 4 (x .tables .dirHash) 3 0 ∷ field 40 (x .tables .dirTable) 2 0 ∷ field 40 (x .tables .dirTable) 1 7 ∷ [])
-    (make-done o p)
+sees-make = refl
+
+shows-make : (cs : List (Check Tables)) → Shows cs s2 → Shows (makeDir ∷ cs) s1
+shows-make cs rest =
+    then makeDir cs s1 s2 (make-done .0)
+    (λ o p. (
+      ap (λ (x : Make). makeDir .seen (beside x work5)) (make-done .1 o p) ∙ sees-make,
+      ap (λ (x : Make). x .tables) (make-done .1 o p),
+    )) rest
 
 -- the tables with the directory -------------------------------------------------------------------------------------------------------------------
 
@@ -265,17 +284,19 @@ lengths2 : (length (s2 .dirHash) ≡ 20) × (length (s2 .dirTable) ≡ 160) × (
 unfolding word putWord field hashOf mix rotated
 lengths2 = (refl, refl, refl, refl)
 
-lookup-done : (p : ℕ) (n : List ℕ) → Has (dirs s2) (nameKey p n) → (o : Beside Lookup) → LookupPromise s2 (dirs s2) work5 p n o
-    → o .given ≡ lookupDone (dirs s2) (nameKey p n)
+shows-lookup : (p : ℕ) (n wanted : List ℕ) (cs : List (Check Tables)) → Has (dirs s2) (nameKey p n)
+    → lookup p n wanted .seen (beside (lookupDone (dirs s2) (nameKey p n)) work5) ≡ wanted → Shows cs s2 → Shows (lookup p n wanted ∷ cs) s2
 unfolding TreePromise
-lookup-done p n has o q =
+shows-lookup p n wanted cs has sees rest =
     let k : List ℕ = nameKey p n in
-    settled (lookupRows (dirs s2) k) (lookupDone (dirs s2) k) (o .given) (λ h. h has, tt)
-    (own-rows (treeGate (λ a w. beside (lookupGives a 0 0) w) s2 work5) (worked s2 work5)
-    (lookupRows (dirs s2) k) (lookupDone (dirs s2) k) o
+    let q : SoleGiven (LookupPromise s2 (dirs s2) work5 p n) (lookupDone (dirs s2) (nameKey p n)) =
+    sole-given (treeGate (λ a w. beside (lookupGives a 0 0) w) s2 work5) (worked s2 work5)
+    (lookupRows (dirs s2) k) (lookupDone (dirs s2) k) (lookupDone (dirs s2) k)
     (tree-passes s2 (lengths2 .0) (lengths2 .1) (lengths2 .2) (lengths2 .3) (second-sound (dirs s2) (files s2) second2)
     (λ a w. beside (lookupGives a 0 0) w))
-    q)
+    (none-first (lookupRows (dirs s2) k) (lookupDone (dirs s2) k) (λ h. h has, tt)) in
+    then (lookup p n wanted) cs s2 s2 (q .0)
+    (λ o r. (ap (λ (x : Lookup). lookup p n wanted .seen (beside x work5)) (q .1 o r) ∙ sees, refl)) rest
 
 live2 : (y : ℕ) → 0 < y → y < 3 → LiveIn (dirs s2) y
 live2 y lo hi = (lo, omega (arith, hi, second2 .count), not-removed (dirs s2) (second2 .removed) y)
@@ -288,13 +309,20 @@ has-root : Has (dirs s2) (nameKey 0 (replicate 16 0))
 unfolding word putWord field hashOf mix rotated
 has-root = (1, live2 1 (omega arith) (omega arith), refl)
 
-pub shows-lookupDir : Shows lookupDir
+sees-lookupDir : lookupDir .seen (beside (lookupDone (dirs s2) key) work5) ≡ lookupDir .wanted
 unfolding word putWord field hashOf mix rotated
-shows-lookupDir o p = ap (λ (x : Lookup). numberOf (x .answer) ∷ x .inode ∷ x .compared ∷ []) (lookup-done 1 name has-key o p)
+sees-lookupDir = refl
 
-pub shows-lookupRoot : Shows lookupRoot
+sees-lookupRoot : lookupRoot .seen (beside (lookupDone (dirs s2) (nameKey 0 (replicate 16 0))) work5) ≡ lookupRoot .wanted
 unfolding word putWord field hashOf mix rotated
-shows-lookupRoot o p = ap (λ (x : Lookup). numberOf (x .answer) ∷ x .inode ∷ x .compared ∷ []) (lookup-done 0 (replicate 16 0) has-root o p)
+sees-lookupRoot = refl
+
+pub shows-tree : Shows (tree .checks) junk
+shows-tree =
+    shows-format (makeDir ∷ lookupDir ∷ lookupRoot ∷ [])
+    (shows-make (lookupDir ∷ lookupRoot ∷ [])
+    (shows-lookup 1 name (lookupDir .wanted) (lookupRoot ∷ []) has-key sees-lookupDir
+    (shows-lookup 0 (replicate 16 0) (lookupRoot .wanted) [] has-root sees-lookupRoot tt)))
 
 -- no file yet, and no room for one
 no-file-key : Has (files s1) key → ⊥
@@ -304,30 +332,40 @@ no-room : freeOf (files s1) ≡ 0
 unfolding word putWord field
 no-room = refl
 
-pub shows-makeFile : Shows makeFile
-unfolding word putWord field hashOf mix rotated OpensPromise
-shows-makeFile o p =
-    ap (λ (x : Make). numberOf (x .answer) ∷ x .inode ∷ (x .opens ++ x .tables .fileTable))
-    (refused (makeRows s1 (files s1) (replicate 1 0) 1 key) (makeDone File s1 (replicate 1 0) 1 name (replicate 20 0)) (o .given)
-    (makeGives NoSpace 0 s1 (replicate 1 0))
-    (inr (λ h. h live1, inr (no-file-key, inl (no-room, refl))))
-    (own-rows
+file-passes : None (openGate (λ a w. beside (makeGives a 0 s1 (replicate 1 0)) w) s1 1 (length (s1 .fileTable) / 48) work5)
+file-passes = (
+  fits (s1 .dirHash) (s1 .dirTable) (s1 .fileHash) (s1 .fileTable) (lengths1 .0) (lengths1 .1) (lengths1 .2) (lengths1 .3),
+  (
+    inside (s1 .dirHash) (s1 .dirTable) (s1 .fileHash) (s1 .fileTable) (lengths1 .0) (lengths1 .1) (lengths1 .2) (lengths1 .3),
+    (
+      λ m. ⊎-elim (λ h. omega (arith, lengths1 .1, lengths1 .3, h)) (λ h. omega (arith, lengths1 .3, h)) m,
+      (λ h. h (fresh-sound (dirs s1) (files s1) fresh1), tt),
+    ),
+  ),
+)
+
+file-refused : SoleGiven (MakeFilePromise s1 (replicate 1 0) work5 1 name (replicate 20 0)) (makeGives NoSpace 0 s1 (replicate 1 0))
+unfolding OpensPromise
+file-refused =
+    sole-given
     (openGate (λ a w. beside (makeGives a 0 s1 (replicate 1 0)) w) s1 1 (length (s1 .fileTable) / 48) work5)
     (worked s1 work5)
     (makeRows s1 (files s1) (replicate 1 0) 1 key)
     (makeDone File s1 (replicate 1 0) 1 name (replicate 20 0))
-    o
+    (makeGives NoSpace 0 s1 (replicate 1 0))
     file-passes
-    p))
-  where
-    file-passes : None (openGate (λ a w. beside (makeGives a 0 s1 (replicate 1 0)) w) s1 1 (length (s1 .fileTable) / 48) work5)
-    file-passes = (
-      fits (s1 .dirHash) (s1 .dirTable) (s1 .fileHash) (s1 .fileTable) (lengths1 .0) (lengths1 .1) (lengths1 .2) (lengths1 .3),
-      (
-        inside (s1 .dirHash) (s1 .dirTable) (s1 .fileHash) (s1 .fileTable) (lengths1 .0) (lengths1 .1) (lengths1 .2) (lengths1 .3),
-        (
-          λ m. ⊎-elim (λ h. omega (arith, lengths1 .1, lengths1 .3, h)) (λ h. omega (arith, lengths1 .3, h)) m,
-          (λ h. h (fresh-sound (dirs s1) (files s1) fresh1), tt),
-        ),
-      ),
-    )
+    (inr (λ h. h live1, inr (no-file-key, inl (no-room, refl))))
+
+sees-file : makeFile .seen (beside (makeGives NoSpace 0 s1 (replicate 1 0)) work5) ≡ makeFile .wanted
+unfolding word putWord field hashOf mix rotated
+sees-file = refl
+
+-- beside the list
+pub no-space : Shows (noSpace .checks) junk
+no-space =
+    shows-format (makeFile ∷ [])
+    (then makeFile [] s1 s1 (file-refused .0)
+    (λ o p. (
+      ap (λ (x : Make). makeFile .seen (beside x work5)) (file-refused .1 o p) ∙ sees-file,
+      ap (λ (x : Make). x .tables) (file-refused .1 o p),
+    )) tt)
