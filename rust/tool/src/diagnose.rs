@@ -1,9 +1,8 @@
 //! What can be said of a volume that is refused. These are hints, read leniently from tables that can't be trusted;
 //! the verdict is the library's.
 
-use crate::name::joined;
-use crate::session::read_tree;
-use crate::term::{count, number};
+use crate::tree::{path_of, read_tree};
+use crate::words::{count, number};
 use mukthiban::{fat, tree, Kind, Parts, Refusal, Shape, Volume};
 use std::collections::HashMap;
 
@@ -200,12 +199,7 @@ fn file_names(parts: &Parts) -> HashMap<u32, String> {
     let Ok(mut volume) = Volume::open(alone) else { return names };
     let Ok(entries) = read_tree(&mut volume) else { return names };
     for at in (0..entries.len()).filter(|&e| entries[e].kind == Kind::File && entries[e].record.size > 0) {
-        let (mut path, mut up) = (Vec::new(), at);
-        while up != 0 {
-            path.push(&entries[up].name);
-            up = entries[up].parent;
-        }
-        names.entry(entries[at].record.first_block).or_insert_with(|| joined(path.into_iter().rev()));
+        names.entry(entries[at].record.first_block).or_insert_with(|| path_of(&entries, at));
     }
     names
 }

@@ -1,20 +1,18 @@
 //! The technician's tool: says whether a volume is sound, shows what is on it, lifts its files, and changes it
 //! without ever leaving it half written.
 
-mod change;
-mod check;
+mod args;
+mod audit;
 mod cli;
+mod commands;
 mod diagnose;
 mod fail;
 mod folder;
-mod json;
-mod lift;
-mod ls;
-mod map;
 mod name;
 mod session;
-mod svg;
-mod term;
+mod show;
+mod tree;
+mod words;
 
 use std::process::ExitCode;
 

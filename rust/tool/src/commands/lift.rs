@@ -1,24 +1,31 @@
-//! `cat` and `lift`: files out of the volume.
+//! `lift`: files out of the volume.
 
-use crate::cli::Call;
+use crate::args::{Call, Command};
 use crate::fail::{Fail, Outcome, NOT_SOUND, SOUND};
 use crate::name::shown;
 use crate::session::Session;
-use crate::term::{count, number, say, say_bytes, Progress};
+use crate::show::term::{say, Progress};
+use crate::words::{count, number};
 use mukthiban::Kind;
 use std::ffi::OsString;
 use std::fs::{self, File};
 use std::io::Write;
 use std::path::{Path, PathBuf};
 
-pub fn cat(call: &Call) -> Outcome<u8> {
-    let mut session = Session::read(Path::new(&call.words[0]))?;
-    let at = session.find(&call.path(1)?, &[Kind::File])?;
-    say_bytes(&session.content(at)?)?;
-    Ok(SOUND)
-}
+pub const COMMAND: Command = Command {
+    name: "lift",
+    takes: "VOLUME OUT",
+    least: 2,
+    most: 2,
+    options: &[],
+    short: "copy every file out, and compare",
+    long: "OUT is a folder that must not exist. Each file is written, synced, read back and compared with the\n\
+           volume. OUT appears when all is there; until then it is called OUT.part. A file that has a\n\
+           directory's name is lifted as NAME\\file.",
+    run,
+};
 
-pub fn run(call: &Call) -> Outcome<u8> {
+fn run(call: &Call) -> Outcome<u8> {
     let out = PathBuf::from(&call.words[1]);
     let part = part_of(&out)?;
     let mut session = Session::read(Path::new(&call.words[0]))?;

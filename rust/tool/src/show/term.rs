@@ -1,4 +1,4 @@
-//! What a terminal gets and a file does not: colours, and a line of progress. And numbers as people read them.
+//! What a terminal gets and a file does not: colours, and a line of progress.
 
 use crate::fail::{Fail, Outcome};
 use std::io::{self, IsTerminal, Write};
@@ -44,27 +44,6 @@ pub fn columns() -> usize {
     std::env::var("COLUMNS").ok().and_then(|c| c.parse().ok()).unwrap_or(80).clamp(40, 200)
 }
 
-/// 1234567 as 1,234,567.
-pub fn number(n: u64) -> String {
-    let digits = n.to_string();
-    let mut out = String::new();
-    for (i, c) in digits.chars().enumerate() {
-        if i > 0 && (digits.len() - i).is_multiple_of(3) {
-            out.push(',');
-        }
-        out.push(c);
-    }
-    out
-}
-
-/// "1 block", "2 blocks".
-pub fn count(n: u64, one: &str) -> String {
-    match n {
-        1 => format!("1 {one}"),
-        _ => format!("{} {one}s", number(n)),
-    }
-}
-
 /// A line of progress on standard error, where that is a terminal.
 pub struct Progress {
     shown: bool,
@@ -99,20 +78,5 @@ impl Drop for Progress {
         if self.shown && self.last.is_some() {
             let _ = write!(io::stderr(), "\r\x1b[K");
         }
-    }
-}
-
-#[cfg(test)]
-mod tests {
-    use super::*;
-
-    #[test]
-    fn numbers_as_people_read_them() {
-        assert_eq!(number(0), "0");
-        assert_eq!(number(999), "999");
-        assert_eq!(number(1000), "1,000");
-        assert_eq!(number(1234567), "1,234,567");
-        assert_eq!(count(1, "block"), "1 block");
-        assert_eq!(count(0, "block"), "0 blocks");
     }
 }

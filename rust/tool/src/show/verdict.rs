@@ -1,23 +1,13 @@
-//! `check`: the verdict first.
+//! The verdict on a volume.
 
-use crate::cli::Call;
 use crate::diagnose;
 use crate::fail::{Outcome, NOT_SOUND, SOUND};
-use crate::folder::Place;
-use crate::json;
 use crate::session::Session;
-use crate::term::{count, ink, number, say, Ink};
+use crate::show::json;
+use crate::show::term::{ink, say, Ink};
+use crate::words::{count, number};
 use mukthiban::{Kind, NotSound, Refusal};
 use std::path::Path;
-
-pub fn run(call: &Call) -> Outcome<u8> {
-    let path = Path::new(&call.words[0]);
-    let parts = Place::at(path)?.load()?;
-    match Session::open(parts) {
-        Ok(session) => tested(call, path, &session),
-        Err(no) => refused(call, path, &no),
-    }
-}
 
 fn verdict(sound: bool, path: &Path) -> String {
     match sound {
@@ -27,7 +17,7 @@ fn verdict(sound: bool, path: &Path) -> String {
 }
 
 /// Both tables are sound; the files' records may still be wrong.
-fn tested(call: &Call, path: &Path, session: &Session) -> Outcome<u8> {
+pub fn tested(as_json: bool, path: &Path, session: &Session) -> Outcome<u8> {
     let sound = session.findings.is_empty();
     let volume = &session.volume;
     let of_kind = |kind| session.entries.iter().filter(move |e| e.kind == kind);
@@ -38,7 +28,7 @@ fn tested(call: &Call, path: &Path, session: &Session) -> Outcome<u8> {
     let lost_blocks: usize = session.lost.iter().map(|l| l.blocks.len()).sum();
     let code = if sound { SOUND } else { NOT_SOUND };
 
-    if call.json {
+    if as_json {
         let findings: Vec<String> = session
             .findings
             .iter()
@@ -97,14 +87,14 @@ fn tested(call: &Call, path: &Path, session: &Session) -> Outcome<u8> {
 }
 
 /// A table was refused.
-fn refused(call: &Call, path: &Path, no: &NotSound) -> Outcome<u8> {
+pub fn refused(as_json: bool, path: &Path, no: &NotSound) -> Outcome<u8> {
     let refusal = no.refusal;
     let hints = match refusal {
         Refusal::SizeMismatch | Refusal::InvalidValue => diagnose::sizes(&no.parts),
         Refusal::BrokenFat => diagnose::blocks(&no.parts),
         _ => Vec::new(),
     };
-    if call.json {
+    if as_json {
         say(&format!(
             "{}\n",
             json::object(&[

@@ -1,48 +1,15 @@
-//! `ls`: what is in a directory.
+//! A listing of entries.
 
-use crate::cli::Call;
-use crate::fail::{Outcome, SOUND};
-use crate::json;
-use crate::name::{shown, Path};
-use crate::session::{Entry, Session};
-use crate::term::{ink, number, say, Ink};
+use crate::name::shown;
+use crate::session::Session;
+use crate::show::json;
+use crate::show::term::{ink, Ink};
+use crate::tree::Entry;
+use crate::words::number;
 use mukthiban::Kind;
-use std::path;
 
-pub fn run(call: &Call) -> Outcome<u8> {
-    let session = Session::read(path::Path::new(&call.words[0]))?;
-    let path = match call.words.len() {
-        1 => Path { names: Vec::new(), slash: true },
-        _ => call.path(1)?,
-    };
-    let at = session.find(&path, &[Kind::Dir, Kind::File])?;
-    let all = call.has("--all");
-    let listed = match session.entries[at].kind {
-        Kind::File => vec![at],
-        Kind::Dir => inside(&session, at, all),
-    };
-    let text = match call.json {
-        true => as_json(&session, at, &listed),
-        false => as_text(&session, &listed, all),
-    };
-    say(&text)?;
-    Ok(SOUND)
-}
-
-/// What is in a directory; with `all`, each directory followed by what is in it.
-fn inside(session: &Session, dir: usize, all: bool) -> Vec<usize> {
-    let mut out = Vec::new();
-    let mut ahead: Vec<usize> = session.entries[dir].inside.clone().rev().collect();
-    while let Some(at) = ahead.pop() {
-        out.push(at);
-        if all {
-            ahead.extend(session.entries[at].inside.clone().rev());
-        }
-    }
-    out
-}
-
-fn as_text(session: &Session, listed: &[usize], all: bool) -> String {
+/// The entries in columns; with `all`, by full paths.
+pub fn as_text(session: &Session, listed: &[usize], all: bool) -> String {
     let rows: Vec<[String; 4]> = listed
         .iter()
         .map(|&at| {
@@ -77,7 +44,8 @@ fn as_text(session: &Session, listed: &[usize], all: bool) -> String {
     out
 }
 
-fn as_json(session: &Session, at: usize, listed: &[usize]) -> String {
+/// The entries as JSON.
+pub fn as_json(session: &Session, at: usize, listed: &[usize]) -> String {
     let items: Vec<String> = listed.iter().map(|&e| entry_json(&session.path(e), &session.entries[e])).collect();
     format!("{{\"path\": {}, \"entries\": {}}}\n", json::text(&session.path(at)), json::list(&items))
 }

@@ -1,0 +1,99 @@
+//! The command line: what a command is, and the words behind it.
+
+use crate::fail::{Fail, Outcome};
+use crate::name::Path;
+use std::ffi::{OsStr, OsString};
+use std::os::unix::ffi::OsStrExt;
+
+/// A command line, taken apart.
+pub struct Call {
+    pub words: Vec<OsString>,
+    pub json: bool,
+    options: Vec<(&'static str, OsString)>,
+}
+
+impl Call {
+    /// The value of an option, if it was given; for a switch, an empty one.
+    pub fn option(&self, name: &str) -> Option<&OsStr> {
+        self.options.iter().rev().find(|(n, _)| *n == name).map(|(_, value)| value.as_os_str())
+    }
+
+    pub fn has(&self, name: &str) -> bool {
+        self.option(name).is_some()
+    }
+
+    /// The number given by an option, or else the usual one.
+    pub fn number(&self, name: &str, usual: Option<usize>) -> Outcome<usize> {
+        match self.option(name) {
+            None => usual.ok_or_else(|| Fail::usage(format!("{name} N is needed"))),
+            Some(value) => {
+                let number = value.to_str().and_then(|v| v.parse().ok());
+                number.ok_or_else(|| Fail::usage(format!("{name} {}: this is no number", value.to_string_lossy())))
+            }
+        }
+    }
+
+    /// A word as a path inside the volume.
+    pub fn path(&self, place: usize) -> Outcome<Path> {
+        let written = &self.words[place];
+        Path::parse(written.as_bytes()).map_err(|line| Fail::failed(format!("{}: {line}", written.to_string_lossy())))
+    }
+}
+
+/// An option: its name, what its value is called (empty for a switch), and what it is for.
+pub type Opt = (&'static str, &'static str, &'static str);
+
+/// A command: what it takes, its help, and what it does.
+pub struct Command {
+    pub name: &'static str,
+    pub takes: &'static str,
+    pub least: usize,
+    pub most: usize,
+    pub options: &'static [Opt],
+    pub short: &'static str,
+    pub long: &'static str,
+    pub run: fn(&Call) -> Outcome<u8>,
+}
+
+pub const JSON: Opt = ("--json", "", "answer in JSON");
+
+/// The words behind the command. None: help was asked for.
+pub fn take(command: &Command, words: &[OsString]) -> Outcome<Option<Call>> {
+    let mut call = Call { words: Vec::new(), json: false, options: Vec::new() };
+    let mut rest = words.iter();
+    while let Some(word) = rest.next() {
+        let Some(text) = word.to_str().filter(|t| t.len() > 1 && t.starts_with('-')) else {
+            call.words.push(word.clone());
+            continue;
+        };
+        let (name, joined) = match text.split_once('=') {
+            Some((name, value)) => (name, Some(value)),
+            None => (text, None),
+        };
+        match name {
+            "--" => {
+                call.words.extend(rest.by_ref().cloned());
+                break;
+            }
+            "--help" | "-h" => return Ok(None),
+            _ => (),
+        }
+        let Some((name, value, _)) = command.options.iter().find(|o| o.0 == name) else {
+            return Err(Fail::usage(format!("{text}: no such option; see `mukthiban {} --help`", command.name)));
+        };
+        let given = match (value.is_empty(), joined) {
+            (true, None) => OsString::new(),
+            (true, Some(_)) => return Err(Fail::usage(format!("{name} takes no value"))),
+            (false, Some(value)) => value.into(),
+            (false, None) => {
+                rest.next().cloned().ok_or_else(|| Fail::usage(format!("{name} needs its {value} behind it")))?
+            }
+        };
+        call.json |= *name == "--json";
+        call.options.push((name, given));
+    }
+    if call.words.len() < command.least || call.words.len() > command.most {
+        return Err(Fail::usage(format!("usage: mukthiban {} {}", command.name, command.takes)));
+    }
+    Ok(Some(call))
+}

@@ -1,0 +1,55 @@
+//! `ls`: what is in a directory.
+
+use crate::args::{Call, Command, JSON};
+use crate::fail::{Outcome, SOUND};
+use crate::name::Path;
+use crate::session::Session;
+use crate::show::listing;
+use crate::show::term::say;
+use mukthiban::Kind;
+use std::path;
+
+pub const COMMAND: Command = Command {
+    name: "ls",
+    takes: "VOLUME [PATH]",
+    least: 1,
+    most: 2,
+    options: &[("--all", "", "with all that is below, by full paths"), JSON],
+    short: "list a directory",
+    long: "Size in bytes, blocks, fragments (stretches of blocks that follow each other) and name. A name that\n\
+           is no text is shown with \\xNN for a byte, and may be written so in every PATH.",
+    run,
+};
+
+fn run(call: &Call) -> Outcome<u8> {
+    let session = Session::read(path::Path::new(&call.words[0]))?;
+    let path = match call.words.len() {
+        1 => Path { names: Vec::new(), slash: true },
+        _ => call.path(1)?,
+    };
+    let at = session.find(&path, &[Kind::Dir, Kind::File])?;
+    let all = call.has("--all");
+    let listed = match session.entries[at].kind {
+        Kind::File => vec![at],
+        Kind::Dir => inside(&session, at, all),
+    };
+    let text = match call.json {
+        true => listing::as_json(&session, at, &listed),
+        false => listing::as_text(&session, &listed, all),
+    };
+    say(&text)?;
+    Ok(SOUND)
+}
+
+/// What is in a directory; with `all`, each directory followed by what is in it.
+fn inside(session: &Session, dir: usize, all: bool) -> Vec<usize> {
+    let mut out = Vec::new();
+    let mut ahead: Vec<usize> = session.entries[dir].inside.clone().rev().collect();
+    while let Some(at) = ahead.pop() {
+        out.push(at);
+        if all {
+            ahead.extend(session.entries[at].inside.clone().rev());
+        }
+    }
+    out
+}

@@ -1,0 +1,28 @@
+//! The commands, a file each.
+
+mod cat;
+mod check;
+mod lift;
+mod ls;
+mod map;
+mod mkdir;
+mod mv;
+mod new;
+mod put;
+mod rm;
+
+use crate::args::Command;
+
+/// All commands, in the order of the help.
+pub const ALL: &[Command] = &[
+    check::COMMAND,
+    ls::COMMAND,
+    cat::COMMAND,
+    lift::COMMAND,
+    put::COMMAND,
+    mkdir::COMMAND,
+    mv::COMMAND,
+    rm::COMMAND,
+    new::COMMAND,
+    map::COMMAND,
+];

@@ -1,0 +1,55 @@
+//! `mv`: another name or another directory.
+
+use crate::args::{Call, Command};
+use crate::fail::{Fail, Outcome, SOUND};
+use crate::name::joined;
+use crate::session::Session;
+use crate::show::term::say;
+use mukthiban::{Kind, Refusal};
+use std::path::Path;
+
+pub const COMMAND: Command = Command {
+    name: "mv",
+    takes: "VOLUME FROM TO",
+    least: 3,
+    most: 3,
+    options: &[],
+    short: "rename or move a file or a directory",
+    long: "FROM is a file, or else a directory; with a slash at its end a directory. Where TO is a directory, or\n\
+           ends with a slash, it keeps its name.",
+    run,
+};
+
+fn run(call: &Call) -> Outcome<u8> {
+    let (from, mut to) = (call.path(1)?, call.path(2)?);
+    let (place, mut session) = Session::change(Path::new(&call.words[0]))?;
+    let at = session.find(&from, &[Kind::File, Kind::Dir])?;
+    let (kind, inode, own) = (session.entries[at].kind, session.entries[at].inode, session.entries[at].name);
+    let before = session.path(at);
+    // a new name with a slash at its end is welcome for a directory
+    if kind == Kind::Dir && session.dir(&to.names).is_err() {
+        to.slash = false;
+    }
+    session.into_directory(&mut to, || Ok(own))?;
+    let about = joined(&to.names);
+    let (parents, name) = to.split().expect("a name was added");
+    let parent = session.entries[session.dir(parents)?].inode;
+    let volume = &mut session.volume;
+    let moved = match kind {
+        Kind::Dir => volume
+            .open_dir(inode)
+            .and_then(|()| volume.rename_dir(inode, parent, name))
+            .and_then(|()| volume.close_dir(inode)),
+        Kind::File => volume
+            .open_file(inode)
+            .and_then(|()| volume.rename_file(inode, parent, name))
+            .and_then(|()| volume.close_file(inode)),
+    };
+    moved.map_err(|r| match r {
+        Refusal::AlreadyExist => Fail::refused(&about, r),
+        _ => Fail::refused(&before, r),
+    })?;
+    session.save(&place)?;
+    say(&format!("moved {before} to {about}\n"))?;
+    Ok(SOUND)
+}

@@ -1,0 +1,11 @@
+//! What draws and prints.
+
+pub mod colour;
+pub mod help;
+pub mod json;
+pub mod listing;
+pub mod map;
+pub mod picture;
+pub mod svg;
+pub mod term;
+pub mod verdict;
