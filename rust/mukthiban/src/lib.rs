@@ -6,15 +6,21 @@
 //! - [`fat`] and [`tree`] have each call once, over lent slices, any bytes allowed.
 //! - [`Volume`] owns a whole volume, tests it once, and then works without testing again.
 //! - [`Refusal`] says why a call was refused.
+//! - [`folder`] reads a volume from a folder of the host and puts a changed one in its place.
 //! - [`Record`] reads where a file's blocks begin and how long it is.
 
+mod chains;
+mod digest;
+mod disk;
 mod ffi;
 mod inner;
+mod journal;
 mod record;
 mod refusal;
 mod volume;
 
 pub mod fat;
+pub mod folder;
 pub mod tree;
 
 pub use record::Record;

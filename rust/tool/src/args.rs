@@ -4,6 +4,7 @@ use crate::fail::{Fail, Outcome};
 use crate::name::Path;
 use std::ffi::{OsStr, OsString};
 use std::os::unix::ffi::OsStrExt;
+use std::time::Duration;
 
 /// A command line, taken apart.
 pub struct Call {
@@ -33,6 +34,16 @@ impl Call {
         }
     }
 
+    /// The volume, by its place among the words.
+    pub fn volume(&self, place: usize) -> &std::path::Path {
+        std::path::Path::new(&self.words[place])
+    }
+
+    /// How long to wait for another program that works on a volume.
+    pub fn wait(&self) -> Outcome<Duration> {
+        Ok(Duration::from_secs(self.number("--wait", Some(0))? as u64))
+    }
+
     /// A word as a path inside the volume.
     pub fn path(&self, place: usize) -> Outcome<Path> {
         let written = &self.words[place];
@@ -57,6 +68,9 @@ pub struct Command {
 
 pub const JSON: Opt = ("--json", "", "answer in JSON");
 
+/// What every command takes.
+pub const COMMON: &[Opt] = &[("--wait", "SECONDS", "how long to wait where another program works on the volume (0)")];
+
 /// The words behind the command. None: help was asked for.
 pub fn take(command: &Command, words: &[OsString]) -> Outcome<Option<Call>> {
     let mut call = Call { words: Vec::new(), json: false, options: Vec::new() };
@@ -78,7 +92,7 @@ pub fn take(command: &Command, words: &[OsString]) -> Outcome<Option<Call>> {
             "--help" | "-h" => return Ok(None),
             _ => (),
         }
-        let Some((name, value, _)) = command.options.iter().find(|o| o.0 == name) else {
+        let Some((name, value, _)) = command.options.iter().chain(COMMON).find(|o| o.0 == name) else {
             return Err(Fail::usage(format!("{text}: no such option; see `mukthiban {} --help`", command.name)));
         };
         let given = match (value.is_empty(), joined) {

@@ -20,7 +20,7 @@ pub struct Lost {
 }
 
 /// Holds the files' records against the block table, in inode order, and fills in the files' blocks.
-pub fn audit(volume: &mut Volume, entries: &mut [Entry]) -> (Vec<Finding>, Vec<Lost>) {
+pub fn audit(volume: &Volume, entries: &mut [Entry]) -> (Vec<Finding>, Vec<Lost>) {
     let block_len = volume.parts().block_len;
     let mut files: Vec<usize> = (0..entries.len()).filter(|&e| entries[e].kind == Kind::File).collect();
     files.sort_by_key(|&e| entries[e].inode);
@@ -35,7 +35,7 @@ pub fn audit(volume: &mut Volume, entries: &mut [Entry]) -> (Vec<Finding>, Vec<L
         let mut find = |kind, what: String| {
             findings.push(Finding { kind, of: inode, line: format!("{}: {what}", path_of(entries, e)) })
         };
-        let Ok(blocks) = volume.open_list(first_block as usize) else {
+        let Ok(blocks) = volume.chain(first_block as usize) else {
             find(1, format!("block {first_block}, where it should begin, is no file's first block"));
             continue;
         };
@@ -53,7 +53,7 @@ pub fn audit(volume: &mut Volume, entries: &mut [Entry]) -> (Vec<Finding>, Vec<L
     let firsts: Vec<usize> = volume.first_blocks().filter(|&b| !owner.contains_key(&(b as u32))).collect();
     let lost = firsts
         .into_iter()
-        .map(|b| Lost { first_block: b as u32, blocks: volume.open_list(b).expect("a file's first block") })
+        .map(|b| Lost { first_block: b as u32, blocks: volume.chain(b).expect("a file's first block") })
         .collect();
     (findings, lost)
 }

@@ -196,8 +196,8 @@ fn file_names(parts: &Parts) -> HashMap<u32, String> {
     let Ok(empty) = Volume::new(shape) else { return names };
     let empty = empty.into_parts();
     let alone = Parts { fat: empty.fat, data: empty.data, block_len: 1, ..parts.clone() };
-    let Ok(mut volume) = Volume::open(alone) else { return names };
-    let Ok(entries) = read_tree(&mut volume) else { return names };
+    let Ok(volume) = Volume::open(alone) else { return names };
+    let Ok(entries) = read_tree(&volume) else { return names };
     for at in (0..entries.len()).filter(|&e| entries[e].kind == Kind::File && entries[e].record.size > 0) {
         names.entry(entries[at].record.first_block).or_insert_with(|| path_of(&entries, at));
     }

@@ -1,5 +1,6 @@
 //! Exit codes, as fsck has them, and the one line that says what went wrong.
 
+use mukthiban::folder::FolderError;
 use mukthiban::Refusal;
 use std::io;
 use std::path::Path;
@@ -43,6 +44,19 @@ impl Fail {
             _ => error.to_string(),
         };
         Fail::failed(format!("{}: {what}", path.display()))
+    }
+
+    /// A volume's folder that can't be read or changed. One that is not sound is another matter.
+    pub fn folder(error: &FolderError) -> Fail {
+        match error {
+            FolderError::Host(path, error) => Fail::host(path, error),
+            FolderError::Locked(_) => Fail::failed(format!("{error}; --wait SECONDS would wait for it")),
+            FolderError::Unfinished(path, error) => {
+                let line = "the change is made, but not all of it is in place yet; the next change will finish it";
+                Fail::failed(format!("{line} ({})", Fail::host(path, error).line))
+            }
+            _ => Fail::failed(error.to_string()),
+        }
     }
 
     /// A call of the library that was refused, about the thing named.

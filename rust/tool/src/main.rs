@@ -3,11 +3,11 @@
 
 mod args;
 mod audit;
+mod change;
 mod cli;
 mod commands;
 mod diagnose;
 mod fail;
-mod folder;
 mod name;
 mod session;
 mod show;

@@ -3,11 +3,12 @@
 use crate::audit::{audit, Finding, Lost};
 use crate::diagnose;
 use crate::fail::{Fail, Outcome};
-use crate::folder::Place;
 use crate::name::{self, joined};
 use crate::tree::{path_of, read_tree, Entry};
+use mukthiban::folder::{Access, Data, Folder};
 use mukthiban::{Kind, Name, NotSound, Parts, Refusal, Volume};
 use std::path::Path;
+use std::time::Duration;
 
 /// A sound volume, read whole.
 pub struct Session {
@@ -22,39 +23,26 @@ pub struct Session {
 impl Session {
     /// Tests the parts and reads the tree.
     pub fn open(parts: Parts) -> Result<Session, NotSound> {
-        let mut volume = Volume::open(parts)?;
-        let mut entries = read_tree(&mut volume).expect("a sound tree can be walked");
-        let (findings, lost) = audit(&mut volume, &mut entries);
+        let volume = Volume::open(parts)?;
+        let mut entries = read_tree(&volume).expect("a sound tree can be walked");
+        let (findings, lost) = audit(&volume, &mut entries);
         Ok(Session { volume, entries, findings, lost })
     }
 
-    /// The volume at that path, to be looked at. Other runs may go on.
-    pub fn read(path: &Path) -> Outcome<Session> {
-        let parts = Place::at(path)?.load()?;
+    /// The volume at that path, to be looked at.
+    pub fn read(path: &Path, wait: Duration, data: Data) -> Outcome<Session> {
+        let folder = Folder::open(path, Access::Read, wait).map_err(|e| Fail::folder(&e))?;
+        let parts = folder.load(data).map_err(|e| Fail::folder(&e))?;
+        drop(folder);
         Session::open(parts).map_err(|no| not_sound(path, &no))
     }
 
-    /// The volume at that path, to be changed: nothing is allowed to be wrong with it.
-    pub fn change(path: &Path) -> Outcome<(Place, Session)> {
-        let place = Place::at(path)?;
-        let session = Session::open(place.load()?).map_err(|no| not_sound(path, &no))?;
-        session.must_be_sound(path)?;
-        Ok((place, session))
-    }
-
-    fn must_be_sound(&self, path: &Path) -> Outcome<()> {
+    /// Nothing is allowed to be wrong with a volume that is changed.
+    pub fn must_be_sound(&self, path: &Path) -> Outcome<()> {
         match self.findings.first() {
             None => Ok(()),
             Some(finding) => Err(Fail::not_sound(format!("{}: not sound: {}", path.display(), finding.line))),
         }
-    }
-
-    /// Tests the changed volume once more, whole, and puts it in its place.
-    pub fn save(self, place: &Place) -> Outcome<()> {
-        let path = place.written();
-        let again = Session::open(self.volume.into_parts()).map_err(|no| not_sound(path, &no))?;
-        again.must_be_sound(path)?;
-        place.save(again.volume.parts())
     }
 
     pub fn path(&self, entry: usize) -> String {
@@ -115,17 +103,12 @@ impl Session {
     }
 
     /// A file's bytes.
-    pub fn content(&mut self, entry: usize) -> Outcome<Vec<u8>> {
+    pub fn content(&self, entry: usize) -> Outcome<Vec<u8>> {
         if let Some(finding) = self.finding_of(entry) {
             return Err(Fail::not_sound(finding.line.clone()));
         }
-        let record = self.entries[entry].record;
-        let mut bytes = vec![0; record.size as usize];
-        if record.size > 0 {
-            let about = self.path(entry);
-            self.volume.read(record.first_block as usize, 0, &mut bytes).map_err(|r| Fail::refused(&about, r))?;
-        }
-        Ok(bytes)
+        let entry = &self.entries[entry];
+        Ok(self.volume.block_bytes(&entry.blocks, entry.record.size as usize))
     }
 }
 

@@ -53,7 +53,7 @@ pub fn path_of(entries: &[Entry], mut at: usize) -> String {
 }
 
 /// Every live entry, by the library's own listings.
-pub fn read_tree(volume: &mut Volume) -> Result<Vec<Entry>, Refusal> {
+pub fn read_tree(volume: &Volume) -> Result<Vec<Entry>, Refusal> {
     let mut entries = vec![Entry::new(Kind::Dir, ROOT, [0; 16], 0, Record::EMPTY)];
     let mut at = 0;
     while at < entries.len() {

@@ -4,8 +4,8 @@ use crate::args::{Call, Command};
 use crate::fail::{Outcome, SOUND};
 use crate::session::Session;
 use crate::show::term::say_bytes;
+use mukthiban::folder::Data;
 use mukthiban::Kind;
-use std::path::Path;
 
 pub const COMMAND: Command = Command {
     name: "cat",
@@ -19,7 +19,7 @@ pub const COMMAND: Command = Command {
 };
 
 fn run(call: &Call) -> Outcome<u8> {
-    let mut session = Session::read(Path::new(&call.words[0]))?;
+    let session = Session::read(call.volume(0), call.wait()?, Data::Bytes)?;
     let at = session.find(&call.path(1)?, &[Kind::File])?;
     say_bytes(&session.content(at)?)?;
     Ok(SOUND)

@@ -1,11 +1,10 @@
 //! `check`: the verdict first.
 
 use crate::args::{Call, Command, JSON};
-use crate::fail::Outcome;
-use crate::folder::Place;
+use crate::fail::{Fail, Outcome};
 use crate::session::Session;
 use crate::show::verdict;
-use std::path::Path;
+use mukthiban::folder::{Access, Data, Folder};
 
 pub const COMMAND: Command = Command {
     name: "check",
@@ -20,8 +19,10 @@ pub const COMMAND: Command = Command {
 };
 
 fn run(call: &Call) -> Outcome<u8> {
-    let path = Path::new(&call.words[0]);
-    let parts = Place::at(path)?.load()?;
+    let path = call.volume(0);
+    let folder = Folder::open(path, Access::Read, call.wait()?).map_err(|e| Fail::folder(&e))?;
+    let parts = folder.load(Data::Length).map_err(|e| Fail::folder(&e))?;
+    drop(folder);
     match Session::open(parts) {
         Ok(session) => verdict::tested(call.json, path, &session),
         Err(no) => verdict::refused(call.json, path, &no),

@@ -6,6 +6,7 @@ use crate::name::shown;
 use crate::session::Session;
 use crate::show::term::{say, Progress};
 use crate::words::{count, number};
+use mukthiban::folder::Data;
 use mukthiban::Kind;
 use std::ffi::OsString;
 use std::fs::{self, File};
@@ -28,10 +29,10 @@ pub const COMMAND: Command = Command {
 fn run(call: &Call) -> Outcome<u8> {
     let out = PathBuf::from(&call.words[1]);
     let part = part_of(&out)?;
-    let mut session = Session::read(Path::new(&call.words[0]))?;
+    let session = Session::read(call.volume(0), call.wait()?, Data::Bytes)?;
     fs::create_dir(&part).map_err(|e| Fail::host(&part, &e))?;
     let unlike = |fail: Fail| Fail { line: format!("{}; what was lifted is in {}", fail.line, part.display()), ..fail };
-    let lifted = lift(&mut session, &part).map_err(unlike)?;
+    let lifted = lift(&session, &part).map_err(unlike)?;
     fs::rename(&part, &out).map_err(|e| unlike(Fail::host(&out, &e)))?;
     say(&format!(
         "lifted {} and {}, {} bytes, to {}; all read back and equal\n",
@@ -76,7 +77,7 @@ struct Lifted {
     left: Vec<String>,
 }
 
-fn lift(session: &mut Session, part: &Path) -> Outcome<Lifted> {
+fn lift(session: &Session, part: &Path) -> Outcome<Lifted> {
     let mut lifted = Lifted::default();
     let good = |session: &Session, e: usize| session.entries[e].kind == Kind::File && session.finding_of(e).is_none();
     let total = (0..session.entries.len()).filter(|&e| good(session, e)).map(|e| session.entries[e].record.size).sum();
@@ -115,7 +116,7 @@ fn host_name(session: &Session, at: usize) -> String {
 }
 
 /// Writes a file, reads it back, and compares it with the volume, which is read once more.
-fn lift_file(session: &mut Session, at: usize, host: &Path, mut progress: impl FnMut(u64)) -> Outcome<u64> {
+fn lift_file(session: &Session, at: usize, host: &Path, mut progress: impl FnMut(u64)) -> Outcome<u64> {
     let bytes = session.content(at)?;
     let mut write = || {
         let mut file = File::create_new(host)?;

@@ -6,8 +6,8 @@ use crate::name::Path;
 use crate::session::Session;
 use crate::show::listing;
 use crate::show::term::say;
+use mukthiban::folder::Data;
 use mukthiban::Kind;
-use std::path;
 
 pub const COMMAND: Command = Command {
     name: "ls",
@@ -22,7 +22,7 @@ pub const COMMAND: Command = Command {
 };
 
 fn run(call: &Call) -> Outcome<u8> {
-    let session = Session::read(path::Path::new(&call.words[0]))?;
+    let session = Session::read(call.volume(0), call.wait()?, Data::Length)?;
     let path = match call.words.len() {
         1 => Path { names: Vec::new(), slash: true },
         _ => call.path(1)?,

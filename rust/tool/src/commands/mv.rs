@@ -1,12 +1,11 @@
 //! `mv`: another name or another directory.
 
 use crate::args::{Call, Command};
+use crate::change::Change;
 use crate::fail::{Fail, Outcome, SOUND};
 use crate::name::joined;
-use crate::session::Session;
 use crate::show::term::say;
 use mukthiban::{Kind, Refusal};
-use std::path::Path;
 
 pub const COMMAND: Command = Command {
     name: "mv",
@@ -22,7 +21,8 @@ pub const COMMAND: Command = Command {
 
 fn run(call: &Call) -> Outcome<u8> {
     let (from, mut to) = (call.path(1)?, call.path(2)?);
-    let (place, mut session) = Session::change(Path::new(&call.words[0]))?;
+    let mut change = Change::open(call.volume(0), call.wait()?)?;
+    let session = &change.session;
     let at = session.find(&from, &[Kind::File, Kind::Dir])?;
     let (kind, inode, own) = (session.entries[at].kind, session.entries[at].inode, session.entries[at].name);
     let before = session.path(at);
@@ -34,22 +34,12 @@ fn run(call: &Call) -> Outcome<u8> {
     let about = joined(&to.names);
     let (parents, name) = to.split().expect("a name was added");
     let parent = session.entries[session.dir(parents)?].inode;
-    let volume = &mut session.volume;
-    let moved = match kind {
-        Kind::Dir => volume
-            .open_dir(inode)
-            .and_then(|()| volume.rename_dir(inode, parent, name))
-            .and_then(|()| volume.close_dir(inode)),
-        Kind::File => volume
-            .open_file(inode)
-            .and_then(|()| volume.rename_file(inode, parent, name))
-            .and_then(|()| volume.close_file(inode)),
-    };
+    let moved = change.rename(kind, inode, parent, name);
     moved.map_err(|r| match r {
         Refusal::AlreadyExist => Fail::refused(&about, r),
         _ => Fail::refused(&before, r),
     })?;
-    session.save(&place)?;
+    change.save()?;
     say(&format!("moved {before} to {about}\n"))?;
     Ok(SOUND)
 }

@@ -2,11 +2,10 @@
 
 use crate::args::{Call, Command};
 use crate::fail::{Fail, Outcome, SOUND};
-use crate::folder::Place;
 use crate::show::term::say;
 use crate::words::{count, number};
+use mukthiban::folder::{self, FolderError};
 use mukthiban::{Shape, Volume};
-use std::path::Path;
 
 pub const COMMAND: Command = Command {
     name: "new",
@@ -26,7 +25,7 @@ pub const COMMAND: Command = Command {
 };
 
 fn run(call: &Call) -> Outcome<u8> {
-    let path = Path::new(&call.words[0]);
+    let path = call.volume(0);
     let bounded = |name: &str, usual: Option<usize>, least: usize, most: usize| {
         let n = call.number(name, usual)?;
         match n < least || n > most {
@@ -46,12 +45,16 @@ fn run(call: &Call) -> Outcome<u8> {
     if Vec::<u8>::new().try_reserve_exact(bytes).is_err() {
         return Err(Fail::failed(format!("{}: no memory for {} of data", path.display(), count(bytes as u64, "byte"))));
     }
-    let place = Place::at(path)?;
-    if place.exists() {
-        return Err(Fail::failed(format!("{}: it exists already; a new volume needs a new name", path.display())));
-    }
     let volume = Volume::new(shape).map_err(|r| Fail::refused(&path.display().to_string(), r))?;
-    place.save(volume.parts())?;
+    folder::create(path, volume.parts()).map_err(|e| match e {
+        FolderError::Exists(there) if there == path => {
+            Fail::failed(format!("{}: it exists already; a new volume needs a new name", path.display()))
+        }
+        FolderError::Exists(part) => {
+            Fail::failed(format!("{}: left by a `new` that was interrupted; remove it first", part.display()))
+        }
+        _ => Fail::folder(&e),
+    })?;
     say(&format!(
         "made {}: {} of {}, room for {} and {} beside the root\n",
         path.display(),

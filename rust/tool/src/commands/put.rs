@@ -1,13 +1,13 @@
-//! `put`: a file of the host onto the volume. All is done in memory, tested, and then put in place at once; a refusal
-//! leaves the volume as it was.
+//! `put`: a file of the host onto the volume.
 
 use crate::args::{Call, Command};
+use crate::change::Change;
 use crate::fail::{Fail, Outcome, SOUND};
 use crate::name::{self, joined};
 use crate::session::Session;
 use crate::show::term::say;
 use crate::words::{count, number};
-use mukthiban::{Kind, Name, Record, Refusal, Volume};
+use mukthiban::{Kind, Name, Refusal};
 use std::fs;
 use std::os::unix::ffi::OsStrExt;
 use std::path::Path;
@@ -26,7 +26,8 @@ pub const COMMAND: Command = Command {
 fn run(call: &Call) -> Outcome<u8> {
     let host = Path::new(&call.words[1]);
     let mut path = call.path(2)?;
-    let (place, mut session) = Session::change(Path::new(&call.words[0]))?;
+    let mut change = Change::open(call.volume(0), call.wait()?)?;
+    let session = &change.session;
     let own_name = || host_name(host);
     session.into_directory(&mut path, own_name)?;
     let (parents, name) = path.split().expect("a name was added");
@@ -38,20 +39,17 @@ fn run(call: &Call) -> Outcome<u8> {
         return Err(Fail::failed(line));
     }
     let room = session.volume.free() + there.map_or(0, |at| session.entries[at].blocks.len());
-    let bytes = read_host(host, &about, &session, room)?;
-    let done = match there {
-        Some(at) => replace(&mut session, at, &bytes),
-        None => {
-            let parent = session.entries[dir].inode;
-            add(&mut session.volume, parent, name, &bytes)
-        }
+    let bytes = read_host(host, &about, session, room)?;
+    let (blocks, parent) = (session_blocks(session, bytes.len()), session.entries[dir].inode);
+    let done = match there.map(|at| session.entries[at].inode) {
+        Some(inode) => change.replace(inode, &bytes),
+        None => change.add(parent, name, &bytes, [0; 20]),
     };
     done.map_err(|r| match r {
         Refusal::NoSpace => Fail::failed(format!("{about}: the table of files is full [NoSpace 6]")),
         _ => Fail::refused(&about, r),
     })?;
-    let blocks = session_blocks(&session, bytes.len());
-    session.save(&place)?;
+    change.save()?;
     say(&format!("put {about}: {} in {}\n", count(bytes.len() as u64, "byte"), count(blocks as u64, "block")))?;
     Ok(SOUND)
 }
@@ -88,57 +86,6 @@ fn are(n: usize) -> String {
         1 => "1 is".into(),
         _ => format!("{} are", number(n as u64)),
     }
-}
-
-/// Writes bytes to a chain, and zeros behind them to the end of its last block.
-fn fill(volume: &mut Volume, first_block: usize, bytes: &[u8]) -> Result<(), Refusal> {
-    let block_len = volume.parts().block_len;
-    let whole = bytes.len() / block_len * block_len;
-    volume.write(first_block, 0, &bytes[..whole])?;
-    if whole < bytes.len() {
-        let mut last = bytes[whole..].to_vec();
-        last.resize(block_len, 0);
-        volume.write(first_block, whole, &last)?;
-    }
-    Ok(())
-}
-
-fn add(volume: &mut Volume, parent: u32, name: &Name, bytes: &[u8]) -> Result<(), Refusal> {
-    let mut carried = [0; 20];
-    record(volume, bytes)?.put(&mut carried);
-    let inode = volume.make_file(parent, name, &carried)?;
-    volume.close_file(inode)
-}
-
-/// Blocks for the bytes, filled.
-fn record(volume: &mut Volume, bytes: &[u8]) -> Result<Record, Refusal> {
-    if bytes.is_empty() {
-        return Ok(Record::EMPTY);
-    }
-    let first_block = volume.create(bytes.len().div_ceil(volume.parts().block_len))?;
-    fill(volume, first_block, bytes)?;
-    Ok(Record { first_block: first_block as u32, size: bytes.len() as u64 })
-}
-
-fn replace(session: &mut Session, at: usize, bytes: &[u8]) -> Result<(), Refusal> {
-    let (inode, before) = (session.entries[at].inode, session.entries[at].record);
-    let volume = &mut session.volume;
-    let now = match (before.size, bytes.len()) {
-        (0, _) => record(volume, bytes)?,
-        (_, 0) => {
-            volume.delete(before.first_block as usize)?;
-            Record::EMPTY
-        }
-        _ => {
-            let first_block = before.first_block as usize;
-            volume.resize(first_block, bytes.len().div_ceil(volume.parts().block_len))?;
-            fill(volume, first_block, bytes)?;
-            Record { size: bytes.len() as u64, ..before }
-        }
-    };
-    let mut carried = volume.carried_file(inode)?;
-    now.put(&mut carried);
-    volume.set_carried_file(inode, &carried)
 }
 
 /// A host file's own name, as a name of the volume.

@@ -1,11 +1,10 @@
 //! `rm`: a file or a directory goes.
 
 use crate::args::{Call, Command};
+use crate::change::Change;
 use crate::fail::{Fail, Outcome, SOUND};
-use crate::session::Session;
 use crate::show::term::say;
 use mukthiban::Kind;
-use std::path::Path;
 
 pub const COMMAND: Command = Command {
     name: "rm",
@@ -20,22 +19,14 @@ pub const COMMAND: Command = Command {
 
 fn run(call: &Call) -> Outcome<u8> {
     let path = call.path(1)?;
-    let (place, mut session) = Session::change(Path::new(&call.words[0]))?;
+    let mut change = Change::open(call.volume(0), call.wait()?)?;
+    let session = &change.session;
     let at = session.find(&path, &[Kind::File, Kind::Dir])?;
     let about = session.path(at);
-    let (kind, inode, record) = (session.entries[at].kind, session.entries[at].inode, session.entries[at].record);
-    let volume = &mut session.volume;
-    let removed = match kind {
-        Kind::Dir => volume.open_dir(inode).and_then(|()| volume.delete_dir(inode)),
-        Kind::File => {
-            volume.open_file(inode).and_then(|()| volume.delete_file(inode)).and_then(|()| match record.size {
-                0 => Ok(()),
-                _ => volume.delete(record.first_block as usize),
-            })
-        }
-    };
+    let (kind, inode) = (session.entries[at].kind, session.entries[at].inode);
+    let removed = change.remove(kind, inode);
     removed.map_err(|r| Fail::refused(&about, r))?;
-    session.save(&place)?;
+    change.save()?;
     let slash = if kind == Kind::Dir { "/" } else { "" };
     say(&format!("removed {about}{slash}\n"))?;
     Ok(SOUND)

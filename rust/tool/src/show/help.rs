@@ -1,6 +1,6 @@
 //! The help texts.
 
-use crate::args::Command;
+use crate::args::{Command, COMMON};
 
 /// All commands in short.
 pub fn overview(commands: &[Command]) -> String {
@@ -22,10 +22,8 @@ pub fn help(c: &Command) -> String {
     if !c.long.is_empty() {
         out += &format!("\n{}\n", c.long);
     }
-    if !c.options.is_empty() {
-        out.push('\n');
-    }
-    for (name, value, what) in c.options {
+    out.push('\n');
+    for (name, value, what) in c.options.iter().chain(COMMON) {
         out += &format!("  {:<16} {what}\n", format!("{name} {value}"));
     }
     out

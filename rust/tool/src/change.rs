@@ -1,0 +1,139 @@
+//! A volume that is being changed. All is done in memory, tested, and then put in place at once; a refusal leaves the
+//! volume as it was.
+
+use crate::fail::{Fail, Outcome};
+use crate::session::{not_sound, Session};
+use crate::tree::stretches;
+use mukthiban::folder::{Access, Data, Folder, Written};
+use mukthiban::{Kind, Name, Record, Refusal, Volume};
+use std::path::{Path, PathBuf};
+use std::time::Duration;
+
+/// An open volume with its folder, and the blocks' bytes that are to be written.
+pub struct Change {
+    pub session: Session,
+    folder: Folder,
+    path: PathBuf,
+    written: Vec<(u32, Vec<u8>)>,
+}
+
+impl Change {
+    /// The volume at that path, which nobody else may change meanwhile. The blocks' bytes are not read: what is written
+    /// to them goes to the folder alone.
+    pub fn open(path: &Path, wait: Duration) -> Outcome<Change> {
+        let folder = Folder::open(path, Access::Change, wait).map_err(|e| Fail::folder(&e))?;
+        let parts = folder.load(Data::Length).map_err(|e| Fail::folder(&e))?;
+        let session = Session::open(parts).map_err(|no| not_sound(path, &no))?;
+        session.must_be_sound(path)?;
+        Ok(Change { session, folder, path: path.into(), written: Vec::new() })
+    }
+
+    /// Tests the changed volume once more, whole, and puts it in its place.
+    pub fn save(self) -> Outcome<()> {
+        let again = Session::open(self.session.volume.into_parts()).map_err(|no| not_sound(&self.path, &no))?;
+        again.must_be_sound(&self.path)?;
+        self.folder.save(again.volume.parts(), Written::These(&self.written)).map_err(|e| Fail::folder(&e))
+    }
+
+    fn volume(&mut self) -> &mut Volume {
+        &mut self.session.volume
+    }
+
+    pub fn block_len(&self) -> usize {
+        self.session.volume.parts().block_len
+    }
+
+    /// Bytes for a chain, and zeros behind them to the end of its last block.
+    fn fill(&mut self, first_block: usize, bytes: &[u8]) -> Result<(), Refusal> {
+        let block_len = self.block_len();
+        let mut rest = bytes;
+        for (first, blocks) in stretches(&self.session.volume.chain(first_block)?) {
+            let room = blocks as usize * block_len;
+            let (here, behind) = rest.split_at(room.min(rest.len()));
+            let mut here = here.to_vec();
+            here.resize(room, 0);
+            self.written.push((first, here));
+            rest = behind;
+        }
+        Ok(())
+    }
+
+    /// Blocks for the bytes, filled.
+    fn record(&mut self, bytes: &[u8]) -> Result<Record, Refusal> {
+        if bytes.is_empty() {
+            return Ok(Record::EMPTY);
+        }
+        let blocks = bytes.len().div_ceil(self.block_len());
+        let first_block = self.volume().create(blocks)?;
+        self.fill(first_block, bytes)?;
+        Ok(Record { first_block: first_block as u32, size: bytes.len() as u64 })
+    }
+
+    /// A new file, with what it carries beside its record.
+    pub fn add(&mut self, parent: u32, name: &Name, bytes: &[u8], mut carried: [u8; 20]) -> Result<(), Refusal> {
+        self.record(bytes)?.put(&mut carried);
+        let inode = self.volume().make_file(parent, name, &carried)?;
+        self.volume().close_file(inode)
+    }
+
+    /// New bytes for a file that is there.
+    pub fn replace(&mut self, inode: u32, bytes: &[u8]) -> Result<(), Refusal> {
+        let mut carried = self.volume().carried_file(inode)?;
+        let before = Record::of(&carried);
+        let now = match (before.size, bytes.len()) {
+            (0, _) => self.record(bytes)?,
+            (_, 0) => {
+                self.volume().delete(before.first_block as usize)?;
+                Record::EMPTY
+            }
+            _ => {
+                let (first_block, blocks) = (before.first_block as usize, bytes.len().div_ceil(self.block_len()));
+                self.volume().resize(first_block, blocks)?;
+                self.fill(first_block, bytes)?;
+                Record { size: bytes.len() as u64, ..before }
+            }
+        };
+        now.put(&mut carried);
+        self.volume().set_carried_file(inode, &carried)
+    }
+
+    /// A new directory, and its inode.
+    pub fn make_dir(&mut self, parent: u32, name: &Name, carried: [u8; 4]) -> Result<u32, Refusal> {
+        let inode = self.volume().make_dir(parent, name, &carried)?;
+        self.volume().close_dir(inode)?;
+        Ok(inode)
+    }
+
+    /// Another directory and name for a file or a directory.
+    pub fn rename(&mut self, kind: Kind, inode: u32, parent: u32, name: &Name) -> Result<(), Refusal> {
+        let volume = self.volume();
+        match kind {
+            Kind::Dir => {
+                volume.open_dir(inode)?;
+                volume.rename_dir(inode, parent, name)?;
+                volume.close_dir(inode)
+            }
+            Kind::File => {
+                volume.open_file(inode)?;
+                volume.rename_file(inode, parent, name)?;
+                volume.close_file(inode)
+            }
+        }
+    }
+
+    /// A file with its blocks, or an empty directory, goes.
+    pub fn remove(&mut self, kind: Kind, inode: u32) -> Result<(), Refusal> {
+        let volume = self.volume();
+        if kind == Kind::Dir {
+            volume.open_dir(inode)?;
+            return volume.delete_dir(inode);
+        }
+        let record = Record::of(&volume.carried_file(inode)?);
+        volume.open_file(inode)?;
+        volume.delete_file(inode)?;
+        match record.size {
+            0 => Ok(()),
+            _ => volume.delete(record.first_block as usize),
+        }
+    }
+}

@@ -1,0 +1,142 @@
+//! Damaged volumes: what is said of them, and that they are not written.
+
+use crate::bench::{noise, two_files, Bench};
+use crate::json;
+use std::fs;
+
+/// What a check of an unsound volume says; no other command changes it.
+fn unsound(b: &Bench) -> String {
+    let out = b.run(&["check", "v"]);
+    let text = String::from_utf8(out.stdout).unwrap();
+    assert_eq!(out.status.code(), Some(4), "{text}");
+    assert!(text.starts_with("NOT SOUND  v\n"), "{text}");
+    for words in [&["put", "v", "one", "x"][..], &["mkdir", "v", "d"], &["mv", "v", "one", "x"], &["rm", "v", "one"]] {
+        b.fails(words, 4);
+    }
+    let json = b.run(&["check", "--json", "v"]);
+    assert_eq!(json.status.code(), Some(4));
+    let value = json::parse(&String::from_utf8(json.stdout).unwrap());
+    assert_eq!(value.get("sound"), &json::Value::Bool(false));
+    text
+}
+
+#[test]
+fn missing_and_short_files() {
+    let b = Bench::with_volume();
+    for name in ["fat.bin", "data.bin", "dir_hash.bin", "dir_table.bin", "file_hash.bin", "file_table.bin", "block_len"]
+    {
+        let path = b.at("v").join(name);
+        let bytes = fs::read(&path).unwrap();
+        fs::remove_file(&path).unwrap();
+        assert!(b.fails(&["check", "v"], 8).contains(&format!("v/{name}: no such file")), "{name}");
+        assert!(b.fails(&["mkdir", "v", "d"], 8).contains(name));
+        if name != "block_len" {
+            fs::write(&path, &bytes[..7]).unwrap();
+            let out = b.run(&["check", "v"]);
+            let text = String::from_utf8(out.stdout).unwrap();
+            assert_eq!(out.status.code(), Some(4));
+            assert!(text.starts_with("NOT SOUND  v\n  SizeMismatch (1): "), "{text}");
+            assert!(text.contains(&format!("{name} has 7 bytes")), "{text}");
+            let line = b.fails(&["mkdir", "v", "d"], 4);
+            assert!(line.contains(&format!("{name} has 7 bytes")) && line.contains("[SizeMismatch 1]"), "{line}");
+        }
+        fs::write(&path, bytes).unwrap();
+    }
+    for text in ["", "abc", "-1", "1e3", "\u{661}"] {
+        fs::write(b.at("v/block_len"), text).unwrap();
+        assert!(b.fails(&["check", "v"], 8).contains("v/block_len: the block length is no number"), "{text}");
+    }
+    for text in ["0", "99999999999"] {
+        fs::write(b.at("v/block_len"), text).unwrap();
+        b.fails(&["ls", "v"], 4);
+    }
+    fs::write(b.at("v/block_len"), " 64 \n").unwrap();
+    b.done(&["check", "v"]);
+}
+
+#[test]
+fn two_chains_that_claim_one_block() {
+    let b = two_files();
+    // The first file's node names the second file's node as its next.
+    b.poke("v/fat.bin", 12, &[3, 0, 0, 0x80]);
+    let text = unsound(&b);
+    assert!(text.contains("  BrokenFat (4): the block table is not sound"), "{text}");
+    assert!(text.contains("  - two files claim block 2: /one and /two\n"), "{text}");
+    assert!(text.contains("  entry tables  sound\n"), "{text}");
+    for words in [&["ls", "v"][..], &["cat", "v", "one"], &["lift", "v", "out"], &["map", "v"]] {
+        assert!(b.fails(words, 4).contains("[BrokenFat 4]"));
+    }
+}
+
+#[test]
+fn records_that_claim_one_chain() {
+    let b = two_files();
+    let table = fs::read(b.at("v/file_table.bin")).unwrap();
+    // The first block of file 2: entry 2, behind the key and next, behind 4 spare bytes.
+    assert_eq!(table[2 * 48 + 28..2 * 48 + 32], [2, 0, 0, 0]);
+    b.poke("v/file_table.bin", 2 * 48 + 28, &[0, 0, 0, 0]);
+    let text = unsound(&b);
+    assert!(text.contains("  - /two: two files claim block 0: this one and /one\n"), "{text}");
+    assert!(text.contains("lost chains            1  no file names them; 2 blocks\n"), "{text}");
+    // What is right can still be lifted; the rest is named.
+    let out = b.run(&["lift", "v", "out"]);
+    assert_eq!(out.status.code(), Some(4));
+    assert!(String::from_utf8(out.stderr).unwrap().contains("not lifted: /two: two files claim block 0"));
+    assert_eq!(fs::read(b.at("out/one")).unwrap(), noise(100, 1));
+    assert!(!b.at("out/two").exists());
+    assert!(b.fails(&["cat", "v", "two"], 4).contains("two files claim"));
+    assert!(b.done(&["map", "v"]).contains("lost chain from block 2"));
+}
+
+#[test]
+fn records_that_fit_no_chain() {
+    let b = two_files();
+    b.poke("v/file_table.bin", 2 * 48 + 28, &[7, 0, 0, 0]);
+    assert!(unsound(&b).contains("  - /two: block 7, where it should begin, is no file's first block\n"));
+    b.poke("v/file_table.bin", 2 * 48 + 28, &[2, 0, 0, 0, 129]);
+    assert!(unsound(&b).contains("  - /two: 129 bytes, but its 2 blocks can hold only 128\n"));
+    b.poke("v/file_table.bin", 2 * 48 + 32, &[255; 8]);
+    unsound(&b);
+    // A file of size 0 owns no chain, whatever its block field says; what it had is lost, but the volume is sound.
+    b.poke("v/file_table.bin", 2 * 48 + 32, &[0; 8]);
+    assert!(b.done(&["check", "v"]).contains("lost chains            1"));
+}
+
+#[test]
+fn broken_trees() {
+    let b = two_files();
+    b.poke("v/file_table.bin", 0, &[99]);
+    let text = unsound(&b);
+    assert!(text.contains("  BrokenTree (9): "), "{text}");
+    assert!(text.contains("  block table   sound\n  entry tables  BrokenTree (9)\n"), "{text}");
+}
+
+/// No damage of a small volume makes the tool panic, and what is damaged is never written.
+#[test]
+fn damage_everywhere() {
+    let b = two_files();
+    let mut seen = [0; 2];
+    for name in ["fat.bin", "dir_table.bin", "file_table.bin", "dir_hash.bin", "file_hash.bin"] {
+        let whole = fs::read(b.at("v").join(name)).unwrap();
+        for at in (0..whole.len()).step_by(if name == "fat.bin" { 5 } else { 13 }) {
+            let mut damaged = whole.clone();
+            damaged[at] ^= 0x81;
+            fs::write(b.at("v").join(name), &damaged).unwrap();
+            let out = b.run(&["check", "v"]);
+            let text = String::from_utf8_lossy(&out.stdout).into_owned();
+            match out.status.code() {
+                Some(0) => assert!(text.starts_with("SOUND"), "{name} {at}"),
+                Some(4) => assert!(text.starts_with("NOT SOUND"), "{name} {at}"),
+                other => panic!("{name} {at}: {other:?} {}", String::from_utf8_lossy(&out.stderr)),
+            }
+            if out.status.code() == Some(4) {
+                b.fails(&["mkdir", "v", "d"], 4);
+                seen[1] += 1;
+            } else {
+                seen[0] += 1;
+            }
+            fs::write(b.at("v").join(name), &whole).unwrap();
+        }
+    }
+    assert!(seen[0] > 0 && seen[1] > 0, "{seen:?}");
+}

@@ -1,0 +1,10 @@
+//! The tool, run as a person would: temporary folders, exit codes, messages, JSON, locks, damage and crashes.
+
+mod bench;
+mod crash;
+mod damage;
+mod json;
+mod layers;
+mod person;
+mod safety;
+mod show;
