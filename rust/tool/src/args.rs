@@ -10,6 +10,8 @@ use std::time::Duration;
 pub struct Call {
     pub words: Vec<OsString>,
     pub json: bool,
+    pub quiet: bool,
+    pub verbose: bool,
     options: Vec<(&'static str, OsString)>,
 }
 
@@ -66,14 +68,20 @@ pub struct Command {
     pub run: fn(&Call) -> Outcome<u8>,
 }
 
-pub const JSON: Opt = ("--json", "", "answer in JSON");
+/// Remarks are taken as faults.
+pub const STRICT: Opt = ("--strict", "", "exit code 4 for a remark too");
 
 /// What every command takes.
-pub const COMMON: &[Opt] = &[("--wait", "SECONDS", "how long to wait where another program works on the volume (0)")];
+pub const COMMON: &[Opt] = &[
+    ("--json", "", "answer in JSON, errors too"),
+    ("--quiet", "", "say only what is wrong"),
+    ("--verbose", "", "say all of it"),
+    ("--wait", "SECONDS", "how long to wait where another program works on the volume (0)"),
+];
 
 /// The words behind the command. None: help was asked for.
 pub fn take(command: &Command, words: &[OsString]) -> Outcome<Option<Call>> {
-    let mut call = Call { words: Vec::new(), json: false, options: Vec::new() };
+    let mut call = Call { words: Vec::new(), json: false, quiet: false, verbose: false, options: Vec::new() };
     let mut rest = words.iter();
     while let Some(word) = rest.next() {
         let Some(text) = word.to_str().filter(|t| t.len() > 1 && t.starts_with('-')) else {
@@ -104,6 +112,8 @@ pub fn take(command: &Command, words: &[OsString]) -> Outcome<Option<Call>> {
             }
         };
         call.json |= *name == "--json";
+        call.quiet |= *name == "--quiet";
+        call.verbose |= *name == "--verbose";
         call.options.push((name, given));
     }
     if call.words.len() < command.least || call.words.len() > command.most {

@@ -2,7 +2,7 @@
 //! volume as it was.
 
 use crate::fail::{Fail, Outcome};
-use crate::session::{not_sound, Session};
+use crate::session::Session;
 use crate::tree::stretches;
 use mukthiban::folder::{Access, Data, Folder, Written};
 use mukthiban::{Kind, Name, Record, Refusal, Volume};
@@ -22,15 +22,14 @@ impl Change {
     /// to them goes to the folder alone.
     pub fn open(path: &Path, wait: Duration) -> Outcome<Change> {
         let folder = Folder::open(path, Access::Change, wait).map_err(|e| Fail::folder(&e))?;
-        let parts = folder.load(Data::Length).map_err(|e| Fail::folder(&e))?;
-        let session = Session::open(parts).map_err(|no| not_sound(path, &no))?;
+        let session = Session::load(&folder, Data::Length)?.map_err(|refused| refused.fail(path))?;
         session.must_be_sound(path)?;
         Ok(Change { session, folder, path: path.into(), written: Vec::new() })
     }
 
     /// Tests the changed volume once more, whole, and puts it in its place.
     pub fn save(self) -> Outcome<()> {
-        let again = Session::open(self.session.volume.into_parts()).map_err(|no| not_sound(&self.path, &no))?;
+        let again = Session::open(self.session.volume.into_parts()).map_err(|no| no.fail(&self.path))?;
         again.must_be_sound(&self.path)?;
         self.folder.save(again.volume.parts(), Written::These(&self.written)).map_err(|e| Fail::folder(&e))
     }

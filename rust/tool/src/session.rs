@@ -1,11 +1,11 @@
 //! A volume that is open: its tables, its tree, and what the two layers say of each other.
 
-use crate::audit::{audit, Finding, Lost};
 use crate::diagnose;
 use crate::fail::{Fail, Outcome};
 use crate::name::{self, joined};
+use crate::records::{Account, Finding};
 use crate::tree::{path_of, read_tree, Entry};
-use mukthiban::folder::{Access, Data, Folder};
+use mukthiban::folder::{Access, Data, Folder, FolderError, Sizes};
 use mukthiban::{Kind, Name, NotSound, Parts, Refusal, Volume};
 use std::path::Path;
 use std::time::Duration;
@@ -15,31 +15,69 @@ pub struct Session {
     pub volume: Volume,
     /// The root first, each directory before what is in it; names in order.
     pub entries: Vec<Entry>,
-    /// What makes the volume not sound though its tables are.
-    pub findings: Vec<Finding>,
-    pub lost: Vec<Lost>,
+    /// What is wrong or remarkable though the tables are sound.
+    pub account: Account,
+}
+
+/// A volume whose tables or lengths are refused. Where a file is too long for any volume it was not read.
+pub struct Refused {
+    pub refusal: Refusal,
+    pub sizes: Sizes,
+    pub parts: Option<Box<Parts>>,
+}
+
+impl From<NotSound> for Refused {
+    fn from(no: NotSound) -> Refused {
+        let p = &no.parts;
+        let files = [&p.fat, &p.data, &p.dir_hash, &p.dir_table, &p.file_hash, &p.file_table];
+        let sizes = Sizes { block_len: p.block_len, files: files.map(|f| f.len() as u64) };
+        Refused { refusal: no.refusal, sizes, parts: Some(no.parts) }
+    }
+}
+
+impl Refused {
+    /// The one line for a command that needs a sound volume.
+    pub fn fail(&self, path: &Path) -> Fail {
+        let detail = match self.refusal {
+            Refusal::SizeMismatch | Refusal::InvalidValue => diagnose::size_line(&self.sizes),
+            _ => None,
+        };
+        let detail = detail.unwrap_or_else(|| self.refusal.meaning().into());
+        let (name, number) = (self.refusal.name(), self.refusal.number());
+        Fail::not_sound(format!("{}: not sound: {detail} [{name} {number}]", path.display()))
+    }
 }
 
 impl Session {
     /// Tests the parts and reads the tree.
-    pub fn open(parts: Parts) -> Result<Session, NotSound> {
+    pub fn open(parts: Parts) -> Result<Session, Refused> {
         let volume = Volume::open(parts)?;
         let mut entries = read_tree(&volume).expect("a sound tree can be walked");
-        let (findings, lost) = audit(&volume, &mut entries);
-        Ok(Session { volume, entries, findings, lost })
+        let account = Account::take(&volume, &mut entries);
+        Ok(Session { volume, entries, account })
+    }
+
+    /// The volume in a folder. Lengths that no volume has are judged before anything is read.
+    pub fn load(folder: &Folder, data: Data) -> Outcome<Result<Session, Refused>> {
+        match folder.load(data) {
+            Ok(parts) => Ok(Session::open(parts)),
+            Err(FolderError::TooLong(_)) => {
+                let sizes = folder.sizes().map_err(|e| Fail::folder(&e))?;
+                Ok(Err(Refused { refusal: diagnose::sizes_refusal(&sizes), sizes, parts: None }))
+            }
+            Err(e) => Err(Fail::folder(&e)),
+        }
     }
 
     /// The volume at that path, to be looked at.
     pub fn read(path: &Path, wait: Duration, data: Data) -> Outcome<Session> {
         let folder = Folder::open(path, Access::Read, wait).map_err(|e| Fail::folder(&e))?;
-        let parts = folder.load(data).map_err(|e| Fail::folder(&e))?;
-        drop(folder);
-        Session::open(parts).map_err(|no| not_sound(path, &no))
+        Session::load(&folder, data)?.map_err(|refused| refused.fail(path))
     }
 
     /// Nothing is allowed to be wrong with a volume that is changed.
     pub fn must_be_sound(&self, path: &Path) -> Outcome<()> {
-        match self.findings.first() {
+        match self.account.findings.first() {
             None => Ok(()),
             Some(finding) => Err(Fail::not_sound(format!("{}: not sound: {}", path.display(), finding.line))),
         }
@@ -51,7 +89,10 @@ impl Session {
 
     /// The entry with that name in a directory.
     pub fn child(&self, dir: usize, kind: Kind, name: &Name) -> Option<usize> {
-        self.entries[dir].inside.clone().find(|&e| self.entries[e].kind == kind && self.entries[e].name == *name)
+        let inside = self.entries[dir].inside.clone();
+        let key = |e: &Entry| (e.kind == Kind::File, e.name);
+        let found = self.entries[inside.clone()].binary_search_by_key(&(kind == Kind::File, *name), key);
+        found.ok().map(|place| inside.start + place)
     }
 
     /// The directory with those names, from the root down.
@@ -97,27 +138,28 @@ impl Session {
         Ok(())
     }
 
-    /// Whether a file's record is one of those that disagree with the block table.
-    pub fn finding_of(&self, entry: usize) -> Option<&Finding> {
-        self.findings.iter().find(|f| f.of == self.entries[entry].inode)
-    }
-
-    /// A file's bytes.
-    pub fn content(&self, entry: usize) -> Outcome<Vec<u8>> {
-        if let Some(finding) = self.finding_of(entry) {
-            return Err(Fail::not_sound(finding.line.clone()));
+    /// What is in a directory; with `all`, each directory followed by what is in it.
+    pub fn inside(&self, dir: usize, all: bool) -> Vec<usize> {
+        let mut out = Vec::new();
+        let mut ahead: Vec<usize> = self.entries[dir].inside.clone().rev().collect();
+        while let Some(at) = ahead.pop() {
+            out.push(at);
+            if all {
+                ahead.extend(self.entries[at].inside.clone().rev());
+            }
         }
-        let entry = &self.entries[entry];
-        Ok(self.volume.block_bytes(&entry.blocks, entry.record.size as usize))
+        out
     }
-}
 
-/// The line for a volume that can't be opened.
-pub fn not_sound(path: &Path, no: &NotSound) -> Fail {
-    let detail = match no.refusal {
-        Refusal::SizeMismatch | Refusal::InvalidValue => diagnose::sizes(&no.parts).into_iter().next(),
-        _ => None,
-    };
-    let detail = detail.unwrap_or_else(|| no.refusal.meaning().into());
-    Fail::not_sound(format!("{}: not sound: {detail} [{} {}]", path.display(), no.refusal.name(), no.refusal.number()))
+    /// What is wrong with a file's record, if anything is.
+    pub fn finding_of(&self, entry: usize) -> Option<&Finding> {
+        self.entries[entry].faults.first().map(|&f| &self.account.findings[f])
+    }
+
+    /// A file's bytes: as many as its record says, or as its blocks hold.
+    pub fn content(&self, entry: usize) -> Vec<u8> {
+        let entry = &self.entries[entry];
+        let size = usize::try_from(entry.record.size).unwrap_or(usize::MAX);
+        self.volume.block_bytes(entry.blocks(), size)
+    }
 }

@@ -3,6 +3,7 @@
 use crate::name::joined;
 use mukthiban::{Kind, Name, Record, Refusal, Volume, ROOT};
 use std::ops::Range;
+use std::rc::Rc;
 
 /// A directory or a file of the tree.
 pub struct Entry {
@@ -13,20 +14,40 @@ pub struct Entry {
     pub parent: usize,
     /// A file's record; the empty one for a directory.
     pub record: Record,
-    /// A file's blocks in chain order, if its record names a chain.
-    pub blocks: Vec<u32>,
+    /// The chain that a file's record names, if it names one. Files that claim one chain share it.
+    pub chain: Option<Rc<Chain>>,
+    /// What is wrong with a file's record, by the places of the findings.
+    pub faults: Vec<usize>,
     /// Where in the list of entries the things directly in it stand: directories first, by name.
     pub inside: Range<usize>,
 }
 
 impl Entry {
     fn new(kind: Kind, inode: u32, name: Name, parent: usize, record: Record) -> Entry {
-        Entry { kind, inode, name, parent, record, blocks: Vec::new(), inside: 0..0 }
+        Entry { kind, inode, name, parent, record, chain: None, faults: Vec::new(), inside: 0..0 }
+    }
+
+    /// A file's blocks in chain order.
+    pub fn blocks(&self) -> &[u32] {
+        self.chain.as_ref().map_or(&[], |c| &c.blocks)
     }
 
     /// The stretches of blocks that follow each other.
-    pub fn pieces(&self) -> Vec<(u32, u32)> {
-        stretches(&self.blocks)
+    pub fn pieces(&self) -> &[(u32, u32)] {
+        self.chain.as_ref().map_or(&[], |c| &c.pieces)
+    }
+}
+
+/// A chain of blocks.
+pub struct Chain {
+    pub blocks: Vec<u32>,
+    /// Its stretches, each as its first block and its length.
+    pub pieces: Vec<(u32, u32)>,
+}
+
+impl Chain {
+    pub fn new(blocks: Vec<u32>) -> Chain {
+        Chain { pieces: stretches(&blocks), blocks }
     }
 }
 

@@ -21,6 +21,14 @@ pub fn count(n: u64, one: &str) -> String {
     }
 }
 
+/// "1 directory", "2 directories".
+pub fn directories(n: u64) -> String {
+    match n {
+        1 => "1 directory".into(),
+        _ => format!("{} directories", number(n)),
+    }
+}
+
 #[cfg(test)]
 mod tests {
     use super::*;

@@ -1,7 +1,7 @@
 //! `cat`: a file to standard output.
 
 use crate::args::{Call, Command};
-use crate::fail::{Outcome, SOUND};
+use crate::fail::{Fail, Outcome, SOUND};
 use crate::session::Session;
 use crate::show::term::say_bytes;
 use mukthiban::folder::Data;
@@ -21,6 +21,9 @@ pub const COMMAND: Command = Command {
 fn run(call: &Call) -> Outcome<u8> {
     let session = Session::read(call.volume(0), call.wait()?, Data::Bytes)?;
     let at = session.find(&call.path(1)?, &[Kind::File])?;
-    say_bytes(&session.content(at)?)?;
+    if let Some(finding) = session.finding_of(at) {
+        return Err(Fail::not_sound(format!("{}; lift copies what is there, with a mark", finding.line)));
+    }
+    say_bytes(&session.content(at))?;
     Ok(SOUND)
 }

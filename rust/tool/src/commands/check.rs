@@ -1,6 +1,7 @@
 //! `check`: the verdict first.
 
-use crate::args::{Call, Command, JSON};
+use crate::args::{Call, Command, STRICT};
+use crate::diagnose::hints;
 use crate::fail::{Fail, Outcome};
 use crate::session::Session;
 use crate::show::verdict;
@@ -11,20 +12,22 @@ pub const COMMAND: Command = Command {
     takes: "VOLUME",
     least: 1,
     most: 1,
-    options: &[JSON],
+    options: &[STRICT],
     short: "say whether a volume is sound, and count what is on it",
-    long: "The first line is the verdict. Then come the counts; or why it is not sound, by the refusal's name,\n\
-           number and meaning, and what points to the fault. Nothing is changed.",
+    long: "The first line is the verdict. Then comes what is wrong, what is only remarkable, and the counts; or why\n\
+           the tables are refused, by the refusal's name, number and meaning, what points to the fault, and which files\n\
+           it touches. Nothing is changed, and nothing is said of the bytes in data.bin, which no table guards.",
     run,
 };
 
 fn run(call: &Call) -> Outcome<u8> {
     let path = call.volume(0);
     let folder = Folder::open(path, Access::Read, call.wait()?).map_err(|e| Fail::folder(&e))?;
-    let parts = folder.load(Data::Length).map_err(|e| Fail::folder(&e))?;
-    drop(folder);
-    match Session::open(parts) {
-        Ok(session) => verdict::tested(call.json, path, &session),
-        Err(no) => verdict::refused(call.json, path, &no),
+    match Session::load(&folder, Data::Length)? {
+        Ok(session) => verdict::tested(call, path, &session),
+        Err(no) => {
+            let hints = hints(no.refusal, &no.sizes, no.parts.as_deref());
+            verdict::refused(call, path, no.refusal, &no.sizes, &hints)
+        }
     }
 }

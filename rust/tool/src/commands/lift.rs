@@ -1,28 +1,32 @@
 //! `lift`: files out of the volume.
 
-use crate::args::{Call, Command};
-use crate::fail::{Fail, Outcome, NOT_SOUND, SOUND};
-use crate::name::shown;
+use crate::args::{Call, Command, STRICT};
+use crate::fail::{Fail, Outcome, FAILED, NOT_SOUND, SOUND};
+use crate::layout::{bytes, layout, Item, What};
+use crate::name::Path as VolumePath;
 use crate::session::Session;
-use crate::show::term::{say, Progress};
-use crate::words::{count, number};
+use crate::show::lifted::{Lifted, Note};
+use crate::show::term::Progress;
 use mukthiban::folder::Data;
 use mukthiban::Kind;
 use std::ffi::OsString;
 use std::fs::{self, File};
-use std::io::Write;
+use std::io::{self, Write};
 use std::path::{Path, PathBuf};
 
 pub const COMMAND: Command = Command {
     name: "lift",
-    takes: "VOLUME OUT",
+    takes: "VOLUME OUT [PATH]",
     least: 2,
-    most: 2,
-    options: &[],
-    short: "copy every file out, and compare",
-    long: "OUT is a folder that must not exist. Each file is written, synced, read back and compared with the\n\
-           volume. OUT appears when all is there; until then it is called OUT.part. A file that has a\n\
-           directory's name is lifted as NAME\\file.",
+    most: 3,
+    options: &[STRICT],
+    short: "copy every file out, or one path, and compare",
+    long: "OUT must not exist; it becomes a folder, or where PATH is a file, a file. Each file is written, synced, read\n\
+           back and compared with the volume. OUT appears when all is there; until then it is called OUT.part. A host\n\
+           error does not stop the others: what failed is listed, and OUT.part stays.\n\n\
+           A file that has a directory's name is lifted as NAME\\file. Files that claim one chain are all lifted, as\n\
+           NAME\\shared; one whose blocks hold less than its record says, as NAME\\short. Chains that no file names are\n\
+           lifted to lost+found/.",
     run,
 };
 
@@ -30,30 +34,35 @@ fn run(call: &Call) -> Outcome<u8> {
     let out = PathBuf::from(&call.words[1]);
     let part = part_of(&out)?;
     let session = Session::read(call.volume(0), call.wait()?, Data::Bytes)?;
-    fs::create_dir(&part).map_err(|e| Fail::host(&part, &e))?;
-    let unlike = |fail: Fail| Fail { line: format!("{}; what was lifted is in {}", fail.line, part.display()), ..fail };
-    let lifted = lift(&session, &part).map_err(unlike)?;
-    fs::rename(&part, &out).map_err(|e| unlike(Fail::host(&out, &e)))?;
-    say(&format!(
-        "lifted {} and {}, {} bytes, to {}; all read back and equal\n",
-        count(lifted.files, "file"),
-        match lifted.dirs {
-            1 => "1 directory".into(),
-            n => format!("{} directories", number(n)),
-        },
-        number(lifted.bytes),
-        out.display()
-    ))?;
-    for line in &lifted.left {
-        eprintln!("mukthiban: lift: not lifted: {line}");
+    let path = match call.words.len() {
+        3 => call.path(2)?,
+        _ => VolumePath { names: Vec::new(), slash: true },
+    };
+    let from = session.find(&path, &[Kind::File, Kind::Dir])?;
+    let items = match session.entries[from].kind {
+        Kind::Dir => layout(&session, from),
+        Kind::File => vec![Item { host: PathBuf::new(), path: session.path(from), what: What::File(from) }],
+    };
+    let mut lifted = Lifted::default();
+    lift(call, &session, &items, &part, &mut lifted)?;
+    if lifted.failed.is_empty() {
+        fs::rename(&part, &out).map_err(|e| Fail::host(&out, &e))?;
+        sync_parent(&out).map_err(|e| Fail::host(&out, &e))?;
     }
-    Ok(if lifted.left.is_empty() { SOUND } else { NOT_SOUND })
+    let place = if lifted.failed.is_empty() { &out } else { &part };
+    lifted.tell(call, place)?;
+    let strict = call.has("--strict") && from == 0 && !session.account.remarks.is_empty();
+    Ok(match (lifted.failed.is_empty(), lifted.left.is_empty() && lifted.marked.is_empty() && !strict) {
+        (false, _) => FAILED,
+        (true, false) => NOT_SOUND,
+        (true, true) => SOUND,
+    })
 }
 
 /// Where the files stand until all are there. Neither it nor OUT may exist.
 fn part_of(out: &Path) -> Outcome<PathBuf> {
     if out.symlink_metadata().is_ok() {
-        return Err(Fail::failed(format!("{}: it exists already; lift into a new folder", out.display())));
+        return Err(Fail::failed(format!("{}: it exists already; lift to a new name", out.display())));
     }
     let Some(name) = out.file_name() else {
         return Err(Fail::failed(format!("{}: this can't be a new folder", out.display())));
@@ -68,69 +77,72 @@ fn part_of(out: &Path) -> Outcome<PathBuf> {
     Ok(part)
 }
 
-#[derive(Default)]
-struct Lifted {
-    files: u64,
-    dirs: u64,
-    bytes: u64,
-    /// Files that could not be lifted, and why.
-    left: Vec<String>,
+fn sync_parent(path: &Path) -> io::Result<()> {
+    let parent = path.parent().filter(|p| *p != Path::new("")).unwrap_or(Path::new("."));
+    File::open(parent)?.sync_all()
 }
 
-fn lift(session: &Session, part: &Path) -> Outcome<Lifted> {
-    let mut lifted = Lifted::default();
-    let good = |session: &Session, e: usize| session.entries[e].kind == Kind::File && session.finding_of(e).is_none();
-    let total = (0..session.entries.len()).filter(|&e| good(session, e)).map(|e| session.entries[e].record.size).sum();
-    let mut progress = Progress::new(total);
-    let mut hosts = vec![part.to_path_buf()];
-    for at in 1..session.entries.len() {
-        let (kind, parent) = (session.entries[at].kind, session.entries[at].parent);
-        let host = hosts[parent].join(host_name(session, at));
-        match kind {
-            Kind::Dir => {
-                fs::create_dir(&host).map_err(|e| Fail::host(&host, &e))?;
-                lifted.dirs += 1;
+/// Lifts the items. Files go in batches: all of one are written before the first is synced, which is much quicker.
+fn lift(call: &Call, session: &Session, items: &[Item], part: &Path, lifted: &mut Lifted) -> Outcome<()> {
+    const FILES: usize = 512;
+    const BYTES: usize = 64 << 20;
+    let total: u64 = items.iter().map(|i| length(session, i.what)).sum();
+    let mut progress = Progress::new(call, total + items.len() as u64);
+    let (mut done, mut batch, mut held) = (0, Vec::new(), 0);
+    for (at, item) in items.iter().enumerate() {
+        progress.at(done, &item.path);
+        done += length(session, item.what) + 1;
+        let host = if item.host.as_os_str().is_empty() { part.to_path_buf() } else { part.join(&item.host) };
+        match item.what {
+            What::Dir | What::Folder => match fs::create_dir(&host) {
+                Ok(()) => lifted.dirs += u64::from(at > 0 && item.what == What::Dir),
+                // without the first there is nowhere to go on
+                Err(e) if at == 0 => return Err(Fail::host(&host, &e)),
+                Err(e) => lifted.failed.push(Note::new(&item.path, &host, Fail::host(&host, &e).line)),
+            },
+            What::File(e) if session.entries[e].faults.iter().any(|&f| session.account.findings[f].kind == 1) => {
+                let line = session.finding_of(e).map(|f| f.line.clone()).unwrap_or_default();
+                lifted.left.push(Note::new(&item.path, &host, line));
             }
-            Kind::File if !good(session, at) => {
-                lifted.left.extend(session.finding_of(at).map(|f| f.line.clone()));
-            }
-            Kind::File => {
-                let (before, path) = (lifted.bytes, session.path(at));
-                lifted.bytes += lift_file(session, at, &host, |done| progress.at(before + done, &path))?;
-                lifted.files += 1;
+            What::File(_) | What::Lost(_) => {
+                held += length(session, item.what) as usize;
+                batch.push((item, host));
             }
         }
-        hosts.push(host);
-    }
-    Ok(lifted)
-}
-
-/// The name that an entry gets on the host. Where a directory has a file's name, the file gives way.
-fn host_name(session: &Session, at: usize) -> String {
-    let entry = &session.entries[at];
-    let taken = entry.kind == Kind::File && session.child(entry.parent, Kind::Dir, &entry.name).is_some();
-    match taken {
-        true => format!("{}\\file", shown(&entry.name)),
-        false => shown(&entry.name),
-    }
-}
-
-/// Writes a file, reads it back, and compares it with the volume, which is read once more.
-fn lift_file(session: &Session, at: usize, host: &Path, mut progress: impl FnMut(u64)) -> Outcome<u64> {
-    let bytes = session.content(at)?;
-    let mut write = || {
-        let mut file = File::create_new(host)?;
-        progress(0);
-        for (i, part) in bytes.chunks(1 << 20).enumerate() {
-            file.write_all(part)?;
-            progress((i as u64) << 20);
+        if batch.len() >= FILES || held >= BYTES || at + 1 == items.len() {
+            lift_batch(session, &batch, lifted);
+            (batch, held) = (Vec::new(), 0);
         }
-        file.sync_all()?;
-        fs::read(host)
-    };
-    let back = write().map_err(|e| Fail::host(host, &e))?;
-    if back != session.content(at)? {
-        return Err(Fail::failed(format!("{}: what was read back is not what was written", host.display())));
     }
-    Ok(bytes.len() as u64)
+    Ok(())
+}
+
+fn length(session: &Session, what: What) -> u64 {
+    let block_len = session.volume.parts().block_len as u64;
+    match what {
+        What::File(at) => session.entries[at].record.size.min(session.entries[at].blocks().len() as u64 * block_len),
+        What::Lost(place) => session.account.lost[place].chain.blocks.len() as u64 * block_len,
+        What::Dir | What::Folder => 0,
+    }
+}
+
+fn lift_batch(session: &Session, batch: &[(&Item, PathBuf)], lifted: &mut Lifted) {
+    let written: Vec<io::Result<File>> = batch
+        .iter()
+        .map(|(item, host)| {
+            let mut file = File::create_new(host)?;
+            file.write_all(&bytes(session, item.what)).inspect_err(|_| drop(fs::remove_file(host)))?;
+            Ok(file)
+        })
+        .collect();
+    for ((item, host), file) in batch.iter().zip(written) {
+        match file.and_then(|f| f.sync_all()).and_then(|()| fs::read(host)) {
+            Err(e) => lifted.failed.push(Note::new(&item.path, host, Fail::host(host, &e).line)),
+            Ok(back) if back != bytes(session, item.what) => {
+                let line = format!("{}: what was read back is not what was written", host.display());
+                lifted.failed.push(Note::new(&item.path, host, line));
+            }
+            Ok(back) => lifted.count(session, item, host, back.len() as u64),
+        }
+    }
 }

@@ -1,6 +1,6 @@
 //! `ls`: what is in a directory.
 
-use crate::args::{Call, Command, JSON};
+use crate::args::{Call, Command};
 use crate::fail::{Outcome, SOUND};
 use crate::name::Path;
 use crate::session::Session;
@@ -14,7 +14,7 @@ pub const COMMAND: Command = Command {
     takes: "VOLUME [PATH]",
     least: 1,
     most: 2,
-    options: &[("--all", "", "with all that is below, by full paths"), JSON],
+    options: &[("--all", "", "with all that is below, by full paths")],
     short: "list a directory",
     long: "Size in bytes, blocks, fragments (stretches of blocks that follow each other) and name. A name that\n\
            is no text is shown with \\xNN for a byte, and may be written so in every PATH.",
@@ -31,25 +31,12 @@ fn run(call: &Call) -> Outcome<u8> {
     let all = call.has("--all");
     let listed = match session.entries[at].kind {
         Kind::File => vec![at],
-        Kind::Dir => inside(&session, at, all),
+        Kind::Dir => session.inside(at, all),
     };
     let text = match call.json {
-        true => listing::as_json(&session, at, &listed),
+        true => listing::as_json(&call.volume(0).to_string_lossy(), &session, at, &listed),
         false => listing::as_text(&session, &listed, all),
     };
     say(&text)?;
     Ok(SOUND)
-}
-
-/// What is in a directory; with `all`, each directory followed by what is in it.
-fn inside(session: &Session, dir: usize, all: bool) -> Vec<usize> {
-    let mut out = Vec::new();
-    let mut ahead: Vec<usize> = session.entries[dir].inside.clone().rev().collect();
-    while let Some(at) = ahead.pop() {
-        out.push(at);
-        if all {
-            ahead.extend(session.entries[at].inside.clone().rev());
-        }
-    }
-    out
 }

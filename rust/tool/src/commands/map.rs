@@ -1,6 +1,6 @@
 //! `map`: the volume as a picture, in letters and colours on a terminal, or as an SVG file for a report.
 
-use crate::args::{Call, Command, JSON};
+use crate::args::{Call, Command};
 use crate::fail::{Fail, Outcome, SOUND};
 use crate::session::Session;
 use crate::show::map::{as_json, as_text};
@@ -16,10 +16,11 @@ pub const COMMAND: Command = Command {
     takes: "VOLUME",
     least: 1,
     most: 1,
-    options: &[("--svg", "FILE", "write the picture to an SVG file"), JSON],
+    options: &[("--svg", "FILE", "write the picture to an SVG file")],
     short: "show the volume as a picture",
-    long: "A cell is a block, or a range of blocks on a large volume; a colour or a letter is a file; free blocks\n\
-           are light.",
+    long: "A cell is a block, or a range of blocks on a large volume; a colour and a sign is a file, in one\n\
+           line of the legend; where there are more than 62, the smaller ones share the sign +. ? is a chain that no\n\
+           file names. Free blocks are light.",
     run,
 };
 
@@ -31,12 +32,12 @@ fn run(call: &Call) -> Outcome<u8> {
     if let Some(file) = call.option("--svg") {
         let file = Path::new(file);
         fs::write(file, svg::draw(&picture)).map_err(|e| Fail::host(file, &e))?;
-        if !call.json {
+        if !call.json && !call.quiet {
             say(&format!("drew {}: {}\n", file.display(), picture.summary()))?;
         }
     }
     match (call.json, call.has("--svg")) {
-        (true, _) => say(&as_json(&picture))?,
+        (true, _) => say(&as_json(&path.to_string_lossy(), &session))?,
         (false, true) => (),
         (false, false) => say(&as_text(&picture))?,
     }

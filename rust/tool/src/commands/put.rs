@@ -3,13 +3,13 @@
 use crate::args::{Call, Command};
 use crate::change::Change;
 use crate::fail::{Fail, Outcome, SOUND};
-use crate::name::{self, joined};
+use crate::layout::name_of;
+use crate::name::joined;
 use crate::session::Session;
 use crate::show::term::say;
 use crate::words::{count, number};
-use mukthiban::{Kind, Name, Refusal};
+use mukthiban::{Kind, Refusal};
 use std::fs;
-use std::os::unix::ffi::OsStrExt;
 use std::path::Path;
 
 pub const COMMAND: Command = Command {
@@ -28,7 +28,10 @@ fn run(call: &Call) -> Outcome<u8> {
     let mut path = call.path(2)?;
     let mut change = Change::open(call.volume(0), call.wait()?)?;
     let session = &change.session;
-    let own_name = || host_name(host);
+    let own_name = || {
+        let written = host.file_name().ok_or_else(|| Fail::failed(format!("{}: has no name", host.display())))?;
+        name_of(written, Kind::File).map_err(Fail::failed)
+    };
     session.into_directory(&mut path, own_name)?;
     let (parents, name) = path.split().expect("a name was added");
     let about = joined(&path.names);
@@ -38,7 +41,7 @@ fn run(call: &Call) -> Outcome<u8> {
         let line = format!("{about}: there is such a file; --replace would change it [AlreadyExist 11]");
         return Err(Fail::failed(line));
     }
-    let room = session.volume.free() + there.map_or(0, |at| session.entries[at].blocks.len());
+    let room = session.volume.free() + there.map_or(0, |at| session.entries[at].blocks().len());
     let bytes = read_host(host, &about, session, room)?;
     let (blocks, parent) = (session_blocks(session, bytes.len()), session.entries[dir].inode);
     let done = match there.map(|at| session.entries[at].inode) {
@@ -85,21 +88,5 @@ fn are(n: usize) -> String {
     match n {
         1 => "1 is".into(),
         _ => format!("{} are", number(n as u64)),
-    }
-}
-
-/// A host file's own name, as a name of the volume.
-fn host_name(host: &Path) -> Outcome<Name> {
-    let written = host.file_name().ok_or_else(|| Fail::failed(format!("{}: has no name", host.display())))?;
-    let bytes = written.as_bytes();
-    // a name that lift wrote is read back; any other is taken as it stands
-    match name::parse(bytes) {
-        Ok(name) => Ok(name),
-        Err(_) if bytes.len() <= 16 => {
-            let mut name = [0; 16];
-            name[..bytes.len()].copy_from_slice(bytes);
-            Ok(name)
-        }
-        Err(line) => Err(Fail::failed(format!("{}: {line}", written.to_string_lossy()))),
     }
 }

@@ -3,6 +3,7 @@
 pub mod colour;
 pub mod help;
 pub mod json;
+pub mod lifted;
 pub mod listing;
 pub mod map;
 pub mod picture;

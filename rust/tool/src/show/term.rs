@@ -1,5 +1,6 @@
 //! What a terminal gets and a file does not: colours, and a line of progress.
 
+use crate::args::Call;
 use crate::fail::{Fail, Outcome};
 use std::io::{self, IsTerminal, Write};
 
@@ -15,7 +16,8 @@ pub fn say_bytes(bytes: &[u8]) -> Outcome<()> {
 
 /// Whether standard output is to be coloured.
 pub fn colours() -> bool {
-    io::stdout().is_terminal() && std::env::var_os("NO_COLOR").is_none()
+    let dumb = std::env::var_os("TERM").is_some_and(|t| t == "dumb");
+    io::stdout().is_terminal() && !dumb && std::env::var_os("NO_COLOR").is_none()
 }
 
 pub enum Ink {
@@ -44,6 +46,11 @@ pub fn columns() -> usize {
     std::env::var("COLUMNS").ok().and_then(|c| c.parse().ok()).unwrap_or(80).clamp(40, 200)
 }
 
+/// A line on standard error. Where that can't be written, nobody reads it.
+pub fn complain(command: &str, line: &str) {
+    let _ = writeln!(io::stderr(), "mukthiban: {command}: {line}");
+}
+
 /// A line of progress on standard error, where that is a terminal.
 pub struct Progress {
     shown: bool,
@@ -52,23 +59,19 @@ pub struct Progress {
 }
 
 impl Progress {
-    pub fn new(total: u64) -> Progress {
-        Progress { shown: io::stderr().is_terminal(), total: total.max(1), last: None }
+    pub fn new(call: &Call, total: u64) -> Progress {
+        Progress { shown: !call.quiet && io::stderr().is_terminal(), total: total.max(1), last: None }
     }
 
     /// So much of the total is done; next comes the thing named.
     pub fn at(&mut self, done: u64, what: &str) {
-        let percent = done * 100 / self.total;
+        let percent = (done * 100 / self.total).min(100);
         if self.shown && self.last != Some(percent) {
             self.last = Some(percent);
             let filled = (percent / 5) as usize;
             let what: String = what.chars().take(columns() - 36).collect();
-            let _ = write!(
-                io::stderr(),
-                "\r\x1b[K[{}{}] {percent:3}%  {what}",
-                "#".repeat(filled),
-                ".".repeat(20 - filled)
-            );
+            let bar = format!("{}{}", "#".repeat(filled), ".".repeat(20 - filled));
+            let _ = write!(io::stderr(), "\r\x1b[K[{bar}] {percent:3}%  {what}");
         }
     }
 }

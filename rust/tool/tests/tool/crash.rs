@@ -49,11 +49,16 @@ fn killed_at_any_step_and_again_while_clearing_up() {
         let new = (tree(&b.at("v")), seen(&b));
         assert_ne!(old, new);
         let beside = leftovers(&b);
-        let mut found = [0, 0];
+        let (mut found, mut met) = ([0, 0], Vec::new());
         for step in 1.. {
             fs::remove_dir_all(b.at("v")).unwrap();
             copy(&b.at("old"), &b.at("v"));
             let killed = was_killed(&b.run_aborted(change, step));
+            let half = tree(&b.at("v"));
+            if killed && met.contains(&half) {
+                continue; // a sync was ahead, which leaves the files as they are
+            }
+            met.push(half);
             let reader = seen(&b);
             assert!(reader == old.1 || reader == new.1, "{change:?} {step}: neither old nor new is read");
             let is_new = reader == new.1;
@@ -78,7 +83,7 @@ fn killed_at_any_step_and_again_while_clearing_up() {
                 break;
             }
         }
-        assert!(found[0] > 4 && found[1] > 4, "{change:?}: both are met: {found:?}");
+        assert!(found[0] > 2 && found[1] > 2, "{change:?}: both are met: {found:?}");
     }
 }
 

@@ -77,15 +77,44 @@ fn records_that_claim_one_chain() {
     b.poke("v/file_table.bin", 2 * 48 + 28, &[0, 0, 0, 0]);
     let text = unsound(&b);
     assert!(text.contains("  - /two: two files claim block 0: this one and /one\n"), "{text}");
-    assert!(text.contains("lost chains            1  no file names them; 2 blocks\n"), "{text}");
-    // What is right can still be lifted; the rest is named.
+    assert!(
+        text.contains("lost chains            1  no file names them; 2 blocks; lift writes them to lost+found/\n"),
+        "{text}"
+    );
+    // Who is right can't be told: both are flagged, both are lifted with a mark, and so is what no record names.
+    assert!(text.contains("  - /one: two files claim block 0: this one and /two\n"), "{text}");
     let out = b.run(&["lift", "v", "out"]);
     assert_eq!(out.status.code(), Some(4));
-    assert!(String::from_utf8(out.stderr).unwrap().contains("not lifted: /two: two files claim block 0"));
-    assert_eq!(fs::read(b.at("out/one")).unwrap(), noise(100, 1));
-    assert!(!b.at("out/two").exists());
-    assert!(b.fails(&["cat", "v", "two"], 4).contains("two files claim"));
+    let said = String::from_utf8(out.stderr).unwrap();
+    for name in ["one", "two"] {
+        assert!(
+            said.contains(&format!("lifted with a mark, to out.part/{name}\\shared: /{name}: two files claim")),
+            "{said}"
+        );
+        assert_eq!(fs::read(b.at(&format!("out/{name}\\shared"))).unwrap(), noise(100, 1));
+        assert!(!b.at(&format!("out/{name}")).exists());
+        assert!(b.fails(&["cat", "v", name], 4).contains("two files claim"));
+    }
+    assert_eq!(fs::read(b.at("out/lost+found/block-2")).unwrap()[..100], noise(100, 2));
     assert!(b.done(&["map", "v"]).contains("lost chain from block 2"));
+    assert!(b.done(&["ls", "v"]).contains("  one  (its record is wrong: see check)\n"));
+}
+
+#[test]
+fn three_records_on_one_chain() {
+    let b = two_files();
+    b.done(&["put", "v", "two", "three"]);
+    b.poke("v/file_table.bin", 2 * 48 + 28, &[0, 0, 0, 0]);
+    b.poke("v/file_table.bin", 3 * 48 + 28, &[0, 0, 0, 0]);
+    let text = unsound(&b);
+    for line in [
+        "/one: 3 files claim block 0: this one, /two and 1 more",
+        "/two: 3 files claim block 0: this one, /one and 1 more",
+        "/three: 3 files claim block 0: this one, /one and 1 more",
+    ] {
+        assert!(text.contains(&format!("  - {line}\n")), "{text}");
+    }
+    assert_eq!(text.matches("  - ").count(), 3);
 }
 
 #[test]
@@ -97,9 +126,60 @@ fn records_that_fit_no_chain() {
     assert!(unsound(&b).contains("  - /two: 129 bytes, but its 2 blocks can hold only 128\n"));
     b.poke("v/file_table.bin", 2 * 48 + 32, &[255; 8]);
     unsound(&b);
-    // A file of size 0 owns no chain, whatever its block field says; what it had is lost, but the volume is sound.
+}
+
+#[test]
+fn what_is_remarkable_is_said_first_and_strict_counts_it() {
+    let b = two_files();
+    assert!(b.done(&["check", "--strict", "v"]).starts_with("SOUND  v\n"));
+    // A save whose size field was zeroed: the file is empty, and its chain has no file.
     b.poke("v/file_table.bin", 2 * 48 + 32, &[0; 8]);
-    assert!(b.done(&["check", "v"]).contains("lost chains            1"));
+    let text = b.done(&["check", "v"]);
+    let first =
+        "SOUND, 1 remark  v\n  ! no file names the chain from block 2, 2 blocks; /two is empty, but begins there\n";
+    assert!(text.starts_with(first), "{text}");
+    let out = b.run(&["check", "--strict", "v"]);
+    assert_eq!((out.status.code(), String::from_utf8(out.stdout).unwrap()), (Some(4), text));
+    let said = b.done(&["lift", "v", "out"]);
+    assert!(said.contains("; 1 lost chain to lost+found/\n"), "{said}");
+    let mut whole = noise(100, 2);
+    whole.resize(128, 0);
+    assert_eq!(fs::read(b.at("out/lost+found/block-2")).unwrap(), whole);
+    assert_eq!(b.run(&["lift", "--strict", "v", "out2"]).status.code(), Some(4));
+    assert!(b.at("out2/lost+found/block-2").exists());
+
+    // A size that leaves whole blocks unused.
+    b.poke("v/file_table.bin", 2 * 48 + 32, &[64]);
+    let text = b.done(&["check", "v"]);
+    assert!(
+        text.starts_with("SOUND, 1 remark  v\n  ! /two: 64 bytes, but it has 2 blocks, which hold 128\n"),
+        "{text}"
+    );
+    assert_eq!(b.run(&["check", "--strict", "v"]).status.code(), Some(4));
+    b.poke("v/file_table.bin", 2 * 48 + 32, &[65]);
+    b.done(&["check", "--strict", "v"]);
+}
+
+#[test]
+fn a_directory_named_lost_and_found_stays_what_it_is() {
+    let b = two_files();
+    b.done(&["mkdir", "v", "lost+found"]);
+    b.done(&["put", "v", "one", "lost+found/block-2"]);
+    b.poke("v/file_table.bin", 2 * 48 + 32, &[0; 8]);
+    b.done(&["lift", "v", "out"]);
+    assert_eq!(fs::read(b.at("out/lost+found/block-2")).unwrap(), noise(100, 1));
+    assert_eq!(fs::read(b.at("out/lost+found\\lost/block-2")).unwrap()[..100], noise(100, 2));
+}
+
+#[test]
+fn a_file_longer_than_its_blocks_is_lifted_as_far_as_they_go() {
+    let b = two_files();
+    b.poke("v/file_table.bin", 2 * 48 + 32, &[255; 8]);
+    let out = b.run(&["lift", "v", "out"]);
+    assert_eq!(out.status.code(), Some(4));
+    assert_eq!(fs::read(b.at("out/two\\short")).unwrap()[..100], noise(100, 2));
+    assert_eq!(fs::read(b.at("out/two\\short")).unwrap().len(), 128);
+    assert_eq!(fs::read(b.at("out/one")).unwrap(), noise(100, 1));
 }
 
 #[test]

@@ -24,7 +24,7 @@ fn json_is_json() {
     assert_eq!(entries[1].get("name"), &json::Value::Text("a\"b".into()));
     assert_eq!(entries[2].get("size"), &json::Value::Number(100.0));
     let map = json::parse(&b.done(&["map", "--json", "v"]));
-    let json::Value::List(files) = map.get("files") else { panic!("a list") };
+    let json::Value::List(files) = map.get("entries") else { panic!("a list") };
     assert_eq!(files.len(), 4);
     let empty = json::parse(&b.done(&["ls", "--json", "v", "two"]));
     assert_eq!(empty.get("path"), &json::Value::Text("/two".into()));
