@@ -243,7 +243,7 @@ impl Folder {
 /// Locks a folder. A file system that knows no locks goes without, and so does a reader who may not open it.
 fn lock(path: &Path, access: Access, wait: Duration) -> Result<Option<File>, FolderError> {
     let Ok(folder) = File::open(path) else { return Ok(None) };
-    let end = Instant::now() + wait;
+    let end = Instant::now().checked_add(wait);
     loop {
         let tried = match access {
             Access::Read => folder.try_lock_shared(),
@@ -252,7 +252,9 @@ fn lock(path: &Path, access: Access, wait: Duration) -> Result<Option<File>, Fol
         match tried {
             Ok(()) => return Ok(Some(folder)),
             Err(TryLockError::Error(_)) => return Ok(None),
-            Err(TryLockError::WouldBlock) if Instant::now() >= end => return Err(FolderError::Locked(path.into())),
+            Err(TryLockError::WouldBlock) if end.is_some_and(|end| Instant::now() >= end) => {
+                return Err(FolderError::Locked(path.into()))
+            }
             Err(TryLockError::WouldBlock) => std::thread::sleep(Duration::from_millis(10)),
         }
     }

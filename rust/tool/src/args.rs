@@ -2,6 +2,7 @@
 
 use crate::fail::{Fail, Outcome};
 use crate::name::Path;
+use crate::words::number;
 use std::ffi::{OsStr, OsString};
 use std::os::unix::ffi::OsStrExt;
 use std::time::Duration;
@@ -46,10 +47,24 @@ impl Call {
         Ok(Duration::from_secs(self.number("--wait", Some(0))? as u64))
     }
 
-    /// A word as a path inside the volume.
+    /// A word as a path inside the volume, by its place.
     pub fn path(&self, place: usize) -> Outcome<Path> {
-        let written = &self.words[place];
-        Path::parse(written.as_bytes()).map_err(|line| Fail::failed(format!("{}: {line}", written.to_string_lossy())))
+        self.parse(&self.words[place])
+    }
+
+    /// A word as a path inside the volume.
+    pub fn parse(&self, written: &OsStr) -> Outcome<Path> {
+        Path::parse(written.as_bytes()).map_err(|line| Fail::usage(format!("{}: {line}", written.to_string_lossy())))
+    }
+
+    /// The number given by an option, from the least to the most.
+    pub fn bounded(&self, name: &str, usual: Option<usize>, least: usize, most: usize) -> Outcome<usize> {
+        match self.number(name, usual)? {
+            n if n < least || n > most => {
+                Err(Fail::usage(format!("{name} {n}: from {least} to {} is possible", number(most as u64))))
+            }
+            n => Ok(n),
+        }
     }
 }
 
@@ -71,6 +86,9 @@ pub struct Command {
 /// Remarks are taken as faults.
 pub const STRICT: Opt = ("--strict", "", "exit code 4 for a remark too");
 
+/// What is there is changed.
+pub const REPLACE: Opt = ("--replace", "", "where a file of that name is there, give it the new bytes");
+
 /// What every command takes.
 pub const COMMON: &[Opt] = &[
     ("--json", "", "answer in JSON, errors too"),
@@ -84,10 +102,12 @@ pub fn take(command: &Command, words: &[OsString]) -> Outcome<Option<Call>> {
     let mut call = Call { words: Vec::new(), json: false, quiet: false, verbose: false, options: Vec::new() };
     let mut rest = words.iter();
     while let Some(word) = rest.next() {
-        let Some(text) = word.to_str().filter(|t| t.len() > 1 && t.starts_with('-')) else {
+        if word.len() < 2 || !word.as_bytes().starts_with(b"-") {
             call.words.push(word.clone());
             continue;
-        };
+        }
+        let text = word.to_string_lossy();
+        let text = text.as_ref();
         let (name, joined) = match text.split_once('=') {
             Some((name, value)) => (name, Some(value)),
             None => (text, None),

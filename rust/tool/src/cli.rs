@@ -7,40 +7,39 @@ use crate::show::help::{help, overview};
 use crate::show::term::say;
 use std::ffi::OsString;
 
-pub fn run(words: &[OsString]) -> Outcome<u8> {
-    let Some(first) = words.first() else {
-        return Err(Fail::usage("a command is needed; `mukthiban --help` lists them"));
+/// Runs the command that the words ask for. What fails comes with the command's name, where there is one.
+pub fn run(words: &[OsString]) -> Result<u8, (Option<&'static str>, Fail)> {
+    let Some((first, rest)) = words.split_first() else {
+        return Err((None, Fail::usage("a command is needed; `mukthiban --help` lists them")));
     };
-    match first.to_str() {
-        Some("--help" | "-h" | "help") => {
-            let about = words.get(1).and_then(|w| w.to_str()).and_then(command);
-            say(&about.map_or_else(|| overview(ALL), help))?;
-            return Ok(SOUND);
-        }
-        Some("--version" | "-V") => {
-            say(&format!("mukthiban {}\n", env!("CARGO_PKG_VERSION")))?;
-            return Ok(SOUND);
-        }
-        _ => (),
+    if let Some(text) = first.to_str().filter(|f| ["--help", "-h", "help", "--version", "-V"].contains(f)) {
+        return about(text, rest).map_err(|fail| (None, fail));
     }
-    let Some(command) = first.to_str().and_then(command) else {
-        let line = format!("{}: no such command; `mukthiban --help` lists them", first.to_string_lossy());
-        return Err(Fail::usage(line));
-    };
-    let name = command.name;
-    let with_name = |fail: Fail| match fail.line.as_str() {
-        "" => fail,
-        _ => Fail { line: format!("{name}: {}", fail.line), ..fail },
-    };
-    match take(command, &words[1..]).map_err(with_name)? {
-        Some(call) => (command.run)(&call).map_err(with_name),
+    let command = command(first).map_err(|fail| (None, fail))?;
+    let run = || match take(command, rest)? {
+        Some(call) => (command.run)(&call),
         None => {
             say(&help(command))?;
             Ok(SOUND)
         }
-    }
+    };
+    run().map_err(|fail| (Some(command.name), fail))
 }
 
-fn command(name: &str) -> Option<&'static Command> {
-    ALL.iter().find(|c| c.name == name)
+/// Help and the version, which need no volume.
+fn about(first: &str, rest: &[OsString]) -> Outcome<u8> {
+    let text = match (first, rest) {
+        ("--version" | "-V", []) => format!("mukthiban {}\n", env!("CARGO_PKG_VERSION")),
+        ("--help" | "-h" | "help", []) => overview(ALL),
+        ("--help" | "-h" | "help", [name]) => help(command(name)?),
+        _ => return Err(Fail::usage("too many words; `mukthiban --help` lists the commands")),
+    };
+    say(&text)?;
+    Ok(SOUND)
+}
+
+fn command(name: &OsString) -> Outcome<&'static Command> {
+    let found = ALL.iter().find(|c| name == c.name);
+    let line = || format!("{}: no such command; `mukthiban --help` lists them", name.to_string_lossy());
+    found.ok_or_else(|| Fail::usage(line()))
 }

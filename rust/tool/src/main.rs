@@ -8,6 +8,8 @@ mod cli;
 mod commands;
 mod diagnose;
 mod fail;
+mod host;
+mod intake;
 mod layout;
 mod name;
 mod records;
@@ -22,10 +24,8 @@ fn main() -> ExitCode {
     let words: Vec<_> = std::env::args_os().skip(1).collect();
     match cli::run(&words) {
         Ok(code) => ExitCode::from(code),
-        Err(fail) => {
-            if !fail.line.is_empty() {
-                eprintln!("mukthiban: {}", fail.line);
-            }
+        Err((command, fail)) => {
+            show::term::fail(&words, command, &fail);
             ExitCode::from(fail.code)
         }
     }

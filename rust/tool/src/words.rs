@@ -21,6 +21,14 @@ pub fn count(n: u64, one: &str) -> String {
     }
 }
 
+/// "1 is", "2 are".
+pub fn are(n: u64) -> String {
+    match n {
+        1 => "1 is".into(),
+        _ => format!("{} are", number(n)),
+    }
+}
+
 /// "1 directory", "2 directories".
 pub fn directories(n: u64) -> String {
     match n {

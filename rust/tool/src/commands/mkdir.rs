@@ -3,9 +3,10 @@
 use crate::args::{Call, Command};
 use crate::change::Change;
 use crate::fail::{Fail, Outcome, SOUND};
+use crate::intake::full;
 use crate::name::joined;
-use crate::show::term::say;
-use mukthiban::Refusal;
+use crate::show::taken::tell_change;
+use mukthiban::{Kind, Refusal};
 
 pub const COMMAND: Command = Command {
     name: "mkdir",
@@ -28,11 +29,8 @@ fn run(call: &Call) -> Outcome<u8> {
     let session = &change.session;
     let parent = session.entries[session.dir(parents)?].inode;
     let made = change.make_dir(parent, name, [0; 4]);
-    made.map_err(|r| match r {
-        Refusal::NoSpace => Fail::failed(format!("{about}: the table of directories is full [NoSpace 6]")),
-        _ => Fail::refused(&about, r),
-    })?;
+    made.map_err(|r| full(&about, r, Kind::Dir))?;
     change.save()?;
-    say(&format!("made {about}/\n"))?;
+    tell_change(call, "mkdir", "made", &about, &format!("made {about}/\n"))?;
     Ok(SOUND)
 }

@@ -2,6 +2,7 @@
 
 mod cat;
 mod check;
+mod cp;
 mod lift;
 mod ls;
 mod map;
@@ -20,6 +21,7 @@ pub const ALL: &[Command] = &[
     cat::COMMAND,
     lift::COMMAND,
     put::COMMAND,
+    cp::COMMAND,
     mkdir::COMMAND,
     mv::COMMAND,
     rm::COMMAND,

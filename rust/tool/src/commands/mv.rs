@@ -4,7 +4,7 @@ use crate::args::{Call, Command};
 use crate::change::Change;
 use crate::fail::{Fail, Outcome, SOUND};
 use crate::name::joined;
-use crate::show::term::say;
+use crate::show::taken::tell_change;
 use mukthiban::{Kind, Refusal};
 
 pub const COMMAND: Command = Command {
@@ -33,13 +33,17 @@ fn run(call: &Call) -> Outcome<u8> {
     session.into_directory(&mut to, || Ok(own))?;
     let about = joined(&to.names);
     let (parents, name) = to.split().expect("a name was added");
-    let parent = session.entries[session.dir(parents)?].inode;
+    let dir = session.dir(parents)?;
+    if session.child(dir, kind, name) == Some(at) {
+        return Err(Fail::failed(format!("{before}: it is there already")));
+    }
+    let parent = session.entries[dir].inode;
     let moved = change.rename(kind, inode, parent, name);
     moved.map_err(|r| match r {
         Refusal::AlreadyExist => Fail::refused(&about, r),
         _ => Fail::refused(&before, r),
     })?;
     change.save()?;
-    say(&format!("moved {before} to {about}\n"))?;
+    tell_change(call, "mv", "moved", &about, &format!("moved {before} to {about}\n"))?;
     Ok(SOUND)
 }

@@ -2,8 +2,8 @@
 
 use crate::args::{Call, Command};
 use crate::fail::{Fail, Outcome, SOUND};
-use crate::show::term::say;
-use crate::words::{count, number};
+use crate::show::taken::tell_change;
+use crate::words::{count, directories};
 use mukthiban::folder::{self, FolderError};
 use mukthiban::{Shape, Volume};
 
@@ -17,7 +17,7 @@ pub const COMMAND: Command = Command {
         ("--block-len", "N", "bytes in a block, 1 to 65,536 (usually 512)"),
         ("--dirs", "N", "room for so many directories beside the root, 0 to 65,534 (usually 64)"),
         ("--files", "N", "room for so many files, 0 to 65,535 (usually 256)"),
-        ("--buckets", "N", "hash buckets of each table, 1 to 65,536 (usually 61)"),
+        ("--buckets", "N", "hash buckets of each table, 1 to 65,536 (usually as many as suit the room for entries)"),
     ],
     short: "make an empty volume",
     long: "VOLUME must not exist.",
@@ -26,20 +26,15 @@ pub const COMMAND: Command = Command {
 
 fn run(call: &Call) -> Outcome<u8> {
     let path = call.volume(0);
-    let bounded = |name: &str, usual: Option<usize>, least: usize, most: usize| {
-        let n = call.number(name, usual)?;
-        match n < least || n > most {
-            true => Err(Fail::failed(format!("{name} {n}: from {least} to {} is possible", number(most as u64)))),
-            false => Ok(n),
-        }
-    };
+    // entry 0 and the root are counted by the tables, not by people
+    let dirs = call.bounded("--dirs", Some(64), 0, 65_534)?;
+    let files = call.bounded("--files", Some(256), 0, 65_535)?;
     let shape = Shape {
-        blocks: bounded("--blocks", None, 1, 1_000_000)?,
-        block_len: bounded("--block-len", Some(512), 1, 65_536)?,
-        // entry 0 and the root are counted by the tables, not by people
-        dir_max: bounded("--dirs", Some(64), 0, 65_534)? + 2,
-        file_max: bounded("--files", Some(256), 0, 65_535)? + 1,
-        buckets: bounded("--buckets", Some(61), 1, 65_536)?,
+        blocks: call.bounded("--blocks", None, 1, 1_000_000)?,
+        block_len: call.bounded("--block-len", Some(512), 1, 65_536)?,
+        dir_max: dirs + 2,
+        file_max: files + 1,
+        buckets: call.bounded("--buckets", Some(buckets(dirs.max(files))), 1, 65_536)?,
     };
     let bytes = shape.blocks * shape.block_len;
     if Vec::<u8>::new().try_reserve_exact(bytes).is_err() {
@@ -55,16 +50,26 @@ fn run(call: &Call) -> Outcome<u8> {
         }
         _ => Fail::folder(&e),
     })?;
-    say(&format!(
-        "made {}: {} of {}, room for {} and {} beside the root\n",
+    let line = format!(
+        "made {}: {} of {}, room for {} and {} beside the root, {}\n",
         path.display(),
         count(shape.blocks as u64, "block"),
         count(shape.block_len as u64, "byte"),
-        count(shape.file_max as u64 - 1, "file"),
-        match shape.dir_max - 2 {
-            1 => "1 directory".into(),
-            n => format!("{} directories", number(n as u64)),
-        }
-    ))?;
+        count(files as u64, "file"),
+        directories(dirs as u64),
+        count(shape.buckets as u64, "bucket"),
+    );
+    tell_change(call, "new", "made", &path.to_string_lossy(), &line)?;
     Ok(SOUND)
+}
+
+/// Buckets for so many entries, as consoles choose them: no fewer than entries, as far as there may be so many, and
+/// divided by no small prime, so that names alike spread.
+fn buckets(entries: usize) -> usize {
+    let spreads = |n: &usize| n % 2 == 1 && [3, 5, 7, 11, 13, 17].iter().all(|p| n % p != 0);
+    match entries {
+        0..3 => 3,
+        3..19 => entries | 1,
+        _ => (entries..=65_536).find(spreads).or_else(|| (1..=65_536).rev().find(spreads)).expect("65,521 does"),
+    }
 }

@@ -1,92 +1,92 @@
-//! `put`: a file of the host onto the volume.
+//! `put`: files and folders of the host onto the volume.
 
-use crate::args::{Call, Command};
+use crate::args::{Call, Command, REPLACE};
 use crate::change::Change;
 use crate::fail::{Fail, Outcome, SOUND};
+use crate::host::walk;
+use crate::intake::{take_in, Incoming, Source};
 use crate::layout::name_of;
 use crate::name::joined;
-use crate::session::Session;
-use crate::show::term::say;
-use crate::words::{count, number};
-use mukthiban::{Kind, Refusal};
+use crate::show::taken;
+use mukthiban::{Kind, Name};
+use std::ffi::OsStr;
 use std::fs;
+use std::os::unix::ffi::OsStrExt;
 use std::path::Path;
 
 pub const COMMAND: Command = Command {
     name: "put",
-    takes: "VOLUME HOSTFILE PATH",
+    takes: "VOLUME HOST... PATH",
     least: 3,
-    most: 3,
-    options: &[("--replace", "", "where PATH is a file, give it the new bytes")],
-    short: "copy a file of this machine onto the volume",
-    long: "Where PATH is a directory, or ends with a slash, the file keeps its own name.",
+    most: usize::MAX,
+    options: &[REPLACE],
+    short: "copy files and folders of this machine onto the volume",
+    long: "All of it in one change. Where PATH is a directory, or ends with a slash, what is put keeps its own name; a\n\
+           second HOST needs that. A folder is put with all that is in it; with a slash at its end, what is in it alone\n\
+           is put into PATH, so that `put NEW OUT/ /` is the inverse of lift. Where HOST is -, standard input is put.",
     run,
 };
 
 fn run(call: &Call) -> Outcome<u8> {
-    let host = Path::new(&call.words[1]);
-    let mut path = call.path(2)?;
+    let (path, hosts) = call.words[1..].split_last().expect("two words at least");
+    let path = call.parse(path)?;
     let mut change = Change::open(call.volume(0), call.wait()?)?;
-    let session = &change.session;
-    let own_name = || {
-        let written = host.file_name().ok_or_else(|| Fail::failed(format!("{}: has no name", host.display())))?;
-        name_of(written, Kind::File).map_err(Fail::failed)
-    };
-    session.into_directory(&mut path, own_name)?;
-    let (parents, name) = path.split().expect("a name was added");
-    let about = joined(&path.names);
-    let dir = session.dir(parents)?;
-    let there = session.child(dir, Kind::File, name);
-    if there.is_some() && !call.has("--replace") {
-        let line = format!("{about}: there is such a file; --replace would change it [AlreadyExist 11]");
-        return Err(Fail::failed(line));
+    let is_dir = change.session.dir(&path.names).is_ok();
+    if !is_dir && (path.slash || hosts.len() > 1) {
+        return Err(Fail::failed(format!("{}: no such directory", joined(&path.names))));
     }
-    let room = session.volume.free() + there.map_or(0, |at| session.entries[at].blocks().len());
-    let bytes = read_host(host, &about, session, room)?;
-    let (blocks, parent) = (session_blocks(session, bytes.len()), session.entries[dir].inode);
-    let done = match there.map(|at| session.entries[at].inode) {
-        Some(inode) => change.replace(inode, &bytes),
-        None => change.add(parent, name, &bytes, [0; 20]),
+    let mut incoming = Vec::new();
+    let base = match (is_dir, path.split()) {
+        (false, Some((parents, name))) => {
+            change.session.dir(parents)?;
+            collect(&hosts[0], Some(*name), &mut incoming)?;
+            parents
+        }
+        _ => {
+            hosts.iter().try_for_each(|host| collect(host, None, &mut incoming))?;
+            &path.names
+        }
     };
-    done.map_err(|r| match r {
-        Refusal::NoSpace => Fail::failed(format!("{about}: the table of files is full [NoSpace 6]")),
-        _ => Fail::refused(&about, r),
-    })?;
+    let all = take_in(call, &mut change, base, &incoming)?;
     change.save()?;
-    say(&format!("put {about}: {} in {}\n", count(bytes.len() as u64, "byte"), count(blocks as u64, "block")))?;
+    taken::tell(call, "put", &all)?;
     Ok(SOUND)
 }
 
-/// The blocks that so many bytes need.
-fn session_blocks(session: &Session, bytes: usize) -> usize {
-    bytes.div_ceil(session.volume.parts().block_len)
-}
-
-/// The bytes of a host file, if so many blocks have room for them. What has none is not read.
-fn read_host(host: &Path, about: &str, session: &Session, room: usize) -> Outcome<Vec<u8>> {
-    let too_long = |len: usize| {
-        let need = session_blocks(session, len);
-        match need > room {
-            true => {
-                let line = format!("{about}: it needs {}, and {} free", count(need as u64, "block"), are(room));
-                Err(Fail::failed(format!("{line} [NoSpace 6]")))
-            }
-            false => Ok(()),
-        }
+/// What a word of the command line brings: a file, a folder with all in it, or what is in a folder. With a name, the
+/// thing gets that in the place of its own.
+fn collect(written: &OsStr, name: Option<Name>, incoming: &mut Vec<Incoming>) -> Outcome<()> {
+    let host = Path::new(written);
+    if written == "-" {
+        let name = name.ok_or_else(|| Fail::usage("standard input has no name: PATH must be the file's"))?;
+        incoming.push(Incoming { parent: None, name, source: Source::Input });
+        return Ok(());
+    }
+    let is_folder = fs::metadata(host).map_err(|e| Fail::host(host, &e))?.is_dir();
+    let inside_alone = is_folder && written.as_bytes().ends_with(b"/");
+    let own = |kind: Kind| match (name, host.file_name()) {
+        (Some(name), _) => Ok(name),
+        (None, Some(own)) => name_of(own, kind).map_err(Fail::failed),
+        (None, None) => Err(Fail::failed(format!("{}: has no name", host.display()))),
     };
-    let about_host = fs::metadata(host).map_err(|e| Fail::host(host, &e))?;
-    if about_host.is_dir() {
-        return Err(Fail::failed(format!("{}: this is a folder; put takes files", host.display())));
+    if !is_folder {
+        incoming.push(Incoming { parent: None, name: own(Kind::File)?, source: Source::Host(host.into()) });
+        return Ok(());
     }
-    too_long(about_host.len() as usize)?;
-    let bytes = fs::read(host).map_err(|e| Fail::host(host, &e))?;
-    too_long(bytes.len())?;
-    Ok(bytes)
-}
-
-fn are(n: usize) -> String {
-    match n {
-        1 => "1 is".into(),
-        _ => format!("{} are", number(n as u64)),
+    let mut first = None;
+    if !inside_alone || name.is_some() {
+        first = Some(incoming.len());
+        incoming.push(Incoming { parent: None, name: own(Kind::Dir)?, source: Source::Dir([0; 4]) });
     }
+    let start = incoming.len();
+    for item in walk(host)? {
+        let name = name_of(&item.name, item.kind)
+            .map_err(|line| Fail::failed(format!("{}: {line}", item.full.parent().unwrap_or(host).display())))?;
+        let source = match item.kind {
+            Kind::Dir => Source::Dir([0; 4]),
+            Kind::File => Source::Host(item.full),
+        };
+        incoming.push(Incoming { parent: item.parent.map(|p| start + p).or(first), name, source });
+    }
+    Ok(())
 }

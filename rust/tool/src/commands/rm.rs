@@ -3,7 +3,9 @@
 use crate::args::{Call, Command};
 use crate::change::Change;
 use crate::fail::{Fail, Outcome, SOUND};
-use crate::show::term::say;
+use crate::show::taken::tell_changes;
+use crate::show::term::Progress;
+use crate::words::{count, directories};
 use mukthiban::Kind;
 
 pub const COMMAND: Command = Command {
@@ -11,9 +13,9 @@ pub const COMMAND: Command = Command {
     takes: "VOLUME PATH",
     least: 2,
     most: 2,
-    options: &[],
-    short: "remove a file or an empty directory",
-    long: "PATH is a file, or else a directory; with a slash at its end a directory.",
+    options: &[("-r", "", "a directory with all that is in it; of the root, all that is in it")],
+    short: "remove a file or a directory",
+    long: "PATH is a file, or else a directory; with a slash at its end a directory. Without -r a directory must be empty.",
     run,
 };
 
@@ -22,12 +24,28 @@ fn run(call: &Call) -> Outcome<u8> {
     let mut change = Change::open(call.volume(0), call.wait()?)?;
     let session = &change.session;
     let at = session.find(&path, &[Kind::File, Kind::Dir])?;
-    let about = session.path(at);
-    let (kind, inode) = (session.entries[at].kind, session.entries[at].inode);
-    let removed = change.remove(kind, inode);
-    removed.map_err(|r| Fail::refused(&about, r))?;
+    let (about, kind) = (session.path(at), session.entries[at].kind);
+    let mut going = if call.has("-r") { session.inside(at, true) } else { Vec::new() };
+    if at != 0 || !call.has("-r") {
+        going.insert(0, at);
+    }
+    // what is in a directory goes before it
+    let going: Vec<(Kind, u32, String)> =
+        going.iter().rev().map(|&e| (session.entries[e].kind, session.entries[e].inode, session.path(e))).collect();
+    let mut progress = Progress::new(call, going.len() as u64);
+    for (done, (kind, inode, path)) in going.iter().enumerate() {
+        progress.at(done as u64, path);
+        change.remove(*kind, *inode).map_err(|r| Fail::refused(path, r))?;
+    }
     change.save()?;
-    let slash = if kind == Kind::Dir { "/" } else { "" };
-    say(&format!("removed {about}{slash}\n"))?;
+    drop(progress);
+    let files = going.iter().filter(|(kind, ..)| *kind == Kind::File).count() as u64;
+    let line = match going.len() {
+        1 if kind == Kind::Dir => format!("removed {about}/\n"),
+        1 => format!("removed {about}\n"),
+        all => format!("removed {about}: {} and {}\n", count(files, "file"), directories(all as u64 - files)),
+    };
+    let paths: Vec<String> = going.into_iter().map(|(.., path)| path).collect();
+    tell_changes(call, "rm", "removed", &paths, &line)?;
     Ok(SOUND)
 }

@@ -8,5 +8,6 @@ pub mod listing;
 pub mod map;
 pub mod picture;
 pub mod svg;
+pub mod taken;
 pub mod term;
 pub mod verdict;

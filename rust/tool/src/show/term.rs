@@ -2,6 +2,8 @@
 
 use crate::args::Call;
 use crate::fail::{Fail, Outcome};
+use crate::show::json;
+use std::ffi::OsString;
 use std::io::{self, IsTerminal, Write};
 
 /// Writes a command's whole answer to standard output.
@@ -49,6 +51,24 @@ pub fn columns() -> usize {
 /// A line on standard error. Where that can't be written, nobody reads it.
 pub fn complain(command: &str, line: &str) {
     let _ = writeln!(io::stderr(), "mukthiban: {command}: {line}");
+}
+
+/// What went wrong, in one line on standard error; as JSON where that was asked for. Where it can't be written, the exit
+/// code still says it.
+pub fn fail(words: &[OsString], command: Option<&str>, fail: &Fail) {
+    if fail.line.is_empty() {
+        return;
+    }
+    if words.iter().take_while(|w| *w != "--").any(|w| w == "--json") {
+        let error = [("code", fail.code.to_string()), ("what", json::text(&fail.line))];
+        let _ =
+            io::stderr().write_all(json::answer(command.unwrap_or(""), &[("error", json::object(&error))]).as_bytes());
+        return;
+    }
+    let _ = match command {
+        Some(command) => writeln!(io::stderr(), "mukthiban: {command}: {}", fail.line),
+        None => writeln!(io::stderr(), "mukthiban: {}", fail.line),
+    };
 }
 
 /// A line of progress on standard error, where that is a terminal.

