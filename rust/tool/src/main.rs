@@ -15,6 +15,7 @@ mod name;
 mod records;
 mod session;
 mod show;
+mod sync;
 mod tree;
 mod words;
 

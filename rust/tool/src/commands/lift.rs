@@ -7,6 +7,7 @@ use crate::name::Path as VolumePath;
 use crate::session::Session;
 use crate::show::lifted::{Lifted, Note};
 use crate::show::term::Progress;
+use crate::sync::sync_around;
 use mukthiban::folder::Data;
 use mukthiban::Kind;
 use std::ffi::OsString;
@@ -47,7 +48,7 @@ fn run(call: &Call) -> Outcome<u8> {
     lift(call, &session, &items, &part, &mut lifted)?;
     if lifted.failed.is_empty() {
         fs::rename(&part, &out).map_err(|e| Fail::host(&out, &e))?;
-        sync_parent(&out).map_err(|e| Fail::host(&out, &e))?;
+        File::open(parent(&out)).and_then(|f| f.sync_all()).map_err(|e| Fail::host(&out, &e))?;
     }
     let place = if lifted.failed.is_empty() { &out } else { &part };
     lifted.tell(call, place)?;
@@ -77,44 +78,69 @@ fn part_of(out: &Path) -> Outcome<PathBuf> {
     Ok(part)
 }
 
-fn sync_parent(path: &Path) -> io::Result<()> {
-    let parent = path.parent().filter(|p| *p != Path::new("")).unwrap_or(Path::new("."));
-    File::open(parent)?.sync_all()
+fn parent(path: &Path) -> &Path {
+    path.parent().filter(|p| *p != Path::new("")).unwrap_or(Path::new("."))
 }
 
-/// Lifts the items. Files go in batches: all of one are written before the first is synced, which is much quicker.
+/// Lifts the items: all are written, then synced together, then read back and compared.
 fn lift(call: &Call, session: &Session, items: &[Item], part: &Path, lifted: &mut Lifted) -> Outcome<()> {
-    const FILES: usize = 512;
-    const BYTES: usize = 64 << 20;
-    let total: u64 = items.iter().map(|i| length(session, i.what)).sum();
-    let mut progress = Progress::new(call, total + items.len() as u64);
-    let (mut done, mut batch, mut held) = (0, Vec::new(), 0);
+    let total: u64 = items.iter().map(|i| length(session, i.what) + 1).sum();
+    let mut progress = Progress::new(call, total * 2);
+    let (mut done, mut written) = (0, Vec::new());
     for (at, item) in items.iter().enumerate() {
         progress.at(done, &item.path);
         done += length(session, item.what) + 1;
         let host = if item.host.as_os_str().is_empty() { part.to_path_buf() } else { part.join(&item.host) };
-        match item.what {
-            What::Dir | What::Folder => match fs::create_dir(&host) {
-                Ok(()) => lifted.dirs += u64::from(at > 0 && item.what == What::Dir),
-                // without the first there is nowhere to go on
-                Err(e) if at == 0 => return Err(Fail::host(&host, &e)),
-                Err(e) => lifted.failed.push(Note::new(&item.path, &host, Fail::host(&host, &e).line)),
-            },
-            What::File(e) if session.entries[e].faults.iter().any(|&f| session.account.findings[f].kind == 1) => {
-                let line = session.finding_of(e).map(|f| f.line.clone()).unwrap_or_default();
-                lifted.left.push(Note::new(&item.path, &host, line));
-            }
-            What::File(_) | What::Lost(_) => {
-                held += length(session, item.what) as usize;
-                batch.push((item, host));
-            }
-        }
-        if batch.len() >= FILES || held >= BYTES || at + 1 == items.len() {
-            lift_batch(session, &batch, lifted);
-            (batch, held) = (Vec::new(), 0);
+        match write(session, item, &host, lifted) {
+            Ok(true) => written.push((item, host)),
+            Ok(false) => (),
+            // without the first folder there is nowhere to go on
+            Err(e) if at == 0 => return Err(Fail::host(&host, &e)),
+            Err(e) => lifted.failed.push(Note::new(&item.path, &host, Fail::host(&host, &e).line)),
         }
     }
+    let synced = sync_around(if part.is_dir() { part } else { parent(part) });
+    for (item, host) in &written {
+        progress.at(done, &item.path);
+        done += length(session, item.what) + 1;
+        compare(session, item, host, synced.is_ok(), lifted);
+    }
     Ok(())
+}
+
+/// Makes a folder or writes a file. Answers whether there is something to compare.
+fn write(session: &Session, item: &Item, host: &Path, lifted: &mut Lifted) -> io::Result<bool> {
+    let nowhere = |e: usize| session.entries[e].faults.iter().any(|&f| session.account.findings[f].kind == 1);
+    match item.what {
+        What::Dir | What::Folder => {
+            fs::create_dir(host)?;
+            lifted.dirs += u64::from(!item.host.as_os_str().is_empty() && item.what == What::Dir);
+            Ok(false)
+        }
+        What::File(e) if nowhere(e) => {
+            let line = session.finding_of(e).map(|f| f.line.clone()).unwrap_or_default();
+            lifted.left.push(Note::new(&item.path, host, line));
+            Ok(false)
+        }
+        What::File(_) | What::Lost(_) => {
+            let mut file = File::create_new(host)?;
+            file.write_all(&bytes(session, item.what)).inspect_err(|_| drop(fs::remove_file(host)))?;
+            Ok(true)
+        }
+    }
+}
+
+/// Reads a file back and compares it with the volume, which is read once more.
+fn compare(session: &Session, item: &Item, host: &Path, synced: bool, lifted: &mut Lifted) {
+    let sync = || if synced { Ok(()) } else { File::open(host)?.sync_all() };
+    match sync().and_then(|()| fs::read(host)) {
+        Err(e) => lifted.failed.push(Note::new(&item.path, host, Fail::host(host, &e).line)),
+        Ok(back) if back != bytes(session, item.what) => {
+            let line = format!("{}: what was read back is not what was written", host.display());
+            lifted.failed.push(Note::new(&item.path, host, line));
+        }
+        Ok(back) => lifted.count(session, item, host, back.len() as u64),
+    }
 }
 
 fn length(session: &Session, what: What) -> u64 {
@@ -123,26 +149,5 @@ fn length(session: &Session, what: What) -> u64 {
         What::File(at) => session.entries[at].record.size.min(session.entries[at].blocks().len() as u64 * block_len),
         What::Lost(place) => session.account.lost[place].chain.blocks.len() as u64 * block_len,
         What::Dir | What::Folder => 0,
-    }
-}
-
-fn lift_batch(session: &Session, batch: &[(&Item, PathBuf)], lifted: &mut Lifted) {
-    let written: Vec<io::Result<File>> = batch
-        .iter()
-        .map(|(item, host)| {
-            let mut file = File::create_new(host)?;
-            file.write_all(&bytes(session, item.what)).inspect_err(|_| drop(fs::remove_file(host)))?;
-            Ok(file)
-        })
-        .collect();
-    for ((item, host), file) in batch.iter().zip(written) {
-        match file.and_then(|f| f.sync_all()).and_then(|()| fs::read(host)) {
-            Err(e) => lifted.failed.push(Note::new(&item.path, host, Fail::host(host, &e).line)),
-            Ok(back) if back != bytes(session, item.what) => {
-                let line = format!("{}: what was read back is not what was written", host.display());
-                lifted.failed.push(Note::new(&item.path, host, line));
-            }
-            Ok(back) => lifted.count(session, item, host, back.len() as u64),
-        }
     }
 }

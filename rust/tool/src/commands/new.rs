@@ -70,6 +70,6 @@ fn buckets(entries: usize) -> usize {
     match entries {
         0..3 => 3,
         3..19 => entries | 1,
-        _ => (entries..=65_536).find(spreads).or_else(|| (1..=65_536).rev().find(spreads)).expect("65,521 does"),
+        _ => (entries..=65_536).find(spreads).or_else(|| (1..=65_536).rev().find(spreads)).expect("65,531 does"),
     }
 }

@@ -6,6 +6,7 @@ mod damage;
 mod edges;
 mod json;
 mod layers;
+mod many;
 mod person;
 mod safety;
 mod show;
