@@ -11,6 +11,7 @@ mod mv;
 mod new;
 mod put;
 mod rm;
+mod verify;
 
 use crate::args::Command;
 
@@ -20,6 +21,7 @@ pub const ALL: &[Command] = &[
     ls::COMMAND,
     cat::COMMAND,
     lift::COMMAND,
+    verify::COMMAND,
     put::COMMAND,
     cp::COMMAND,
     mkdir::COMMAND,

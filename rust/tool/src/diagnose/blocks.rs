@@ -45,6 +45,9 @@ fn node(table: &[u8], n: usize, b: usize) -> Result<Node, String> {
     Ok(Node { size: end - b, previous, next })
 }
 
+/// The owner of what no chain comes to.
+const NOBODY: usize = usize::MAX;
+
 /// What is known of a broken table, and what is said of it.
 struct Look<'a> {
     nodes: Vec<Option<Node>>,
@@ -176,7 +179,7 @@ impl Look<'_> {
     fn mark(&mut self, from: usize) -> usize {
         let (mut at, mut blocks) = (from, 0);
         while let Some(this) = self.nodes[at].as_ref().filter(|_| self.owner[at].is_none()) {
-            self.owner[at] = Some(from);
+            self.owner[at] = Some(NOBODY);
             blocks += this.size;
             match this.next {
                 0 => break,

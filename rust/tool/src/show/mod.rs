@@ -1,6 +1,7 @@
 //! What draws and prints.
 
 pub mod colour;
+pub mod compared;
 pub mod help;
 pub mod json;
 pub mod lifted;

@@ -4,6 +4,7 @@ mod bench;
 mod crash;
 mod damage;
 mod edges;
+mod hints;
 mod json;
 mod layers;
 mod many;

@@ -57,3 +57,56 @@ fn colours_are_for_terminals_only() {
         assert!(!out.stdout.contains(&0x1b) && !out.stderr.contains(&0x1b), "{words:?}");
     }
 }
+
+#[test]
+fn each_sign_has_one_line_of_the_legend() {
+    let b = Bench::new();
+    b.done(&["new", "v", "--blocks", "900", "--block-len", "16", "--files", "100"]);
+    fs::create_dir(b.at("src")).unwrap();
+    for i in 0..100 {
+        b.host(&format!("src/f{i:02}"), &noise(16 + i * 2 % 90, 1));
+    }
+    b.done(&["put", "v", "src/", "/"]);
+    b.done(&["put", "v", "src/f99", "src/f98", "/", "--replace"]);
+    let text = b.done(&["map", "v"]);
+    let (cells, legend) = text.split_once("\n\n").unwrap().1.split_once("\n\n").unwrap();
+    let signs: Vec<char> = legend.lines().map(|l| l.chars().nth(2).unwrap()).collect();
+    let mut once = signs.clone();
+    once.sort();
+    once.dedup();
+    assert_eq!(once.len(), signs.len(), "{legend}");
+    let mut met: Vec<char> = cells.lines().flat_map(|l| l.rsplit_once("  ").unwrap().1.chars()).collect();
+    met.sort();
+    met.dedup();
+    assert!(met.len() > 60 && met.iter().all(|c| signs.contains(c)), "{text}");
+    assert!(legend.contains("  +  39 smaller files: "), "{legend}");
+    // The SVG has the first block of each row.
+    b.done(&["map", "v", "--svg", "v.svg"]);
+    let svg = fs::read_to_string(b.at("v.svg")).unwrap();
+    for row in (0..900).step_by(64) {
+        assert!(svg.contains(&format!(">{row}</text>")), "{row}");
+    }
+    let value = json::parse(&b.done(&["map", "--json", "v"]));
+    let json::Value::List(entries) = value.get("entries") else { panic!("a list") };
+    assert_eq!(entries.len(), 100);
+}
+
+#[test]
+fn quiet_and_verbose() {
+    let b = two_files();
+    assert_eq!(b.done(&["check", "--quiet", "v"]), "SOUND  v\n");
+    for words in [
+        &["mkdir", "v", "d", "--quiet"][..],
+        &["put", "v", "one", "d", "--quiet"],
+        &["mv", "v", "d/one", "x", "--quiet"],
+        &["rm", "v", "x", "--quiet"],
+        &["cp", "v", "one", "v", "y", "--quiet"],
+        &["lift", "v", "out", "--quiet"],
+        &["map", "v", "--svg", "m.svg", "--quiet"],
+        &["new", "w", "--blocks", "9", "--quiet"],
+    ] {
+        assert_eq!(b.done(words), "", "{words:?}");
+    }
+    assert!(b.done(&["lift", "v", "out2", "--verbose"]).starts_with("/one\n/two\n/y\nlifted 3 files"));
+    assert!(b.done(&["rm", "-r", "v", "/", "--verbose"]).contains("removed /two\n"));
+}

@@ -161,3 +161,43 @@ fn what_is_wrong_is_not_copied() {
     assert_eq!(b.run(&["cat", "w", "one"]).stdout, noise(100, 1));
     assert!(b.fails(&["cat", "w", "two"], 8).contains("no such"));
 }
+
+#[test]
+fn a_volume_is_held_against_a_folder() {
+    let b = Bench::new();
+    folder(&b);
+    roomy(&b, "v");
+    b.done(&["put", "v", "src/", "/"]);
+    b.done(&["lift", "v", "out"]);
+    assert_eq!(b.done(&["verify", "v", "out"]), "EQUAL  v  out\n  equal: 4 files and 3 directories\n");
+    assert_eq!(b.done(&["verify", "--quiet", "v", "out/"]), "EQUAL  v  out/\n");
+    assert!(b.done(&["verify", "--verbose", "v", "out"]).contains("  = /saves/old/slot0\n"));
+    // What is on one side alone, what is longer, and what is another by one byte.
+    b.host("out/more", b"1");
+    b.host("out/saves/nothing", b"something");
+    b.poke("out/saves/slot1", 17, &[0]);
+    fs::remove_file(b.at("out/icon")).unwrap();
+    fs::remove_dir(b.at("out/empty")).unwrap();
+    let out = b.run(&["verify", "v", "out"]);
+    assert_eq!(out.status.code(), Some(4));
+    assert_eq!(
+        String::from_utf8(out.stdout).unwrap(),
+        "NOT EQUAL  v  out\n  - /empty: only on the volume\n  - /saves/nothing: 0 bytes on the volume, 9 in the folder\n  \
+         - /saves/slot1: differs from byte 17 on\n  - /icon: only on the volume\n  - /more: only in the folder\n  \
+         equal: 1 file and 2 directories\n"
+    );
+    assert!(b.fails(&["verify", "v", "nothing"], 8).contains("nothing: no such file or folder"));
+}
+
+#[test]
+fn the_replacement_is_held_against_what_was_lifted() {
+    let b = two_files();
+    b.done(&["mkdir", "v", "one"]);
+    b.poke("v/file_table.bin", 2 * 48 + 32, &[0; 8]);
+    b.done(&["lift", "v", "out"]);
+    b.done(&["verify", "v", "out"]);
+    roomy(&b, "w");
+    b.done(&["put", "w", "out/", "/"]);
+    // Marks are left out, and what was in lost+found/ is a file now.
+    assert_eq!(b.done(&["verify", "w", "out"]), "EQUAL  w  out\n  equal: 3 files and 2 directories\n");
+}
