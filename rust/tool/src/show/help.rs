@@ -11,7 +11,7 @@ pub fn overview(commands: &[Command]) -> String {
     out + "\n\
         A volume is a folder with fat.bin, data.bin, dir_hash.bin, dir_table.bin, file_hash.bin, file_table.bin\n\
         and block_len. `mukthiban COMMAND --help` says more of a command.\n\n\
-        Exit codes: 0 sound or done, 4 not sound, 8 could not be done, 16 wrong usage.\n"
+        Exit codes: 0 sound, equal or done, 4 not sound or not equal, 8 could not be done, 16 wrong usage.\n"
 }
 
 /// What there is to know of one command.
