@@ -10,16 +10,20 @@
 //! - [`Record`] reads where a file's blocks begin and how long it is.
 
 mod chains;
+#[cfg(unix)]
 mod digest;
+#[cfg(unix)]
 mod disk;
 mod ffi;
 mod inner;
+#[cfg(unix)]
 mod journal;
 mod record;
 mod refusal;
 mod volume;
 
 pub mod fat;
+#[cfg(unix)]
 pub mod folder;
 pub mod tree;
 

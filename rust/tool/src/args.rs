@@ -102,42 +102,44 @@ pub fn take(command: &Command, words: &[OsString]) -> Outcome<Option<Call>> {
     let mut call = Call { words: Vec::new(), json: false, quiet: false, verbose: false, options: Vec::new() };
     let mut rest = words.iter();
     while let Some(word) = rest.next() {
-        if word.len() < 2 || !word.as_bytes().starts_with(b"-") {
-            call.words.push(word.clone());
-            continue;
+        match word.as_bytes() {
+            b"--" => call.words.extend(rest.by_ref().cloned()),
+            b"--help" | b"-h" => return Ok(None),
+            [b'-', _, ..] => take_option(command, word, &mut rest, &mut call)?,
+            _ => call.words.push(word.clone()),
         }
-        let text = word.to_string_lossy();
-        let text = text.as_ref();
-        let (name, joined) = match text.split_once('=') {
-            Some((name, value)) => (name, Some(value)),
-            None => (text, None),
-        };
-        match name {
-            "--" => {
-                call.words.extend(rest.by_ref().cloned());
-                break;
-            }
-            "--help" | "-h" => return Ok(None),
-            _ => (),
-        }
-        let Some((name, value, _)) = command.options.iter().chain(COMMON).find(|o| o.0 == name) else {
-            return Err(Fail::usage(format!("{text}: no such option; see `mukthiban {} --help`", command.name)));
-        };
-        let given = match (value.is_empty(), joined) {
-            (true, None) => OsString::new(),
-            (true, Some(_)) => return Err(Fail::usage(format!("{name} takes no value"))),
-            (false, Some(value)) => value.into(),
-            (false, None) => {
-                rest.next().cloned().ok_or_else(|| Fail::usage(format!("{name} needs its {value} behind it")))?
-            }
-        };
-        call.json |= *name == "--json";
-        call.quiet |= *name == "--quiet";
-        call.verbose |= *name == "--verbose";
-        call.options.push((name, given));
     }
     if call.words.len() < command.least || call.words.len() > command.most {
         return Err(Fail::usage(format!("usage: mukthiban {} {}", command.name, command.takes)));
     }
     Ok(Some(call))
+}
+
+/// An option, with its value behind `=` or in the next word.
+fn take_option<'a>(
+    command: &Command,
+    word: &OsStr,
+    rest: &mut impl Iterator<Item = &'a OsString>,
+    call: &mut Call,
+) -> Outcome<()> {
+    let mut halves = word.as_bytes().splitn(2, |&b| b == b'=');
+    let (written, joined) = (halves.next().unwrap_or_default(), halves.next().map(OsStr::from_bytes));
+    let known = command.options.iter().chain(COMMON).find(|o| o.0.as_bytes() == written);
+    let Some((name, value, _)) = known else {
+        let line = format!("{}: no such option; see `mukthiban {} --help`", word.to_string_lossy(), command.name);
+        return Err(Fail::usage(line));
+    };
+    let given = match (value.is_empty(), joined) {
+        (true, None) => OsString::new(),
+        (true, Some(_)) => return Err(Fail::usage(format!("{name} takes no value"))),
+        (false, Some(value)) => value.into(),
+        (false, None) => {
+            rest.next().cloned().ok_or_else(|| Fail::usage(format!("{name} needs its {value} behind it")))?
+        }
+    };
+    call.json |= *name == "--json";
+    call.quiet |= *name == "--quiet";
+    call.verbose |= *name == "--verbose";
+    call.options.push((name, given));
+    Ok(())
 }

@@ -16,6 +16,17 @@ struct Table<'a> {
     live: Vec<bool>,
 }
 
+/// How an entry of a list was met.
+#[derive(Clone, Copy, PartialEq, Eq)]
+enum Met {
+    Now,
+    Again,
+    Dead,
+}
+
+/// The place of the next entry of the same directory, in both tables.
+const NEXT: usize = 20;
+
 fn word(bytes: &[u8], at: usize) -> u32 {
     u32::from_le_bytes(bytes[at..at + 4].try_into().expect("4 bytes"))
 }
@@ -74,37 +85,44 @@ impl<'a> Table<'a> {
         }
     }
 
+    /// Goes along a list of entries, and tells of each how it was met. It ends at one that is not live, and where it
+    /// has been.
+    fn along(&self, first: usize, next: usize, seen: &mut [bool], mut tell: impl FnMut(usize, Met)) {
+        let mut at = first;
+        while at != 0 {
+            let met = match (self.is_live(at), seen.get(at)) {
+                (true, Some(false)) => Met::Now,
+                (true, _) => Met::Again,
+                (false, _) => Met::Dead,
+            };
+            tell(at, met);
+            if met != Met::Now {
+                return;
+            }
+            seen[at] = true;
+            at = self.field(at, next);
+        }
+    }
+
     /// The buckets: each live entry once, in the bucket of its key.
     fn read_buckets(&self, paths: &Paths, hints: &mut Hints) {
-        let mut seen = vec![false; self.live.len()];
+        let (file, mut seen) = (self.file, vec![false; self.live.len()]);
         for bucket in 0..self.hash.len() / 4 {
-            let mut at = word(self.hash, bucket * 4) as usize;
-            while at != 0 {
-                let line = match (self.is_live(at), seen.get(at)) {
-                    (false, _) => Some(format!("{}: bucket {bucket} comes to {at}, which is not live", self.file)),
-                    (_, Some(true)) => {
-                        Some(format!("{}: bucket {bucket} comes to {} twice", self.file, paths.who(self, at)))
-                    }
-                    _ if self.bucket(at) != bucket => {
+            self.along(word(self.hash, bucket * 4) as usize, self.width - 4, &mut seen, |at, met| {
+                let who = || paths.who(self, at);
+                match met {
+                    Met::Dead => hints.lines.push(format!("{file}: bucket {bucket} comes to {at}, which is not live")),
+                    Met::Again => hints.lines.push(format!("{file}: bucket {bucket} comes to {} twice", who())),
+                    Met::Now if self.bucket(at) != bucket => {
                         let right = self.bucket(at);
-                        Some(format!(
-                            "{}: {} is in bucket {bucket}, its key's is {right}",
-                            self.file,
-                            paths.who(self, at)
-                        ))
+                        hints.lines.push(format!("{file}: {} is in bucket {bucket}, its key's is {right}", who()));
                     }
-                    _ => None,
-                };
-                hints.lines.extend(line);
-                if !self.is_live(at) || seen[at] {
-                    break;
+                    Met::Now => (),
                 }
-                seen[at] = true;
-                at = self.collision(at);
-            }
+            });
         }
         for at in (1..self.live.len()).filter(|&i| self.live[i] && !seen[i]) {
-            hints.lines.push(format!("{}: {} is in no bucket: no look-up finds it", self.file, paths.who(self, at)));
+            hints.lines.push(format!("{file}: {} is in no bucket: no look-up finds it", paths.who(self, at)));
             hints.touched.push(paths.of(self, at));
         }
     }
@@ -196,47 +214,35 @@ fn rooted(dirs: &Table) -> Vec<bool> {
 
 /// The lists of the directories' children, in one of the two tables: each live entry once, below its parent.
 fn read_lists(table: &Table, list: usize, paths: &Paths, hints: &mut Hints) {
-    let (dirs, mut seen) = (paths.dirs, vec![false; table.live.len()]);
+    let (file, dirs, mut seen) = (table.file, paths.dirs, vec![false; table.live.len()]);
     for dir in (1..dirs.live.len()).filter(|&d| dirs.live[d]) {
-        let mut at = dirs.field(dir, list);
-        while at != 0 {
-            if !table.is_live(at) {
-                hints.lines.push(format!("{}: directory {dir} lists {at}, which is not live", table.file));
-                break;
+        table.along(dirs.field(dir, list), NEXT, &mut seen, |at, met| {
+            let who = || paths.who(table, at);
+            match met {
+                Met::Dead => hints.lines.push(format!("{file}: directory {dir} lists {at}, which is not live")),
+                Met::Again => hints.lines.push(format!("{file}: {} is listed twice, now by directory {dir}", who())),
+                Met::Now if table.field(at, 0) != dir => {
+                    hints.lines.push(format!("{file}: directory {dir} lists {}, which is another's", who()));
+                    hints.touched.push(paths.of(table, at));
+                }
+                Met::Now => (),
             }
-            if seen[at] {
-                hints.lines.push(format!(
-                    "{}: {} is listed twice, now by directory {dir}",
-                    table.file,
-                    paths.who(table, at)
-                ));
-                break;
-            }
-            seen[at] = true;
-            if table.field(at, 0) != dir {
-                hints.lines.push(format!(
-                    "{}: directory {dir} lists {}, which is another's",
-                    table.file,
-                    paths.who(table, at)
-                ));
-                hints.touched.push(paths.of(table, at));
-            }
-            at = table.field(at, 20);
-        }
+        });
     }
+    unlisted(table, &seen, paths, hints);
+}
+
+/// Entries that no directory lists.
+fn unlisted(table: &Table, seen: &[bool], paths: &Paths, hints: &mut Hints) {
     let is_root = |at: usize| table.width == tree::DIR_WIDTH && at == 1;
     for at in (1..table.live.len()).filter(|&i| table.live[i] && !is_root(i)) {
-        if !dirs.is_live(table.field(at, 0)) {
-            hints.lines.push(format!(
-                "{}: {} is in directory {}, which is not live",
-                table.file,
-                paths.who(table, at),
-                table.field(at, 0)
-            ));
-            hints.touched.push(paths.of(table, at));
-        } else if !seen[at] {
-            hints.lines.push(format!("{}: {} is in no directory's list", table.file, paths.who(table, at)));
-            hints.touched.push(paths.of(table, at));
-        }
+        let (who, parent) = (|| paths.who(table, at), table.field(at, 0));
+        let line = match (paths.dirs.is_live(parent), seen[at]) {
+            (false, _) => format!("{}: {} is in directory {parent}, which is not live", table.file, who()),
+            (true, false) => format!("{}: {} is in no directory's list", table.file, who()),
+            (true, true) => continue,
+        };
+        hints.lines.push(line);
+        hints.touched.push(paths.of(table, at));
     }
 }
