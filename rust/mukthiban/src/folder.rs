@@ -228,7 +228,11 @@ impl Folder {
                 if !journal.overlay(&mut parts, false) {
                     return Err(FolderError::Damaged(self.path.clone()));
                 }
-                self.finish(&journal)?;
+                // the change that is not finished is an earlier one
+                self.finish(&journal).map_err(|e| match e {
+                    FolderError::Unfinished(path, error) => FolderError::Host(path, error),
+                    other => other,
+                })?;
             }
             Found::Damaged(path) => return Err(FolderError::Damaged(path)),
             Found::Foreign(path) => return Err(FolderError::Foreign(path)),

@@ -39,6 +39,8 @@ impl Fail {
             io::ErrorKind::AlreadyExists => "it exists already".into(),
             io::ErrorKind::PermissionDenied => "permission denied".into(),
             io::ErrorKind::StorageFull => "no room left on the disk".into(),
+            io::ErrorKind::ReadOnlyFilesystem => "the disk may only be read".into(),
+            io::ErrorKind::InvalidFilename => "the name is too long for the disk".into(),
             io::ErrorKind::IsADirectory => "it is a folder".into(),
             io::ErrorKind::NotADirectory => "it is not a folder".into(),
             _ => error.to_string(),

@@ -35,20 +35,31 @@ pub struct Item {
     /// The path that it has on the volume, or would have.
     pub path: String,
     pub what: What,
+    /// How many things below it are left out, since no host takes so long a path.
+    pub below: u64,
 }
+
+/// The longest path of the host below which things are looked at.
+const LONGEST: usize = 4096;
 
 /// All that is in a directory, folders before what is in them; from the root, with the lost chains.
 pub fn layout(session: &Session, from: usize) -> Vec<Item> {
-    let mut hosts = vec![PathBuf::new(); session.entries.len()];
-    let mut items = vec![Item { host: PathBuf::new(), path: session.path(from), what: What::Dir }];
+    let item = |host: PathBuf, at: usize, what: What| Item { host, path: session.path(at), what, below: 0 };
+    let mut items = vec![item(PathBuf::new(), from, What::Dir)];
+    // for each entry its item, or that of the directory that it is left out below
+    let mut places = vec![0; session.entries.len()];
     for at in session.inside(from, true) {
-        let entry = &session.entries[at];
-        hosts[at] = hosts[entry.parent].join(host_name(session, at));
+        let (entry, above) = (&session.entries[at], places[session.entries[at].parent]);
+        if items[above].host.as_os_str().len() > LONGEST {
+            (places[at], items[above].below) = (above, items[above].below + 1);
+            continue;
+        }
         let what = match entry.kind {
             Kind::Dir => What::Dir,
             Kind::File => What::File(at),
         };
-        items.push(Item { host: hosts[at].clone(), path: session.path(at), what });
+        places[at] = items.len();
+        items.push(item(items[above].host.join(host_name(session, at)), at, what));
     }
     if from == 0 && !session.account.lost.is_empty() {
         add_lost(session, &mut items);
@@ -59,10 +70,10 @@ pub fn layout(session: &Session, from: usize) -> Vec<Item> {
 fn add_lost(session: &Session, items: &mut Vec<Item>) {
     let taken = items.iter().any(|i| i.host == OsStr::new("lost+found"));
     let folder = if taken { "lost+found\\lost" } else { "lost+found" };
-    items.push(Item { host: folder.into(), path: format!("/{folder}"), what: What::Folder });
+    items.push(Item { host: folder.into(), path: format!("/{folder}"), what: What::Folder, below: 0 });
     for (place, lost) in session.account.lost.iter().enumerate() {
         let name = format!("{folder}/block-{}", lost.first_block);
-        items.push(Item { path: format!("/{name}"), host: name.into(), what: What::Lost(place) });
+        items.push(Item { path: format!("/{name}"), host: name.into(), what: What::Lost(place), below: 0 });
     }
 }
 

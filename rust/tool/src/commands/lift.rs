@@ -8,6 +8,7 @@ use crate::session::Session;
 use crate::show::lifted::{Lifted, Note};
 use crate::show::term::Progress;
 use crate::sync::sync_around;
+use crate::words::count;
 use mukthiban::folder::Data;
 use mukthiban::Kind;
 use std::ffi::OsString;
@@ -42,7 +43,7 @@ fn run(call: &Call) -> Outcome<u8> {
     let from = session.find(&path, &[Kind::File, Kind::Dir])?;
     let items = match session.entries[from].kind {
         Kind::Dir => layout(&session, from),
-        Kind::File => vec![Item { host: PathBuf::new(), path: session.path(from), what: What::File(from) }],
+        Kind::File => vec![Item { host: PathBuf::new(), path: session.path(from), what: What::File(from), below: 0 }],
     };
     let mut lifted = Lifted::default();
     lift(call, &session, &items, &part, &mut lifted)?;
@@ -96,7 +97,7 @@ fn lift(call: &Call, session: &Session, items: &[Item], part: &Path, lifted: &mu
             Ok(false) => (),
             // without the first folder there is nowhere to go on
             Err(e) if at == 0 => return Err(Fail::host(&host, &e)),
-            Err(e) => lifted.failed.push(Note::new(&item.path, &host, Fail::host(&host, &e).line)),
+            Err(e) => lifted.failed.push(Note::new(&item.path, &host, failed_line(item, &host, &e))),
         }
     }
     let synced = sync_around(if part.is_dir() { part } else { parent(part) });
@@ -106,6 +107,14 @@ fn lift(call: &Call, session: &Session, items: &[Item], part: &Path, lifted: &mu
         compare(session, item, host, synced.is_ok(), lifted);
     }
     Ok(())
+}
+
+fn failed_line(item: &Item, host: &Path, error: &io::Error) -> String {
+    let line = Fail::host(host, error).line;
+    match item.below {
+        0 => line,
+        n => format!("{line}; and {} below it", count(n, "more thing")),
+    }
 }
 
 /// Makes a folder or writes a file. Answers whether there is something to compare.

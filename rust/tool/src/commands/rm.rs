@@ -30,22 +30,23 @@ fn run(call: &Call) -> Outcome<u8> {
         going.insert(0, at);
     }
     // what is in a directory goes before it
-    let going: Vec<(Kind, u32, String)> =
-        going.iter().rev().map(|&e| (session.entries[e].kind, session.entries[e].inode, session.path(e))).collect();
+    going.reverse();
     let mut progress = Progress::new(call, going.len() as u64);
-    for (done, (kind, inode, path)) in going.iter().enumerate() {
-        progress.at(done as u64, path);
-        change.remove(*kind, *inode).map_err(|r| Fail::refused(path, r))?;
+    for (done, &e) in going.iter().enumerate() {
+        progress.at(done as u64, &about);
+        let (kind, inode) = (change.session.entries[e].kind, change.session.entries[e].inode);
+        change.remove(kind, inode).map_err(|r| Fail::refused(&change.session.path(e), r))?;
     }
+    let told = if call.json || call.verbose { &going[..] } else { &[] };
+    let paths: Vec<String> = told.iter().map(|&e| change.session.path(e)).collect();
+    let files = going.iter().filter(|&&e| change.session.entries[e].kind == Kind::File).count() as u64;
     change.save()?;
     drop(progress);
-    let files = going.iter().filter(|(kind, ..)| *kind == Kind::File).count() as u64;
     let line = match going.len() {
         1 if kind == Kind::Dir => format!("removed {about}/\n"),
         1 => format!("removed {about}\n"),
         all => format!("removed {about}: {} and {}\n", count(files, "file"), directories(all as u64 - files)),
     };
-    let paths: Vec<String> = going.into_iter().map(|(.., path)| path).collect();
     tell_changes(call, "rm", "removed", &paths, &line)?;
     Ok(SOUND)
 }

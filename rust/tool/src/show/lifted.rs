@@ -90,7 +90,7 @@ impl Lifted {
         if !self.failed.is_empty() {
             complain(
                 "lift",
-                &format!("{} failed; the rest is in {}", count(self.failed.len() as u64, "file"), place.display()),
+                &format!("{} failed; the rest is in {}", count(self.failed.len() as u64, "thing"), place.display()),
             );
         }
         Ok(())

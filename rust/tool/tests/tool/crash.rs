@@ -114,6 +114,32 @@ fn the_host_refuses_at_any_step() {
 }
 
 #[test]
+fn the_host_refuses_while_clearing_up() {
+    let b = ready();
+    copy(&b.at("v"), &b.at("old"));
+    let step = (1..)
+        .find(|&step| {
+            fs::remove_dir_all(b.at("v")).unwrap();
+            copy(&b.at("old"), &b.at("v"));
+            b.run_aborted(CHANGES[0], step);
+            b.at("v/mukthiban.journal").exists()
+        })
+        .unwrap();
+    let new = seen(&b);
+    for again in 1.. {
+        let out = b.run_with(&["mkdir", "v", "d"], &[("MUKTHIBAN_FAIL_AT_STEP", &again.to_string())]);
+        let line = String::from_utf8(out.stderr).unwrap();
+        if !b.at("v/mukthiban.journal").exists() {
+            break;
+        }
+        // What was made before is not this command's, and is still there.
+        assert_eq!(out.status.code(), Some(8), "{step} {again}: {line}");
+        assert!(line.contains("no room left on the disk") && !line.contains("the change is made"), "{line}");
+        assert_eq!(seen(&b), new);
+    }
+}
+
+#[test]
 fn a_new_volume_is_there_whole_or_not_at_all() {
     let b = Bench::new();
     let words = ["new", "v", "--blocks", "4"];

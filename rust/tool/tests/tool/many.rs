@@ -1,6 +1,7 @@
 //! As many files as a volume can have: time in proportion to them.
 
 use crate::bench::{tree, Bench};
+use mukthiban::{Volume, ROOT};
 use std::fs;
 use std::time::{Duration, Instant};
 
@@ -39,15 +40,37 @@ fn lift_goes_on_after_a_host_error() {
     // 16 bytes of any sort are a name, and so a shown name may be longer than the host takes below a long path.
     let deep: String = (0..16).map(|_| "\\xff").collect();
     let path = |depth: usize| vec![deep.as_str(); depth].join("/");
-    for depth in 1..=63 {
-        b.done(&["mkdir", "v", &path(depth)]);
+    let mut volume = Volume::load(&b.at("v")).unwrap();
+    let mut parent = ROOT;
+    for _ in 0..64 {
+        parent = volume.make_dir(parent, &[0xff; 16], &[0; 4]).unwrap();
     }
-    b.done(&["put", "v", "f", &format!("{}/f", path(63))]);
+    volume.save(&b.at("v")).unwrap();
+    b.done(&["put", "v", "f", &format!("{}/f", path(64))]);
     b.done(&["put", "v", "f", "near"]);
     let out = b.run(&["lift", "v", "out"]);
     let said = String::from_utf8(out.stderr).unwrap();
     assert_eq!(out.status.code(), Some(8), "{said}");
-    assert!(said.contains("not lifted: ") && said.contains("the rest is in out.part"), "{said}");
+    assert!(said.contains("the name is too long for the disk") && said.contains("the rest is in out.part"), "{said}");
     assert_eq!(fs::read(b.at("out.part/near")).unwrap(), b"12345");
     assert!(!b.at("out").exists());
+}
+
+#[test]
+fn directories_as_deep_as_can_be() {
+    let b = Bench::new();
+    b.done(&["new", "v", "--blocks", "4", "--dirs", "65534"]);
+    let mut volume = Volume::load(&b.at("v")).unwrap();
+    let mut parent = ROOT;
+    for _ in 0..65_534 {
+        parent = volume.make_dir(parent, b"d\0\0\0\0\0\0\0\0\0\0\0\0\0\0\0", &[0; 4]).unwrap();
+    }
+    volume.save(&b.at("v")).unwrap();
+    assert!(quickly(&b, &["check", "v"]).contains("directories       65,535"));
+    assert_eq!(quickly(&b, &["ls", "v"]).lines().count(), 2);
+    let out = b.run(&["lift", "v", "out"]);
+    let said = String::from_utf8(out.stderr).unwrap();
+    assert_eq!(out.status.code(), Some(8));
+    assert!(said.contains(" more things below it"), "{}", &said[said.len() - 200..]);
+    quickly(&b, &["rm", "-r", "v", "d", "--quiet"]);
 }
