@@ -62,10 +62,10 @@ fn worn() -> Volume {
     volume
 }
 
-/// The best of three runs, in seconds.
-fn time(tool: &Path, place: &Path, words: &[&str]) -> f64 {
+/// The best of so many runs, in seconds.
+fn time(tool: &Path, place: &Path, words: &[&str], runs: usize) -> f64 {
     let mut best = f64::MAX;
-    for _ in 0..3 {
+    for _ in 0..runs {
         let _ = std::fs::remove_dir_all(place.join("out"));
         let begin = Instant::now();
         let status = Command::new(tool).args(words).current_dir(place).stdout(Stdio::null()).status();
@@ -85,13 +85,13 @@ fn main() {
         [("3 files", || fresh(3, 1000)), ("800,000 fragments", worn), ("65,535 files", || fresh(65_535, 15))];
     for (title, make) in volumes {
         folder::create(&place.join("v"), make().parts()).expect("a new volume");
-        let run = |words: &[&str]| format!("{:.2}", time(&tool, &place, words));
+        let best_of = |runs, words: &[&str]| format!("{:.2}", time(&tool, &place, words, runs));
         let times = [
-            run(&["check", "v"]),
-            run(&["ls", "--all", "v"]),
-            run(&["map", "v"]),
-            run(&["lift", "v", "out"]),
-            run(&["put", "--replace", "v", "small", "save1.dat"]),
+            best_of(5, &["check", "v"]),
+            best_of(5, &["ls", "--all", "v"]),
+            best_of(5, &["map", "v"]),
+            best_of(1, &["lift", "v", "out"]),
+            best_of(5, &["put", "--replace", "v", "small", "save1.dat"]),
         ];
         println!("| {title} | {} |", times.join(" | "));
         std::fs::remove_dir_all(place.join("v")).expect("ours");

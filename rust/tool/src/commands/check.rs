@@ -23,7 +23,9 @@ pub const COMMAND: Command = Command {
 fn run(call: &Call) -> Outcome<u8> {
     let path = call.volume(0);
     let folder = Folder::open(path, Access::Read, call.wait()?).map_err(|e| Fail::folder(&e))?;
-    match Session::load(&folder, Data::Length)? {
+    let loaded = Session::load(&folder, Data::Length)?;
+    drop(folder); // who changes the volume need not wait for who reads the verdict
+    match loaded {
         Ok(session) => verdict::tested(call, path, &session),
         Err(no) => {
             let hints = hints(no.refusal, &no.sizes, no.parts.as_deref());

@@ -47,7 +47,8 @@ fn run(call: &Call) -> Outcome<u8> {
     };
     let mut lifted = Lifted::default();
     lift(call, &session, &items, &part, &mut lifted)?;
-    if lifted.failed.is_empty() {
+    // of one file that can't be lifted there is nothing
+    if lifted.failed.is_empty() && part.symlink_metadata().is_ok() {
         fs::rename(&part, &out).map_err(|e| Fail::host(&out, &e))?;
         File::open(parent(&out)).and_then(|f| f.sync_all()).map_err(|e| Fail::host(&out, &e))?;
     }
@@ -83,7 +84,7 @@ fn parent(path: &Path) -> &Path {
     path.parent().filter(|p| *p != Path::new("")).unwrap_or(Path::new("."))
 }
 
-/// Lifts the items: all are written, then synced together, then read back and compared.
+/// Lifts the items: all are written, then synced, then read back and compared.
 fn lift(call: &Call, session: &Session, items: &[Item], part: &Path, lifted: &mut Lifted) -> Outcome<()> {
     let total: u64 = items.iter().map(|i| length(session, i.what) + 1).sum();
     let mut progress = Progress::new(call, total * 2);
@@ -97,14 +98,15 @@ fn lift(call: &Call, session: &Session, items: &[Item], part: &Path, lifted: &mu
             Ok(false) => (),
             // without the first folder there is nowhere to go on
             Err(e) if at == 0 => return Err(Fail::host(&host, &e)),
-            Err(e) => lifted.failed.push(Note::new(&item.path, &host, failed_line(item, &host, &e))),
+            Err(e) => lifted.failed.push(Note::new(item, failed_line(item, &host, &e))),
         }
     }
-    let synced = sync_around(if part.is_dir() { part } else { parent(part) });
+    // many are synced together, few each by itself, so that they do not wait for what others wrote
+    let synced = written.len() > 256 && sync_around(part).is_ok();
     for (item, host) in &written {
         progress.at(done, &item.path);
         done += length(session, item.what) + 1;
-        compare(session, item, host, synced.is_ok(), lifted);
+        compare(session, item, host, synced, lifted);
     }
     Ok(())
 }
@@ -128,7 +130,7 @@ fn write(session: &Session, item: &Item, host: &Path, lifted: &mut Lifted) -> io
         }
         What::File(e) if nowhere(e) => {
             let line = session.finding_of(e).map(|f| f.line.clone()).unwrap_or_default();
-            lifted.left.push(Note::new(&item.path, host, line));
+            lifted.left.push(Note::new(item, line));
             Ok(false)
         }
         What::File(_) | What::Lost(_) => {
@@ -143,12 +145,12 @@ fn write(session: &Session, item: &Item, host: &Path, lifted: &mut Lifted) -> io
 fn compare(session: &Session, item: &Item, host: &Path, synced: bool, lifted: &mut Lifted) {
     let sync = || if synced { Ok(()) } else { File::open(host)?.sync_all() };
     match sync().and_then(|()| fs::read(host)) {
-        Err(e) => lifted.failed.push(Note::new(&item.path, host, Fail::host(host, &e).line)),
+        Err(e) => lifted.failed.push(Note::new(item, Fail::host(host, &e).line)),
         Ok(back) if back != bytes(session, item.what) => {
             let line = format!("{}: what was read back is not what was written", host.display());
-            lifted.failed.push(Note::new(&item.path, host, line));
+            lifted.failed.push(Note::new(item, line));
         }
-        Ok(back) => lifted.count(session, item, host, back.len() as u64),
+        Ok(back) => lifted.count(session, item, back.len() as u64),
     }
 }
 

@@ -7,24 +7,33 @@ use crate::session::Session;
 use crate::show::json;
 use crate::show::term::{complain, say};
 use crate::words::{count, directories, number};
-use std::path::Path;
+use std::path::{Path, PathBuf};
 
 /// Something to say of one file.
 pub struct Note {
-    pub path: String,
-    pub host: String,
-    pub line: String,
+    path: String,
+    /// Where it is, or would be, below the folder that all of it is in.
+    host: PathBuf,
+    line: String,
 }
 
 impl Note {
-    pub fn new(path: &str, host: &Path, line: String) -> Note {
-        Note { path: path.into(), host: host.display().to_string(), line }
+    pub fn new(item: &Item, line: String) -> Note {
+        Note { path: item.path.clone(), host: item.host.clone(), line }
     }
 
-    fn as_json(&self) -> String {
+    fn to(&self, place: &Path) -> PathBuf {
+        if self.host.as_os_str().is_empty() {
+            place.into()
+        } else {
+            place.join(&self.host)
+        }
+    }
+
+    fn as_json(&self, place: &Path) -> String {
         json::object(&[
             ("path", json::text(&self.path)),
-            ("to", json::text(&self.host)),
+            ("to", json::text(&self.to(place).to_string_lossy())),
             ("what", json::text(&self.line)),
         ])
     }
@@ -48,14 +57,14 @@ pub struct Lifted {
 
 impl Lifted {
     /// One more file, read back and equal.
-    pub fn count(&mut self, session: &Session, item: &Item, host: &Path, bytes: u64) {
+    pub fn count(&mut self, session: &Session, item: &Item, bytes: u64) {
         self.bytes += bytes;
         self.paths.push(item.path.clone());
         match item.what {
             What::File(at) => {
                 self.files += 1;
                 let finding = session.finding_of(at);
-                self.marked.extend(finding.map(|f| Note::new(&item.path, host, f.line.clone())));
+                self.marked.extend(finding.map(|f| Note::new(item, f.line.clone())));
             }
             _ => self.lost += 1,
         }
@@ -82,7 +91,7 @@ impl Lifted {
             ))?;
         }
         for note in &self.marked {
-            complain("lift", &format!("lifted with a mark, to {}: {}", note.host, note.line));
+            complain("lift", &format!("lifted with a mark, to {}: {}", note.to(place).display(), note.line));
         }
         for note in self.left.iter().chain(&self.failed) {
             complain("lift", &format!("not lifted: {}", note.line));
@@ -97,7 +106,7 @@ impl Lifted {
     }
 
     fn as_json(&self, call: &Call, place: &Path) -> String {
-        let notes = |all: &[Note]| json::list(all.iter().map(Note::as_json));
+        let notes = |all: &[Note]| json::list(all.iter().map(|n| n.as_json(place)));
         json::answer(
             "lift",
             &[

@@ -88,7 +88,7 @@ fn records_that_claim_one_chain() {
     let said = String::from_utf8(out.stderr).unwrap();
     for name in ["one", "two"] {
         assert!(
-            said.contains(&format!("lifted with a mark, to out.part/{name}\\shared: /{name}: two files claim")),
+            said.contains(&format!("lifted with a mark, to out/{name}\\shared: /{name}: two files claim")),
             "{said}"
         );
         assert_eq!(fs::read(b.at(&format!("out/{name}\\shared"))).unwrap(), noise(100, 1));
@@ -122,6 +122,10 @@ fn records_that_fit_no_chain() {
     let b = two_files();
     b.poke("v/file_table.bin", 2 * 48 + 28, &[7, 0, 0, 0]);
     assert!(unsound(&b).contains("  - /two: block 7, where it should begin, is no file's first block\n"));
+    let out = b.run(&["lift", "v", "out", "two"]);
+    assert_eq!(out.status.code(), Some(4));
+    assert!(String::from_utf8(out.stderr).unwrap().contains("not lifted: /two: block 7"));
+    assert!(!b.at("out").exists() && !b.at("out.part").exists());
     b.poke("v/file_table.bin", 2 * 48 + 28, &[2, 0, 0, 0, 129]);
     assert!(unsound(&b).contains("  - /two: 129 bytes, but its 2 blocks can hold only 128\n"));
     b.poke("v/file_table.bin", 2 * 48 + 32, &[255; 8]);
