@@ -197,12 +197,13 @@ impl Folder {
             }
         }
         if let Written::These(blocks) = written {
-            let at = |block: u32| u64::from(block) * parts.block_len as u64;
-            pieces.extend(blocks.iter().map(|(b, bytes)| Piece {
-                file: DATA,
-                at: at(*b),
-                bytes: Cow::Borrowed(bytes),
-            }));
+            for (block, bytes) in blocks {
+                let at = u64::from(*block) * parts.block_len as u64;
+                if at + bytes.len() as u64 > sizes.files[DATA] {
+                    return Err(FolderError::OtherSize(self.path.join(FILES[DATA])));
+                }
+                pieces.push(Piece { file: DATA, at, bytes: Cow::Borrowed(bytes) });
+            }
         }
         if pieces.is_empty() {
             return Ok(());

@@ -57,6 +57,11 @@ fn blocks_that_are_named_are_written_and_no_others() {
     for (b, block) in data.chunks(512).enumerate() {
         assert!(block.iter().all(|&x| x == expected(b)), "block {b}");
     }
+    // Past the last block there is nothing to write to.
+    for past in [(40, vec![1]), (39, vec![1; 513])] {
+        assert!(matches!(open.save(volume.parts(), Written::These(&[past])), Err(FolderError::OtherSize(_))));
+    }
+    assert_eq!(fs::read(place.card().join("data.bin")).unwrap(), data);
     // The lengths are known without the bytes.
     assert_eq!(open.load(Data::Length).unwrap().data, vec![0; 40 * 512]);
     assert_eq!(open.sizes().unwrap().files[1], 40 * 512);

@@ -81,7 +81,8 @@ fn main() {
     let tool = here.parent().and_then(Path::parent).expect("examples/").join("mukthiban");
     std::fs::write(place.join("small"), [7; 1000]).expect("it can be written");
     println!("| volume | check | ls --all | map | lift | put |\n|---|---|---|---|---|---|");
-    let volumes: [(&str, fn() -> Volume); 3] =
+    type Made = (&'static str, fn() -> Volume);
+    let volumes: [Made; 3] =
         [("3 files", || fresh(3, 1000)), ("800,000 fragments", worn), ("65,535 files", || fresh(65_535, 15))];
     for (title, make) in volumes {
         folder::create(&place.join("v"), make().parts()).expect("a new volume");

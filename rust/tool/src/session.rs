@@ -126,7 +126,7 @@ impl Session {
     }
 
     /// Where the path is a directory, or a slash ends it, the thing's own name comes behind it.
-    pub fn into_directory(&self, path: &mut name::Path, own: impl Fn() -> Outcome<Name>) -> Outcome<()> {
+    pub fn named_below(&self, path: &mut name::Path, own: impl Fn() -> Outcome<Name>) -> Outcome<()> {
         let is_dir = self.dir(&path.names).is_ok();
         if path.slash && !is_dir {
             return Err(Fail::failed(format!("{}: no such directory", joined(&path.names))));

@@ -34,7 +34,7 @@ fn run(call: &Call) -> Outcome<u8> {
     if !inside_alone {
         // a new name with a slash at its end is welcome for a directory
         to.slash &= is_dir || from.entries[at].kind == Kind::File;
-        change.session.into_directory(&mut to, || Ok(from.entries[at].name))?;
+        change.session.named_below(&mut to, || Ok(from.entries[at].name))?;
     }
     let (base, name) = match (inside_alone, to.split()) {
         (false, Some((parents, name))) => (parents, Some(*name)),

@@ -30,7 +30,7 @@ fn run(call: &Call) -> Outcome<u8> {
     if kind == Kind::Dir && session.dir(&to.names).is_err() {
         to.slash = false;
     }
-    session.into_directory(&mut to, || Ok(own))?;
+    session.named_below(&mut to, || Ok(own))?;
     let about = joined(&to.names);
     let (parents, name) = to.split().expect("a name was added");
     let dir = session.dir(parents)?;

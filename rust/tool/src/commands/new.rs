@@ -66,7 +66,7 @@ fn run(call: &Call) -> Outcome<u8> {
 /// Buckets for so many entries, as consoles choose them: no fewer than entries, as far as there may be so many, and
 /// divided by no small prime, so that names alike spread.
 fn buckets(entries: usize) -> usize {
-    let spreads = |n: &usize| n % 2 == 1 && [3, 5, 7, 11, 13, 17].iter().all(|p| n % p != 0);
+    let spreads = |n: &usize| [2, 3, 5, 7, 11, 13, 17].iter().all(|p| !n.is_multiple_of(*p));
     match entries {
         0..3 => 3,
         3..19 => entries | 1,

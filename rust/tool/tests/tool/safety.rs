@@ -136,3 +136,21 @@ fn the_volume_may_be_named_in_many_ways() {
     assert!(b.at("link").symlink_metadata().unwrap().is_symlink());
     assert!(b.done(&["check", "v"]).contains("directories            4"));
 }
+
+/// A change of a large volume takes neither the time nor the space of the whole.
+#[test]
+fn a_change_costs_what_it_changes() {
+    use std::os::unix::fs::MetadataExt;
+    let b = Bench::new();
+    b.done(&["new", "v", "--blocks", "1000000"]);
+    b.host("f", b"12345");
+    let used =
+        || -> u64 { fs::read_dir(b.at("v")).unwrap().map(|e| e.unwrap().metadata().unwrap().blocks() * 512).sum() };
+    let before = used();
+    b.done(&["put", "v", "f", "f"]);
+    b.done(&["put", "v", "f", "g"]);
+    b.done(&["mv", "v", "f", "h"]);
+    assert_eq!(fs::metadata(b.at("v/data.bin")).unwrap().len(), 512_000_000);
+    assert!(used() < before + 1_000_000, "{before} {}", used());
+    assert_eq!(b.done(&["cat", "v", "h"]), "12345");
+}
