@@ -1,4 +1,4 @@
-//! A file's blocks and bytes at the cost of the file alone.
+//! A file's blocks at the cost of the file alone.
 
 use crate::refusal::Refusal;
 use crate::volume::Volume;
@@ -35,16 +35,5 @@ impl Volume {
             at = (index(at * 8 + 12) as usize).wrapping_sub(1);
         }
         Ok(list)
-    }
-
-    /// The bytes of blocks, one after another, and no more than so many.
-    pub fn block_bytes(&self, blocks: &[u32], size: usize) -> Vec<u8> {
-        let (data, length) = (&self.parts().data, self.parts().block_len);
-        let mut bytes = Vec::with_capacity(size.min(blocks.len() * length));
-        for &b in blocks {
-            let block = &data[b as usize * length..][..length];
-            bytes.extend(&block[..length.min(size - bytes.len())]);
-        }
-        bytes
     }
 }

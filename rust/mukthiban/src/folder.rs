@@ -35,6 +35,7 @@ use crate::volume::{Parts, Volume};
 use std::borrow::Cow;
 use std::fs::{File, TryLockError};
 use std::io::{self, Read};
+use std::os::unix::fs::FileExt;
 use std::path::{Path, PathBuf};
 use std::time::{Duration, Instant};
 
@@ -158,6 +159,22 @@ impl Folder {
         Ok(parts)
     }
 
+    /// The blocks' bytes in stretches, each given as its first block and its length, which lie inside the volume;
+    /// zeros for all others. Stretches near each other are read together.
+    pub fn bytes(&self, stretches: &[(u32, u32)]) -> Result<Vec<u8>, FolderError> {
+        let (sizes, path) = (self.sizes()?, self.path.join(FILES[DATA]));
+        let mut data = zeros(sizes.files[DATA] as usize).ok_or_else(|| FolderError::NoMemory(path.clone()))?;
+        let file = File::open(&path).map_err(|e| host((path.clone(), e)))?;
+        for (from, to) in near(stretches, sizes.block_len) {
+            let place = data.get_mut(from..to).ok_or_else(|| FolderError::OtherSize(path.clone()))?;
+            file.read_exact_at(place, from as u64).map_err(|e| host((path.clone(), e)))?;
+        }
+        if let Found::Whole(journal) = journal::find(&self.path).map_err(|e| host((self.path.clone(), e)))? {
+            journal.overlay_data(&mut data).ok_or_else(|| FolderError::Damaged(self.path.clone()))?;
+        }
+        Ok(data)
+    }
+
     /// The files as they are in place.
     fn read(&self, sizes: &Sizes, with_data: bool) -> Result<Parts, FolderError> {
         let read = |number: usize| {
@@ -269,6 +286,24 @@ fn lock(path: &Path, access: Access, wait: Duration) -> Result<Option<File>, Fol
 fn zeros(length: usize) -> Option<Vec<u8>> {
     Vec::<u8>::new().try_reserve_exact(length).ok()?;
     Some(vec![0; length])
+}
+
+/// The places of stretches of blocks in the data, in order, those near each other as one.
+fn near(stretches: &[(u32, u32)], block_len: usize) -> Vec<(usize, usize)> {
+    const GAP: usize = 1 << 16;
+    let mut places: Vec<(usize, usize)> = stretches
+        .iter()
+        .map(|&(first, blocks)| (first as usize * block_len, (first as usize + blocks as usize) * block_len))
+        .collect();
+    places.sort_unstable();
+    let mut out: Vec<(usize, usize)> = Vec::new();
+    for (from, to) in places {
+        match out.last_mut() {
+            Some(last) if from <= last.1 + GAP => last.1 = last.1.max(to),
+            _ => out.push((from, to)),
+        }
+    }
+    out
 }
 
 fn files_of(parts: &Parts) -> [&[u8]; 6] {

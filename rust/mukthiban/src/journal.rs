@@ -135,6 +135,17 @@ impl Journal<'_> {
     }
 }
 
+impl Journal<'_> {
+    /// Lays the new bytes of the blocks over those that were read. None where they do not lie inside.
+    pub fn overlay_data(&self, data: &mut [u8]) -> Option<()> {
+        for piece in self.pieces.iter().filter(|p| p.file == DATA) {
+            let place = data.get_mut(usize::try_from(piece.at).ok()?..)?.get_mut(..piece.bytes.len())?;
+            place.copy_from_slice(&piece.bytes);
+        }
+        Some(())
+    }
+}
+
 /// Whether a path names a file that is no link.
 fn is_plain(path: &Path) -> io::Result<Option<bool>> {
     match path.symlink_metadata() {

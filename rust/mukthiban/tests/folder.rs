@@ -62,6 +62,11 @@ fn blocks_that_are_named_are_written_and_no_others() {
         assert!(matches!(open.save(volume.parts(), Written::These(&[past])), Err(FolderError::OtherSize(_))));
     }
     assert_eq!(fs::read(place.card().join("data.bin")).unwrap(), data);
+    // Some are read by themselves.
+    let some = open.bytes(&[(9, 1), (3, 1), (30, 2)]).unwrap();
+    assert_eq!((some.len(), &some[..11 * 512]), (data.len(), &data[..11 * 512]));
+    assert_eq!(open.bytes(&[]).unwrap(), vec![0; 40 * 512]);
+    assert!(matches!(open.bytes(&[(39, 2)]), Err(FolderError::OtherSize(_))));
     // The lengths are known without the bytes.
     assert_eq!(open.load(Data::Length).unwrap().data, vec![0; 40 * 512]);
     assert_eq!(open.sizes().unwrap().files[1], 40 * 512);

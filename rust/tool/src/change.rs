@@ -4,7 +4,7 @@
 use crate::fail::{Fail, Outcome};
 use crate::session::Session;
 use crate::tree::stretches;
-use mukthiban::folder::{Access, Data, Folder, Written};
+use mukthiban::folder::{Access, Folder, Written};
 use mukthiban::{Kind, Name, Record, Refusal, Volume};
 use std::path::{Path, PathBuf};
 use std::time::Duration;
@@ -22,7 +22,7 @@ impl Change {
     /// to them goes to the folder alone.
     pub fn open(path: &Path, wait: Duration) -> Outcome<Change> {
         let folder = Folder::open(path, Access::Change, wait).map_err(|e| Fail::folder(&e))?;
-        let session = Session::load(&folder, Data::Length)?.map_err(|refused| refused.fail(path))?;
+        let session = Session::load(&folder)?.map_err(|refused| refused.fail(path))?;
         session.must_be_sound(path)?;
         Ok(Change { session, folder, path: path.into(), written: Vec::new() })
     }

@@ -4,7 +4,7 @@
 
 use crate::name::{self, shown};
 use crate::records::Finding;
-use crate::session::Session;
+use crate::session::{stretches_of, Chosen, Session};
 use mukthiban::{Kind, Name};
 use std::ffi::OsStr;
 use std::os::unix::ffi::OsStrExt;
@@ -77,6 +77,16 @@ fn add_lost(session: &Session, items: &mut Vec<Item>) {
     }
 }
 
+impl Chosen for Vec<Item> {
+    fn stretches(&self, session: &Session) -> Vec<(u32, u32)> {
+        stretches_of(self.iter().filter_map(|item| match item.what {
+            What::File(at) => session.entries[at].chain.as_deref(),
+            What::Lost(place) => Some(&session.account.lost[place].chain),
+            What::Dir | What::Folder => None,
+        }))
+    }
+}
+
 /// The name that an entry gets on the host.
 fn host_name(session: &Session, at: usize) -> String {
     let entry = &session.entries[at];
@@ -99,7 +109,7 @@ fn host_name(session: &Session, at: usize) -> String {
 pub fn bytes(session: &Session, what: What) -> Vec<u8> {
     match what {
         What::File(at) => session.content(at),
-        What::Lost(place) => session.volume.block_bytes(&session.account.lost[place].chain.blocks, usize::MAX),
+        What::Lost(place) => session.block_bytes(&session.account.lost[place].chain.blocks, usize::MAX),
         What::Dir | What::Folder => Vec::new(),
     }
 }

@@ -4,9 +4,10 @@ use crate::diagnose;
 use crate::fail::{Fail, Outcome};
 use crate::name::{self, joined};
 use crate::records::{Account, Finding};
-use crate::tree::{path_of, read_tree, Entry};
+use crate::tree::{path_of, read_tree, Chain, Entry};
 use mukthiban::folder::{Access, Data, Folder, FolderError, Sizes};
 use mukthiban::{Kind, Name, NotSound, Parts, Refusal, Volume};
+use std::collections::HashSet;
 use std::path::Path;
 use std::time::Duration;
 
@@ -17,6 +18,8 @@ pub struct Session {
     pub entries: Vec<Entry>,
     /// What is wrong or remarkable though the tables are sound.
     pub account: Account,
+    /// The blocks' bytes, as far as they were read; else nothing.
+    bytes: Vec<u8>,
 }
 
 /// A volume whose tables or lengths are refused. Where a file is too long for any volume it was not read.
@@ -54,12 +57,12 @@ impl Session {
         let volume = Volume::open(parts)?;
         let mut entries = read_tree(&volume).expect("a sound tree can be walked");
         let account = Account::take(&volume, &mut entries);
-        Ok(Session { volume, entries, account })
+        Ok(Session { volume, entries, account, bytes: Vec::new() })
     }
 
-    /// The volume in a folder. Lengths that no volume has are judged before anything is read.
-    pub fn load(folder: &Folder, data: Data) -> Outcome<Result<Session, Refused>> {
-        match folder.load(data) {
+    /// The volume in a folder, without the blocks' bytes. Lengths that no volume has are judged before anything is read.
+    pub fn load(folder: &Folder) -> Outcome<Result<Session, Refused>> {
+        match folder.load(Data::Length) {
             Ok(parts) => Ok(Session::open(parts)),
             Err(FolderError::TooLong(_)) => {
                 let sizes = folder.sizes().map_err(|e| Fail::folder(&e))?;
@@ -69,10 +72,25 @@ impl Session {
         }
     }
 
-    /// The volume at that path, to be looked at.
-    pub fn read(path: &Path, wait: Duration, data: Data) -> Outcome<Session> {
+    /// The volume at that path, to be looked at. The blocks' bytes are not read.
+    pub fn read(path: &Path, wait: Duration) -> Outcome<Session> {
+        Session::read_with(path, wait, |_| Ok(())).map(|(session, ())| session)
+    }
+
+    /// The volume at that path with the blocks' bytes of what is chosen, once its tables are known.
+    pub fn read_with<T: Chosen>(
+        path: &Path,
+        wait: Duration,
+        choose: impl FnOnce(&Session) -> Outcome<T>,
+    ) -> Outcome<(Session, T)> {
         let folder = Folder::open(path, Access::Read, wait).map_err(|e| Fail::folder(&e))?;
-        Session::load(&folder, data)?.map_err(|refused| refused.fail(path))
+        let mut session = Session::load(&folder)?.map_err(|refused| refused.fail(path))?;
+        let chosen = choose(&session)?;
+        let stretches = chosen.stretches(&session);
+        if !stretches.is_empty() {
+            session.bytes = folder.bytes(&stretches).map_err(|e| Fail::folder(&e))?;
+        }
+        Ok((session, chosen))
     }
 
     /// Nothing is allowed to be wrong with a volume that is changed.
@@ -156,10 +174,46 @@ impl Session {
         self.entries[entry].faults.first().map(|&f| &self.account.findings[f])
     }
 
-    /// A file's bytes: as many as its record says, or as its blocks hold.
+    /// A file's bytes: as many as its record says, or as its blocks hold. They must have been read.
     pub fn content(&self, entry: usize) -> Vec<u8> {
         let entry = &self.entries[entry];
         let size = usize::try_from(entry.record.size).unwrap_or(usize::MAX);
-        self.volume.block_bytes(entry.blocks(), size)
+        self.block_bytes(entry.blocks(), size)
+    }
+
+    /// The bytes of blocks, one after another, and no more than so many. This is the one place that copies them.
+    pub fn block_bytes(&self, blocks: &[u32], size: usize) -> Vec<u8> {
+        let length = self.volume.parts().block_len;
+        let mut bytes = Vec::with_capacity(size.min(blocks.len() * length));
+        for &b in blocks {
+            let block = &self.bytes[b as usize * length..][..length];
+            bytes.extend(&block[..length.min(size - bytes.len())]);
+        }
+        bytes
+    }
+}
+
+/// The stretches of chains, each chain once: many files may claim one.
+pub fn stretches_of<'a>(chains: impl Iterator<Item = &'a Chain>) -> Vec<(u32, u32)> {
+    let mut met = HashSet::new();
+    chains.filter(|c| met.insert(c.blocks.first())).flat_map(|c| c.pieces.iter().copied()).collect()
+}
+
+/// What of a volume is chosen to be read.
+pub trait Chosen {
+    /// The stretches of its blocks.
+    fn stretches(&self, session: &Session) -> Vec<(u32, u32)>;
+}
+
+impl Chosen for () {
+    fn stretches(&self, _: &Session) -> Vec<(u32, u32)> {
+        Vec::new()
+    }
+}
+
+/// One entry.
+impl Chosen for usize {
+    fn stretches(&self, session: &Session) -> Vec<(u32, u32)> {
+        session.entries[*self].pieces().to_vec()
     }
 }

@@ -4,7 +4,6 @@ use crate::args::{Call, Command};
 use crate::fail::{Fail, Outcome, SOUND};
 use crate::session::Session;
 use crate::show::term::say_bytes;
-use mukthiban::folder::Data;
 use mukthiban::Kind;
 
 pub const COMMAND: Command = Command {
@@ -19,11 +18,14 @@ pub const COMMAND: Command = Command {
 };
 
 fn run(call: &Call) -> Outcome<u8> {
-    let session = Session::read(call.volume(0), call.wait()?, Data::Bytes)?;
-    let at = session.find(&call.path(1)?, &[Kind::File])?;
-    if let Some(finding) = session.finding_of(at) {
-        return Err(Fail::not_sound(format!("{}; lift copies what is there, with a mark", finding.line)));
-    }
+    let path = call.path(1)?;
+    let (session, at) = Session::read_with(call.volume(0), call.wait()?, |session| {
+        let at = session.find(&path, &[Kind::File])?;
+        match session.finding_of(at) {
+            Some(finding) => Err(Fail::not_sound(format!("{}; lift copies what is there, with a mark", finding.line))),
+            None => Ok(at),
+        }
+    })?;
     say_bytes(&session.content(at))?;
     Ok(SOUND)
 }

@@ -5,7 +5,7 @@ use crate::diagnose::hints;
 use crate::fail::{Fail, Outcome};
 use crate::session::Session;
 use crate::show::verdict;
-use mukthiban::folder::{Access, Data, Folder};
+use mukthiban::folder::{Access, Folder};
 
 pub const COMMAND: Command = Command {
     name: "check",
@@ -23,7 +23,7 @@ pub const COMMAND: Command = Command {
 fn run(call: &Call) -> Outcome<u8> {
     let path = call.volume(0);
     let folder = Folder::open(path, Access::Read, call.wait()?).map_err(|e| Fail::folder(&e))?;
-    let loaded = Session::load(&folder, Data::Length)?;
+    let loaded = Session::load(&folder)?;
     drop(folder); // who changes the volume need not wait for who reads the verdict
     match loaded {
         Ok(session) => verdict::tested(call, path, &session),

@@ -4,10 +4,9 @@ use crate::args::{Call, Command, REPLACE};
 use crate::change::Change;
 use crate::fail::{Outcome, NOT_SOUND, SOUND};
 use crate::intake::{take_in, Incoming, Source};
-use crate::session::Session;
+use crate::session::{stretches_of, Chosen, Session};
 use crate::show::taken;
 use crate::show::term::complain;
-use mukthiban::folder::Data;
 use mukthiban::Kind;
 use std::collections::HashMap;
 
@@ -26,8 +25,12 @@ pub const COMMAND: Command = Command {
 
 fn run(call: &Call) -> Outcome<u8> {
     let (from_path, mut to) = (call.path(1)?, call.path(3)?);
-    let from = Session::read(call.volume(0), call.wait()?, Data::Bytes)?;
-    let at = from.find(&from_path, &[Kind::File, Kind::Dir])?;
+    let (from, chosen) = Session::read_with(call.volume(0), call.wait()?, |session| {
+        let at = session.find(&from_path, &[Kind::File, Kind::Dir])?;
+        let inside = session.inside(at, true);
+        Ok(Entries { at, inside })
+    })?;
+    let at = chosen.at;
     let mut change = Change::open(call.volume(2), call.wait()?)?;
     let is_dir = change.session.dir(&to.names).is_ok();
     let inside_alone = from_path.slash && is_dir;
@@ -41,7 +44,7 @@ fn run(call: &Call) -> Outcome<u8> {
         _ => (&to.names[..], None),
     };
     let mut left = Vec::new();
-    let incoming = collect(&from, at, name, &mut left);
+    let incoming = collect(&from, &chosen, name, &mut left);
     let all = take_in(call, &mut change, base, &incoming)?;
     change.save()?;
     taken::tell(call, "cp", &all)?;
@@ -49,12 +52,30 @@ fn run(call: &Call) -> Outcome<u8> {
     Ok(if left.is_empty() { SOUND } else { NOT_SOUND })
 }
 
+/// An entry, and all that is in it.
+struct Entries {
+    at: usize,
+    inside: Vec<usize>,
+}
+
+impl Chosen for Entries {
+    fn stretches(&self, session: &Session) -> Vec<(u32, u32)> {
+        stretches_of(self.inside.iter().chain([&self.at]).filter_map(|&e| session.entries[e].chain.as_deref()))
+    }
+}
+
 /// An entry with all that is in it; without a name, what is in it alone.
-fn collect<'a>(from: &'a Session, at: usize, name: Option<[u8; 16]>, left: &mut Vec<String>) -> Vec<Incoming<'a>> {
+fn collect<'a>(
+    from: &'a Session,
+    chosen: &Entries,
+    name: Option<[u8; 16]>,
+    left: &mut Vec<String>,
+) -> Vec<Incoming<'a>> {
     let mut places: HashMap<usize, usize> = HashMap::new();
     let mut incoming = Vec::new();
+    let at = chosen.at;
     let first = name.map(|name| (at, name));
-    let inside = from.inside(at, true).into_iter().map(|e| (e, from.entries[e].name));
+    let inside = chosen.inside.iter().map(|&e| (e, from.entries[e].name));
     for (e, name) in first.into_iter().chain(inside) {
         if let Some(finding) = from.finding_of(e) {
             left.push(finding.line.clone());

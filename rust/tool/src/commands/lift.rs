@@ -9,7 +9,6 @@ use crate::show::lifted::{Lifted, Note};
 use crate::show::term::Progress;
 use crate::sync::sync_around;
 use crate::words::count;
-use mukthiban::folder::Data;
 use mukthiban::Kind;
 use std::ffi::OsString;
 use std::fs::{self, File};
@@ -35,16 +34,18 @@ pub const COMMAND: Command = Command {
 fn run(call: &Call) -> Outcome<u8> {
     let out = PathBuf::from(&call.words[1]);
     let part = part_of(&out)?;
-    let session = Session::read(call.volume(0), call.wait()?, Data::Bytes)?;
     let path = match call.words.len() {
         3 => call.path(2)?,
         _ => VolumePath { names: Vec::new(), slash: true },
     };
-    let from = session.find(&path, &[Kind::File, Kind::Dir])?;
-    let items = match session.entries[from].kind {
-        Kind::Dir => layout(&session, from),
-        Kind::File => vec![Item { host: PathBuf::new(), path: session.path(from), what: What::File(from), below: 0 }],
-    };
+    let (session, items) = Session::read_with(call.volume(0), call.wait()?, |session| {
+        let from = session.find(&path, &[Kind::File, Kind::Dir])?;
+        let file = || Item { host: PathBuf::new(), path: session.path(from), what: What::File(from), below: 0 };
+        Ok(match session.entries[from].kind {
+            Kind::Dir => layout(session, from),
+            Kind::File => vec![file()],
+        })
+    })?;
     let mut lifted = Lifted::default();
     lift(call, &session, &items, &part, &mut lifted)?;
     // of one file that can't be lifted there is nothing
@@ -54,7 +55,7 @@ fn run(call: &Call) -> Outcome<u8> {
     }
     let place = if lifted.failed.is_empty() { &out } else { &part };
     lifted.tell(call, place)?;
-    let strict = call.has("--strict") && from == 0 && !session.account.remarks.is_empty();
+    let strict = call.has("--strict") && path.names.is_empty() && !session.account.remarks.is_empty();
     Ok(match (lifted.failed.is_empty(), lifted.left.is_empty() && lifted.marked.is_empty() && !strict) {
         (false, _) => FAILED,
         (true, false) => NOT_SOUND,

@@ -6,7 +6,6 @@ use crate::name::Path;
 use crate::session::Session;
 use crate::show::listing;
 use crate::show::term::say;
-use mukthiban::folder::Data;
 use mukthiban::Kind;
 
 pub const COMMAND: Command = Command {
@@ -22,7 +21,7 @@ pub const COMMAND: Command = Command {
 };
 
 fn run(call: &Call) -> Outcome<u8> {
-    let session = Session::read(call.volume(0), call.wait()?, Data::Length)?;
+    let session = Session::read(call.volume(0), call.wait()?)?;
     let path = match call.words.len() {
         1 => Path { names: Vec::new(), slash: true },
         _ => call.path(1)?,

@@ -7,7 +7,6 @@ use crate::show::map::{as_json, as_text};
 use crate::show::picture::Picture;
 use crate::show::svg;
 use crate::show::term::say;
-use mukthiban::folder::Data;
 use std::fs;
 use std::path::Path;
 
@@ -26,7 +25,7 @@ pub const COMMAND: Command = Command {
 
 fn run(call: &Call) -> Outcome<u8> {
     let path = Path::new(&call.words[0]);
-    let session = Session::read(call.volume(0), call.wait()?, Data::Length)?;
+    let session = Session::read(call.volume(0), call.wait()?)?;
     let title = path.canonicalize().ok().and_then(|p| p.file_name().map(|n| n.to_string_lossy().into_owned()));
     let picture = Picture::take(title.unwrap_or_else(|| path.display().to_string()), &session);
     if let Some(file) = call.option("--svg") {

@@ -8,7 +8,6 @@ use crate::name::shown;
 use crate::session::Session;
 use crate::show::compared::{Compared, Difference};
 use crate::show::term::Progress;
-use mukthiban::folder::Data;
 use mukthiban::Kind;
 use std::collections::HashMap;
 use std::fs;
@@ -29,12 +28,11 @@ pub const COMMAND: Command = Command {
 };
 
 fn run(call: &Call) -> Outcome<u8> {
-    let session = Session::read(call.volume(0), call.wait()?, Data::Bytes)?;
+    let (session, items) = Session::read_with(call.volume(0), call.wait()?, |session| Ok(layout(session, 0)))?;
     let folder = Path::new(&call.words[1]);
     let on_host_now = walk(folder)?;
     let mut there = on_host(&on_host_now);
     let mut compared = Compared::default();
-    let items = layout(&session, 0);
     let mut progress = Progress::new(call, items.len() as u64);
     for (done, item) in items.iter().enumerate().skip(1) {
         progress.at(done as u64, &item.path);

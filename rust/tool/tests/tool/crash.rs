@@ -18,6 +18,11 @@ fn seen(b: &Bench) -> Parts {
     parts
 }
 
+/// What the tool reads of the files that the changes touch.
+fn cats(b: &Bench) -> Vec<Vec<u8>> {
+    ["one", "three", "eins"].iter().map(|name| b.run(&["cat", "v", name]).stdout).collect()
+}
+
 /// A volume `v` with two files, another file beside the tables, and a host file `three`.
 fn ready() -> Bench {
     let b = two_files();
@@ -44,9 +49,9 @@ fn killed_at_any_step_and_again_while_clearing_up() {
     for change in CHANGES {
         let b = ready();
         copy(&b.at("v"), &b.at("old"));
-        let old = (tree(&b.at("v")), seen(&b));
+        let old = (tree(&b.at("v")), seen(&b), cats(&b));
         b.done(change);
-        let new = (tree(&b.at("v")), seen(&b));
+        let new = (tree(&b.at("v")), seen(&b), cats(&b));
         assert_ne!(old, new);
         let beside = leftovers(&b);
         let (mut found, mut met) = ([0, 0], Vec::new());
@@ -64,6 +69,10 @@ fn killed_at_any_step_and_again_while_clearing_up() {
             let is_new = reader == new.1;
             found[usize::from(is_new)] += 1;
             b.done(&["check", "v"]);
+            assert!(
+                cats(&b) == if is_new { &new.2 } else { &old.2 }[..],
+                "{change:?} {step}: files are read otherwise"
+            );
             copy(&b.at("v"), &b.at("half"));
             for again in 1.. {
                 fs::remove_dir_all(b.at("v")).unwrap();
