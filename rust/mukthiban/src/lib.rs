@@ -7,6 +7,7 @@
 //! - [`Volume`] owns a whole volume, tests it once, and then works without testing again. It has a walk of its tree,
 //!   lookup by path, and files that are read and written as the standard library's are.
 //! - [`Refusal`] says why a call was refused.
+//! - [`folder`] reads a volume from a folder of the host and puts a changed one in its place.
 //! - [`Record`] reads where a file's blocks begin and how long it is; [`name`] makes and shows names.
 //!
 //! Without the feature `std`, which is on by default, the crate is `no_std` and needs no allocator: all but `Volume`
@@ -15,7 +16,15 @@
 #![deny(missing_docs)]
 
 #[cfg(feature = "std")]
+mod chains;
+#[cfg(all(unix, feature = "std"))]
+mod digest;
+#[cfg(all(unix, feature = "std"))]
+mod disk;
+#[cfg(feature = "std")]
 mod inner;
+#[cfg(all(unix, feature = "std"))]
+mod journal;
 #[cfg(feature = "std")]
 mod parts;
 mod record;
@@ -25,6 +34,8 @@ mod tables;
 mod volume;
 
 pub mod fat;
+#[cfg(all(unix, feature = "std"))]
+pub mod folder;
 pub mod name;
 pub mod tree;
 

@@ -1,5 +1,6 @@
 //! Exit codes, as fsck has them, and the one line that says what went wrong.
 
+use mukthiban::folder::FolderError;
 use mukthiban::Refusal;
 use std::io;
 use std::path::Path;
@@ -38,11 +39,26 @@ impl Fail {
             io::ErrorKind::AlreadyExists => "it exists already".into(),
             io::ErrorKind::PermissionDenied => "permission denied".into(),
             io::ErrorKind::StorageFull => "no room left on the disk".into(),
+            io::ErrorKind::ReadOnlyFilesystem => "the disk may only be read".into(),
+            io::ErrorKind::InvalidFilename => "the name is too long for the disk".into(),
             io::ErrorKind::IsADirectory => "it is a folder".into(),
             io::ErrorKind::NotADirectory => "it is not a folder".into(),
             _ => error.to_string(),
         };
         Fail::failed(format!("{}: {what}", path.display()))
+    }
+
+    /// A volume's folder that can't be read or changed. One that is not sound is another matter.
+    pub fn folder(error: &FolderError) -> Fail {
+        match error {
+            FolderError::Host(path, error) => Fail::host(path, error),
+            FolderError::Locked(_) => Fail::failed(format!("{error}; --wait SECONDS would wait for it")),
+            FolderError::Unfinished(path, error) => {
+                let line = "the change is made, but not all of it is in place yet; the next change will finish it";
+                Fail::failed(format!("{line} ({})", Fail::host(path, error).line))
+            }
+            _ => Fail::failed(error.to_string()),
+        }
     }
 
     /// A call of the library that was refused, about the thing named.

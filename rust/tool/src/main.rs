@@ -1,20 +1,23 @@
 //! The technician's tool: says whether a volume is sound, shows what is on it, lifts its files, and changes it
 //! without ever leaving it half written.
 
+mod args;
+mod audit;
 mod change;
-mod check;
 mod cli;
+mod commands;
 mod diagnose;
 mod fail;
-mod folder;
-mod json;
-mod lift;
-mod ls;
-mod map;
+mod host;
+mod intake;
+mod layout;
 mod name;
+mod records;
 mod session;
-mod svg;
-mod term;
+mod show;
+mod sync;
+mod tree;
+mod words;
 
 use std::process::ExitCode;
 
@@ -22,10 +25,8 @@ fn main() -> ExitCode {
     let words: Vec<_> = std::env::args_os().skip(1).collect();
     match cli::run(&words) {
         Ok(code) => ExitCode::from(code),
-        Err(fail) => {
-            if !fail.line.is_empty() {
-                eprintln!("mukthiban: {}", fail.line);
-            }
+        Err((command, fail)) => {
+            show::term::fail(&words, command, &fail);
             ExitCode::from(fail.code)
         }
     }

@@ -78,10 +78,19 @@ pub struct Path {
 }
 
 impl Path {
+    /// Names between slashes. `.` is the directory itself and `..` the one above it, as everywhere; a name of one or two
+    /// dots is written `\x2e` and `\x2e\x2e`.
     pub fn parse(written: &[u8]) -> Result<Path, String> {
-        let slash = written.last() == Some(&b'/');
-        let names =
-            written.split(|&b| b == b'/').filter(|part| !part.is_empty()).map(parse).collect::<Result<_, _>>()?;
+        let mut names = Vec::new();
+        let mut slash = false;
+        for part in written.split(|&b| b == b'/') {
+            slash = matches!(part, b"" | b"." | b"..");
+            match part {
+                b"" | b"." => (),
+                b".." => drop(names.pop()),
+                _ => names.push(parse(part)?),
+            }
+        }
         Ok(Path { names, slash })
     }
 
@@ -160,5 +169,18 @@ mod tests {
         assert_eq!(joined(&path.names), "/a/b");
         assert_eq!(Path::parse(b"/").unwrap().names.len(), 0);
         assert_eq!(joined([]), "/");
+        for (written, shown, slash) in [
+            (".", "/", true),
+            ("./a", "/a", false),
+            ("a/.", "/a", true),
+            ("a/../b", "/b", false),
+            ("..", "/", true),
+            ("a/b/..", "/a", true),
+            ("a/...", "/a/...", false),
+            ("\\x2e", "/\\x2e", false),
+        ] {
+            let path = Path::parse(written.as_bytes()).unwrap();
+            assert_eq!((joined(&path.names).as_str(), path.slash), (shown, slash), "{written}");
+        }
     }
 }

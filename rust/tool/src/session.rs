@@ -1,112 +1,104 @@
 //! A volume that is open: its tables, its tree, and what the two layers say of each other.
 
+use crate::diagnose;
 use crate::fail::{Fail, Outcome};
-use crate::folder::Place;
 use crate::name::{self, joined};
-use crate::term::{count, number};
-use mukthiban::{Kind, Name, NotSound, Parts, Record, Refusal, Volume, ROOT};
-use std::collections::HashMap;
-use std::ops::Range;
+use crate::records::{Account, Finding};
+use crate::tree::{path_of, read_tree, Chain, Entry};
+use mukthiban::folder::{Access, Data, Folder, FolderError, Sizes};
+use mukthiban::{Kind, Name, NotSound, Parts, Refusal, Volume};
+use std::collections::HashSet;
 use std::path::Path;
-
-/// A directory or a file of the tree.
-pub struct Entry {
-    pub kind: Kind,
-    pub inode: u32,
-    pub name: Name,
-    /// The place of its directory in the list of entries; the root's is its own.
-    pub parent: usize,
-    /// A file's record; the empty one for a directory.
-    pub record: Record,
-    /// A file's blocks in chain order, if its record names a chain.
-    pub blocks: Vec<u32>,
-    /// Where in the list of entries the things directly in it stand: directories first, by name.
-    pub inside: Range<usize>,
-}
-
-impl Entry {
-    fn new(kind: Kind, inode: u32, name: Name, parent: usize, record: Record) -> Entry {
-        Entry { kind, inode, name, parent, record, blocks: Vec::new(), inside: 0..0 }
-    }
-
-    /// The stretches of blocks that follow each other.
-    pub fn pieces(&self) -> Vec<(u32, u32)> {
-        stretches(&self.blocks)
-    }
-}
-
-/// The stretches of a block list, each as its first block and its length.
-pub fn stretches(blocks: &[u32]) -> Vec<(u32, u32)> {
-    let mut out: Vec<(u32, u32)> = Vec::new();
-    for &b in blocks {
-        match out.last_mut() {
-            Some((first, len)) if *first + *len == b => *len += 1,
-            _ => out.push((b, 1)),
-        }
-    }
-    out
-}
-
-/// Where file records and block table disagree. The numbers are the kinds of document 02, request 1.
-pub struct Finding {
-    pub kind: u8,
-    /// The inode; for a lost chain its first block.
-    pub of: u32,
-    pub line: String,
-}
-
-/// A chain that no file names.
-pub struct Lost {
-    pub first_block: u32,
-    pub blocks: Vec<u32>,
-}
+use std::time::Duration;
 
 /// A sound volume, read whole.
 pub struct Session {
     pub volume: Volume,
     /// The root first, each directory before what is in it; names in order.
     pub entries: Vec<Entry>,
-    /// What makes the volume not sound though its tables are.
-    pub findings: Vec<Finding>,
-    pub lost: Vec<Lost>,
+    /// What is wrong or remarkable though the tables are sound.
+    pub account: Account,
+    /// The blocks' bytes, as far as they were read; else nothing.
+    bytes: Vec<u8>,
+}
+
+/// A volume whose tables or lengths are refused. Where a file is too long for any volume it was not read.
+pub struct Refused {
+    pub refusal: Refusal,
+    pub sizes: Sizes,
+    pub parts: Option<Box<Parts>>,
+}
+
+impl From<NotSound> for Refused {
+    fn from(no: NotSound) -> Refused {
+        let p = &no.parts;
+        let files = [&p.fat, &p.data, &p.dir_hash, &p.dir_table, &p.file_hash, &p.file_table];
+        let sizes = Sizes { block_len: p.block_len, files: files.map(|f| f.len() as u64) };
+        Refused { refusal: no.refusal, sizes, parts: Some(no.parts) }
+    }
+}
+
+impl Refused {
+    /// The one line for a command that needs a sound volume.
+    pub fn fail(&self, path: &Path) -> Fail {
+        let detail = match self.refusal {
+            Refusal::SizeMismatch | Refusal::InvalidValue => diagnose::size_line(&self.sizes),
+            _ => None,
+        };
+        let detail = detail.unwrap_or_else(|| self.refusal.meaning().into());
+        let (name, number) = (self.refusal.name(), self.refusal.number());
+        Fail::not_sound(format!("{}: not sound: {detail} [{name} {number}]", path.display()))
+    }
 }
 
 impl Session {
     /// Tests the parts and reads the tree.
-    pub fn open(parts: Parts) -> Result<Session, NotSound> {
-        let mut volume = Volume::open(parts)?;
-        let mut entries = read_tree(&mut volume).expect("a sound tree can be walked");
-        let (findings, lost) = audit(&mut volume, &mut entries);
-        Ok(Session { volume, entries, findings, lost })
+    pub fn open(parts: Parts) -> Result<Session, Refused> {
+        let volume = Volume::open(parts)?;
+        let mut entries = read_tree(&volume).expect("a sound tree can be walked");
+        let account = Account::take(&volume, &mut entries);
+        Ok(Session { volume, entries, account, bytes: Vec::new() })
     }
 
-    /// The volume at that path, to be looked at. Other runs may go on.
-    pub fn read(path: &Path) -> Outcome<Session> {
-        let parts = Place::at(path)?.load()?;
-        Session::open(parts).map_err(|no| not_sound(path, &no))
-    }
-
-    /// The volume at that path, to be changed: nothing is allowed to be wrong with it.
-    pub fn change(path: &Path) -> Outcome<(Place, Session)> {
-        let place = Place::at(path)?;
-        let session = Session::open(place.load()?).map_err(|no| not_sound(path, &no))?;
-        session.must_be_sound(path)?;
-        Ok((place, session))
-    }
-
-    fn must_be_sound(&self, path: &Path) -> Outcome<()> {
-        match self.findings.first() {
-            None => Ok(()),
-            Some(finding) => Err(Fail::not_sound(format!("{}: not sound: {}", path.display(), finding.line))),
+    /// The volume in a folder, without the blocks' bytes. Lengths that no volume has are judged before anything is read.
+    pub fn load(folder: &Folder) -> Outcome<Result<Session, Refused>> {
+        match folder.load(Data::Length) {
+            Ok(parts) => Ok(Session::open(parts)),
+            Err(FolderError::TooLong(_)) => {
+                let sizes = folder.sizes().map_err(|e| Fail::folder(&e))?;
+                Ok(Err(Refused { refusal: diagnose::sizes_refusal(&sizes), sizes, parts: None }))
+            }
+            Err(e) => Err(Fail::folder(&e)),
         }
     }
 
-    /// Tests the changed volume once more, whole, and puts it in its place.
-    pub fn save(self, place: &Place) -> Outcome<()> {
-        let path = place.written();
-        let again = Session::open(self.volume.into_parts()).map_err(|no| not_sound(path, &no))?;
-        again.must_be_sound(path)?;
-        place.save(again.volume.parts())
+    /// The volume at that path, to be looked at. The blocks' bytes are not read.
+    pub fn read(path: &Path, wait: Duration) -> Outcome<Session> {
+        Session::read_with(path, wait, |_| Ok(())).map(|(session, ())| session)
+    }
+
+    /// The volume at that path with the blocks' bytes of what is chosen, once its tables are known.
+    pub fn read_with<T: Chosen>(
+        path: &Path,
+        wait: Duration,
+        choose: impl FnOnce(&Session) -> Outcome<T>,
+    ) -> Outcome<(Session, T)> {
+        let folder = Folder::open(path, Access::Read, wait).map_err(|e| Fail::folder(&e))?;
+        let mut session = Session::load(&folder)?.map_err(|refused| refused.fail(path))?;
+        let chosen = choose(&session)?;
+        let stretches = chosen.stretches(&session);
+        if !stretches.is_empty() {
+            session.bytes = folder.bytes(&stretches).map_err(|e| Fail::folder(&e))?;
+        }
+        Ok((session, chosen))
+    }
+
+    /// Nothing is allowed to be wrong with a volume that is changed.
+    pub fn must_be_sound(&self, path: &Path) -> Outcome<()> {
+        match self.account.findings.first() {
+            None => Ok(()),
+            Some(finding) => Err(Fail::not_sound(format!("{}: not sound: {}", path.display(), finding.line))),
+        }
     }
 
     pub fn path(&self, entry: usize) -> String {
@@ -115,7 +107,10 @@ impl Session {
 
     /// The entry with that name in a directory.
     pub fn child(&self, dir: usize, kind: Kind, name: &Name) -> Option<usize> {
-        self.entries[dir].inside.clone().find(|&e| self.entries[e].kind == kind && self.entries[e].name == *name)
+        let inside = self.entries[dir].inside.clone();
+        let key = |e: &Entry| (e.kind == Kind::File, e.name);
+        let found = self.entries[inside.clone()].binary_search_by_key(&(kind == Kind::File, *name), key);
+        found.ok().map(|place| inside.start + place)
     }
 
     /// The directory with those names, from the root down.
@@ -148,107 +143,77 @@ impl Session {
         })
     }
 
-    /// Whether a file's record is one of those that disagree with the block table.
-    pub fn finding_of(&self, entry: usize) -> Option<&Finding> {
-        self.findings.iter().find(|f| f.of == self.entries[entry].inode)
-    }
-
-    /// A file's bytes.
-    pub fn content(&mut self, entry: usize) -> Outcome<Vec<u8>> {
-        if let Some(finding) = self.finding_of(entry) {
-            return Err(Fail::not_sound(finding.line.clone()));
+    /// Where the path is a directory, or a slash ends it, the thing's own name comes behind it.
+    pub fn named_below(&self, path: &mut name::Path, own: impl Fn() -> Outcome<Name>) -> Outcome<()> {
+        let is_dir = self.dir(&path.names).is_ok();
+        if path.slash && !is_dir {
+            return Err(Fail::failed(format!("{}: no such directory", joined(&path.names))));
         }
-        let record = self.entries[entry].record;
-        let mut bytes = vec![0; record.size as usize];
-        if record.size > 0 {
-            let about = self.path(entry);
-            self.volume.read(record.first_block as usize, 0, &mut bytes).map_err(|r| Fail::refused(&about, r))?;
+        if is_dir {
+            path.names.push(own()?);
+            path.slash = false;
         }
-        Ok(bytes)
+        Ok(())
     }
-}
 
-/// The line for a volume that can't be opened.
-pub fn not_sound(path: &Path, no: &NotSound) -> Fail {
-    let detail = match no.refusal {
-        Refusal::SizeMismatch | Refusal::InvalidValue => crate::diagnose::sizes(&no.parts).into_iter().next(),
-        _ => None,
-    };
-    let detail = detail.unwrap_or_else(|| no.refusal.meaning().into());
-    Fail::not_sound(format!("{}: not sound: {detail} [{} {}]", path.display(), no.refusal.name(), no.refusal.number()))
-}
-
-fn path_of(entries: &[Entry], mut at: usize) -> String {
-    let mut names = Vec::new();
-    while at != 0 {
-        names.push(&entries[at].name);
-        at = entries[at].parent;
-    }
-    joined(names.into_iter().rev())
-}
-
-/// Every live entry, by the library's own listings.
-pub fn read_tree(volume: &mut Volume) -> Result<Vec<Entry>, Refusal> {
-    let mut entries = vec![Entry::new(Kind::Dir, ROOT, [0; 16], 0, Record::EMPTY)];
-    let mut at = 0;
-    while at < entries.len() {
-        if entries[at].kind == Kind::Dir {
-            let inode = entries[at].inode;
-            let (dirs, files) = (volume.list_dirs(inode)?, volume.list_files(inode)?);
-            let first = entries.len();
-            for (kind, inodes) in [(Kind::Dir, dirs), (Kind::File, files)] {
-                for inode in inodes {
-                    let name = *volume.name(kind, inode)?;
-                    let record = match kind {
-                        Kind::Dir => Record::EMPTY,
-                        Kind::File => Record::of(&volume.carried_file(inode)?),
-                    };
-                    entries.push(Entry::new(kind, inode, name, at, record));
-                }
+    /// What is in a directory; with `all`, each directory followed by what is in it.
+    pub fn inside(&self, dir: usize, all: bool) -> Vec<usize> {
+        let mut out = Vec::new();
+        let mut ahead: Vec<usize> = self.entries[dir].inside.clone().rev().collect();
+        while let Some(at) = ahead.pop() {
+            out.push(at);
+            if all {
+                ahead.extend(self.entries[at].inside.clone().rev());
             }
-            entries[first..].sort_by_key(|e| (e.kind == Kind::File, e.name));
-            entries[at].inside = first..entries.len();
         }
-        at += 1;
+        out
     }
-    Ok(entries)
+
+    /// What is wrong with a file's record, if anything is.
+    pub fn finding_of(&self, entry: usize) -> Option<&Finding> {
+        self.entries[entry].faults.first().map(|&f| &self.account.findings[f])
+    }
+
+    /// A file's bytes: as many as its record says, or as its blocks hold. They must have been read.
+    pub fn content(&self, entry: usize) -> Vec<u8> {
+        let entry = &self.entries[entry];
+        let size = usize::try_from(entry.record.size).unwrap_or(usize::MAX);
+        self.block_bytes(entry.blocks(), size)
+    }
+
+    /// The bytes of blocks, one after another, and no more than so many. This is the one place that copies them.
+    pub fn block_bytes(&self, blocks: &[u32], size: usize) -> Vec<u8> {
+        let length = self.volume.parts().block_len;
+        let mut bytes = Vec::with_capacity(size.min(blocks.len() * length));
+        for &b in blocks {
+            let block = &self.bytes[b as usize * length..][..length];
+            bytes.extend(&block[..length.min(size - bytes.len())]);
+        }
+        bytes
+    }
 }
 
-/// Holds the files' records against the block table, in inode order, and fills in the files' blocks.
-fn audit(volume: &mut Volume, entries: &mut [Entry]) -> (Vec<Finding>, Vec<Lost>) {
-    let block_len = volume.parts().block_len;
-    let mut files: Vec<usize> = (0..entries.len()).filter(|&e| entries[e].kind == Kind::File).collect();
-    files.sort_by_key(|&e| entries[e].inode);
-    let mut findings = Vec::new();
-    let mut owner: HashMap<u32, usize> = HashMap::new();
-    for e in files {
-        let Record { first_block, size } = entries[e].record;
-        if size == 0 {
-            continue;
-        }
-        let inode = entries[e].inode;
-        let mut find = |kind, what: String| {
-            findings.push(Finding { kind, of: inode, line: format!("{}: {what}", path_of(entries, e)) })
-        };
-        let Ok(blocks) = volume.open_list(first_block as usize) else {
-            find(1, format!("block {first_block}, where it should begin, is no file's first block"));
-            continue;
-        };
-        if let Some(&other) = owner.get(&first_block) {
-            find(2, format!("two files claim block {first_block}: this one and {}", path_of(entries, other)));
-        }
-        let room = blocks.len() as u64 * block_len as u64;
-        if size > room {
-            let holds = count(blocks.len() as u64, "block");
-            find(3, format!("{} bytes, but its {holds} can hold only {}", number(size), number(room)));
-        }
-        owner.entry(first_block).or_insert(e);
-        entries[e].blocks = blocks;
+/// The stretches of chains, each chain once: many files may claim one.
+pub fn stretches_of<'a>(chains: impl Iterator<Item = &'a Chain>) -> Vec<(u32, u32)> {
+    let mut met = HashSet::new();
+    chains.filter(|c| met.insert(c.blocks.first())).flat_map(|c| c.pieces.iter().copied()).collect()
+}
+
+/// What of a volume is chosen to be read.
+pub trait Chosen {
+    /// The stretches of its blocks.
+    fn stretches(&self, session: &Session) -> Vec<(u32, u32)>;
+}
+
+impl Chosen for () {
+    fn stretches(&self, _: &Session) -> Vec<(u32, u32)> {
+        Vec::new()
     }
-    let firsts: Vec<usize> = volume.first_blocks().filter(|&b| !owner.contains_key(&(b as u32))).collect();
-    let lost = firsts
-        .into_iter()
-        .map(|b| Lost { first_block: b as u32, blocks: volume.open_list(b).expect("a file's first block") })
-        .collect();
-    (findings, lost)
+}
+
+/// One entry.
+impl Chosen for usize {
+    fn stretches(&self, session: &Session) -> Vec<(u32, u32)> {
+        session.entries[*self].pieces().to_vec()
+    }
 }

@@ -1,44 +1,15 @@
 //! The picture of a volume as SVG.
 
-use crate::map::Picture;
-use crate::term::{count, number};
+use crate::show::colour::colour;
+use crate::show::picture::{Owner, Picture, Sort};
+use crate::words::{count, number};
 
-/// The most rows and the most lines of the legend.
+/// The most rows.
 const ROWS: usize = 48;
-const LEGEND: usize = 60;
 
 const WIDTH: usize = 960;
 const EDGE: usize = 32;
 const TOP: usize = 96;
-
-/// A file's colour: a few that are easy to tell apart, then ever new ones.
-pub fn colour(place: usize) -> [u8; 3] {
-    const FIRST: [[u8; 3]; 10] = [
-        [0x2f, 0x6f, 0xde],
-        [0xd9, 0x54, 0x1e],
-        [0x1f, 0x9d, 0x6b],
-        [0x8e, 0x4e, 0xc6],
-        [0xb8, 0x86, 0x0b],
-        [0xc2, 0x36, 0x6f],
-        [0x0e, 0x8f, 0xa8],
-        [0x6b, 0x8e, 0x23],
-        [0xa0, 0x52, 0x2d],
-        [0x4b, 0x5d, 0x8a],
-    ];
-    match FIRST.get(place) {
-        Some(colour) => *colour,
-        None => hue(place as f64 * 137.508 % 360.0),
-    }
-}
-
-fn hue(degrees: f64) -> [u8; 3] {
-    let part = |n: f64| {
-        let k = (n + degrees / 30.0) % 12.0;
-        let light = 0.44 - 0.26 * (k - 3.0).min(9.0 - k).clamp(-1.0, 1.0);
-        (light * 255.0).round() as u8
-    };
-    [part(0.0), part(8.0), part(4.0)]
-}
 
 fn hex([r, g, b]: [u8; 3]) -> String {
     format!("#{r:02x}{g:02x}{b:02x}")
@@ -67,23 +38,38 @@ struct Bar {
     begins: bool,
 }
 
-pub fn draw(picture: &Picture) -> String {
-    let n = picture.of.len();
-    let wide = match n {
-        0..=64 => 16,
-        65..=512 => 32,
-        _ => 64,
-    };
-    let per = picture.blocks_a_cell(wide * ROWS);
-    let cells = n.div_ceil(per);
-    let cell = (WIDTH - 2 * EDGE) / wide;
-    let high = cell.clamp(14, 34);
-    let rows = cells.div_ceil(wide);
-    let legend_top = TOP + rows * (high + 4) + 34;
-    let lines = picture.owners.len().min(LEGEND) + 1;
-    let more = picture.owners.len() > LEGEND;
-    let height = legend_top + lines.div_ceil(2) * 26 + if more { 26 } else { 0 } + 24;
+/// Where the cells stand, and how large they are.
+struct Grid {
+    left: usize,
+    wide: usize,
+    per: usize,
+    cell: usize,
+    high: usize,
+}
 
+impl Grid {
+    fn of(picture: &Picture) -> Grid {
+        let n = picture.of.len();
+        let wide = match n {
+            0..=64 => 16,
+            65..=512 => 32,
+            _ => 64,
+        };
+        let left = EDGE + number(n as u64).len() * 7 + 8;
+        let cell = (WIDTH - EDGE - left) / wide;
+        Grid { left, wide, per: picture.blocks_a_cell(wide * ROWS), cell, high: cell.clamp(14, 34) }
+    }
+
+    fn place(&self, cell: usize) -> (usize, usize) {
+        (self.left + cell % self.wide * self.cell, TOP + cell / self.wide * (self.high + 4))
+    }
+}
+
+pub fn draw(picture: &Picture) -> String {
+    let grid = Grid::of(picture);
+    let rows = picture.of.len().div_ceil(grid.per).div_ceil(grid.wide);
+    let legend_top = TOP + rows * (grid.high + 4) + 34;
+    let height = legend_top + (picture.owners.len() + 1).div_ceil(2) * 26 + 24;
     let mut out = format!(
         "<svg xmlns=\"http://www.w3.org/2000/svg\" width=\"{WIDTH}\" height=\"{height}\" viewBox=\"0 0 {WIDTH} {height}\" \
          role=\"img\" font-family=\"system-ui, 'Segoe UI', Helvetica, Arial, sans-serif\">\n\
@@ -95,16 +81,33 @@ pub fn draw(picture: &Picture) -> String {
          <text x=\"{EDGE}\" y=\"70\" font-size=\"14\" fill=\"#4b5563\">{summary}{cell_is}</text>\n",
         title = escaped(&cut(&picture.title, 70)),
         summary = escaped(&picture.summary()),
-        cell_is = match per {
+        cell_is = match grid.per {
             1 => String::new(),
-            _ => format!("; a cell is {}", count(per as u64, "block")),
+            _ => format!("; a cell is {}", count(grid.per as u64, "block")),
         },
     );
-    for bar in bars(picture, per, wide) {
-        draw_bar(&mut out, picture, &bar, (cell, high, wide), per);
+    for row in 0..rows {
+        let (first, y) = (row * grid.wide * grid.per, grid.place(row * grid.wide).1 + grid.high / 2 + 4);
+        out += &format!(
+            "<text x=\"{}\" y=\"{y}\" font-size=\"11\" text-anchor=\"end\" fill=\"#6b7280\">{}</text>\n",
+            grid.left - 8,
+            number(first as u64)
+        );
+    }
+    for bar in bars(picture, grid.per, grid.wide) {
+        draw_bar(&mut out, picture, &bar, &grid);
     }
     draw_legend(&mut out, picture, legend_top);
     out + "</svg>\n"
+}
+
+/// How an owner's blocks are filled.
+fn fill(owner: &Owner, place: usize) -> String {
+    match owner.sort {
+        Sort::File => hex(colour(place)),
+        Sort::Rest => "#64748b".into(),
+        Sort::Lost => "url(#lost)".into(),
+    }
 }
 
 /// The cells, joined where they are one fragment and stand in one row.
@@ -133,11 +136,8 @@ fn bars(picture: &Picture, per: usize, wide: usize) -> Vec<Bar> {
     out
 }
 
-fn draw_bar(out: &mut String, picture: &Picture, bar: &Bar, (cell, high, wide): (usize, usize, usize), per: usize) {
-    let (x, y) = (EDGE + bar.first % wide * cell, TOP + bar.first / wide * (high + 4));
-    let n = picture.of.len();
-    let (from, to) = (bar.first * per, ((bar.first + bar.cells) * per).min(n) - 1);
-    let range = if from == to { format!("block {from}") } else { format!("blocks {from} to {to}") };
+fn draw_bar(out: &mut String, picture: &Picture, bar: &Bar, grid: &Grid) {
+    let ((x, y), high, cell) = (grid.place(bar.first), grid.high, grid.cell);
     let Some(place) = (bar.owner as usize).checked_sub(1) else {
         // free blocks stay single and light
         for i in 0..bar.cells {
@@ -150,56 +150,48 @@ fn draw_bar(out: &mut String, picture: &Picture, bar: &Bar, (cell, high, wide): 
         return;
     };
     let owner = &picture.owners[place];
-    let fill = match owner.size {
-        Some(_) => hex(colour(place)),
-        None => "url(#lost)".into(),
-    };
-    let which = match owner.pieces.len() {
-        1 => String::new(),
-        all => format!(", fragment {} of {all}", bar.piece + 1),
-    };
     *out += &format!(
-        "<g><title>{}: {range}{which}</title><rect x=\"{}\" y=\"{y}\" width=\"{}\" height=\"{high}\" rx=\"4\" fill=\"{fill}\"/>",
-        escaped(&owner.label),
+        "<g><title>{}</title><rect x=\"{}\" y=\"{y}\" width=\"{}\" height=\"{high}\" rx=\"4\" fill=\"{}\"/>",
+        escaped(&bar_title(picture, owner, bar, grid)),
         x + 1,
-        bar.cells * cell - 2
+        bar.cells * cell - 2,
+        fill(owner, place)
     );
     // the blocks of a fragment stay countable
     if bar.cells > 1 && cell >= 8 {
         let lines: String = (1..bar.cells).map(|i| format!("M{} {}v{}", x + i * cell, y + 1, high - 2)).collect();
         *out += &format!("<path d=\"{lines}\" stroke=\"#ffffff\" stroke-opacity=\"0.35\"/>");
     }
-    if bar.begins && cell >= 13 {
-        let label = match owner.pieces.len() {
-            1 => owner.letter(place).to_string(),
-            _ => format!("{}{}", owner.letter(place), bar.piece + 1),
-        };
-        let size = (high / 2).clamp(9, 14);
-        if label.len() * size * 6 / 10 + 6 < bar.cells * cell {
-            *out += &format!(
-                "<text x=\"{}\" y=\"{}\" font-size=\"{size}\" font-weight=\"600\" fill=\"#ffffff\">{label}</text>",
-                x + 6,
-                y + high / 2 + size * 4 / 10
-            );
-        }
+    let label = match owner.sort == Sort::File && owner.pieces.len() > 1 {
+        true => format!("{}{}", owner.sign, bar.piece + 1),
+        false => owner.sign.to_string(),
+    };
+    let size = (high / 2).clamp(9, 14);
+    if bar.begins && cell >= 13 && label.len() * size * 6 / 10 + 6 < bar.cells * cell {
+        *out += &format!(
+            "<text x=\"{}\" y=\"{}\" font-size=\"{size}\" font-weight=\"600\" fill=\"#ffffff\">{label}</text>",
+            x + 6,
+            y + high / 2 + size * 4 / 10
+        );
     }
     *out += "</g>\n";
 }
 
+/// What a bar is, for who points at it.
+fn bar_title(picture: &Picture, owner: &Owner, bar: &Bar, grid: &Grid) -> String {
+    let (from, to) = (bar.first * grid.per, ((bar.first + bar.cells) * grid.per).min(picture.of.len()) - 1);
+    let range = if from == to { format!("block {from}") } else { format!("blocks {from} to {to}") };
+    match owner.sort == Sort::File && owner.pieces.len() > 1 {
+        true => format!("{}: {range}, fragment {} of {}", owner.label, bar.piece + 1, owner.pieces.len()),
+        false => format!("{}: {range}", owner.label),
+    }
+}
+
 fn draw_legend(out: &mut String, picture: &Picture, top: usize) {
-    let mut lines: Vec<(String, String, String)> = picture
-        .owners
-        .iter()
-        .take(LEGEND)
-        .enumerate()
-        .map(|(place, owner)| {
-            let fill = match owner.size {
-                Some(_) => hex(colour(place)),
-                None => "url(#lost)".into(),
-            };
-            (fill, format!("{}  {}", owner.letter(place), owner.label), owner.words())
-        })
-        .collect();
+    let line = |(place, owner): (usize, &Owner)| {
+        (fill(owner, place), format!("{}  {}", owner.sign, owner.label), owner.words())
+    };
+    let mut lines: Vec<(String, String, String)> = picture.owners.iter().enumerate().map(line).collect();
     lines.push(("#f1f3f6".into(), "free".into(), count(picture.free as u64, "block")));
     let half = lines.len().div_ceil(2);
     for (i, (fill, label, words)) in lines.iter().enumerate() {
@@ -211,13 +203,6 @@ fn draw_legend(out: &mut String, picture: &Picture, top: usize) {
             x + 22,
             escaped(&cut(label, 30)),
             escaped(words)
-        );
-    }
-    if picture.owners.len() > LEGEND {
-        *out += &format!(
-            "<text x=\"{EDGE}\" y=\"{}\" font-size=\"13\" fill=\"#6b7280\">and {} more</text>\n",
-            top + half * 26,
-            number((picture.owners.len() - LEGEND) as u64)
         );
     }
 }

@@ -22,17 +22,25 @@ pub fn object(fields: &[(&str, String)]) -> String {
     format!("{{{}}}", inside.join(", "))
 }
 
+/// A command's answer: an object with the version of these shapes and the command first.
+pub fn answer(command: &str, fields: &[(&str, String)]) -> String {
+    let mut all = vec![("version", "1".into()), ("command", text(command))];
+    all.extend(fields.iter().cloned());
+    format!("{}\n", object(&all))
+}
+
 /// A list, an item a line.
-pub fn list(items: &[String]) -> String {
-    match items {
-        [] => "[]".into(),
-        _ => format!("[\n  {}\n]", items.join(",\n  ")),
+pub fn list(items: impl IntoIterator<Item = String>) -> String {
+    let items: Vec<String> = items.into_iter().collect();
+    match items.is_empty() {
+        true => "[]".into(),
+        false => format!("[\n  {}\n]", items.join(",\n  ")),
     }
 }
 
-/// A list in one line.
-pub fn row<T: ToString>(items: impl IntoIterator<Item = T>) -> String {
-    let inside: Vec<String> = items.into_iter().map(|i| i.to_string()).collect();
+/// Stretches of blocks, each as its first block and its length, in one line.
+pub fn stretches(pieces: &[(u32, u32)]) -> String {
+    let inside: Vec<String> = pieces.iter().map(|(first, length)| format!("[{first}, {length}]")).collect();
     format!("[{}]", inside.join(", "))
 }
 

@@ -1,6 +1,9 @@
-//! What a terminal gets and a file does not: colours, and a line of progress. And numbers as people read them.
+//! What a terminal gets and a file does not: colours, and a line of progress.
 
+use crate::args::Call;
 use crate::fail::{Fail, Outcome};
+use crate::show::json;
+use std::ffi::OsString;
 use std::io::{self, IsTerminal, Write};
 
 /// Writes a command's whole answer to standard output.
@@ -15,7 +18,8 @@ pub fn say_bytes(bytes: &[u8]) -> Outcome<()> {
 
 /// Whether standard output is to be coloured.
 pub fn colours() -> bool {
-    io::stdout().is_terminal() && std::env::var_os("NO_COLOR").is_none()
+    let dumb = std::env::var_os("TERM").is_some_and(|t| t == "dumb");
+    io::stdout().is_terminal() && !dumb && std::env::var_os("NO_COLOR").is_none()
 }
 
 pub enum Ink {
@@ -44,25 +48,27 @@ pub fn columns() -> usize {
     std::env::var("COLUMNS").ok().and_then(|c| c.parse().ok()).unwrap_or(80).clamp(40, 200)
 }
 
-/// 1234567 as 1,234,567.
-pub fn number(n: u64) -> String {
-    let digits = n.to_string();
-    let mut out = String::new();
-    for (i, c) in digits.chars().enumerate() {
-        if i > 0 && (digits.len() - i).is_multiple_of(3) {
-            out.push(',');
-        }
-        out.push(c);
-    }
-    out
+/// A line on standard error. Where that can't be written, nobody reads it.
+pub fn complain(command: &str, line: &str) {
+    let _ = writeln!(io::stderr(), "mukthiban: {command}: {line}");
 }
 
-/// "1 block", "2 blocks".
-pub fn count(n: u64, one: &str) -> String {
-    match n {
-        1 => format!("1 {one}"),
-        _ => format!("{} {one}s", number(n)),
+/// What went wrong, in one line on standard error; as JSON where that was asked for. Where it can't be written, the exit
+/// code still says it.
+pub fn fail(words: &[OsString], command: Option<&str>, fail: &Fail) {
+    if fail.line.is_empty() {
+        return;
     }
+    if words.iter().take_while(|w| *w != "--").any(|w| w == "--json") {
+        let error = [("code", fail.code.to_string()), ("what", json::text(&fail.line))];
+        let _ =
+            io::stderr().write_all(json::answer(command.unwrap_or(""), &[("error", json::object(&error))]).as_bytes());
+        return;
+    }
+    let _ = match command {
+        Some(command) => writeln!(io::stderr(), "mukthiban: {command}: {}", fail.line),
+        None => writeln!(io::stderr(), "mukthiban: {}", fail.line),
+    };
 }
 
 /// A line of progress on standard error, where that is a terminal.
@@ -73,23 +79,19 @@ pub struct Progress {
 }
 
 impl Progress {
-    pub fn new(total: u64) -> Progress {
-        Progress { shown: io::stderr().is_terminal(), total: total.max(1), last: None }
+    pub fn new(call: &Call, total: u64) -> Progress {
+        Progress { shown: !call.quiet && io::stderr().is_terminal(), total: total.max(1), last: None }
     }
 
     /// So much of the total is done; next comes the thing named.
     pub fn at(&mut self, done: u64, what: &str) {
-        let percent = done * 100 / self.total;
+        let percent = (done * 100 / self.total).min(100);
         if self.shown && self.last != Some(percent) {
             self.last = Some(percent);
             let filled = (percent / 5) as usize;
             let what: String = what.chars().take(columns() - 36).collect();
-            let _ = write!(
-                io::stderr(),
-                "\r\x1b[K[{}{}] {percent:3}%  {what}",
-                "#".repeat(filled),
-                ".".repeat(20 - filled)
-            );
+            let bar = format!("{}{}", "#".repeat(filled), ".".repeat(20 - filled));
+            let _ = write!(io::stderr(), "\r\x1b[K[{bar}] {percent:3}%  {what}");
         }
     }
 }
@@ -99,20 +101,5 @@ impl Drop for Progress {
         if self.shown && self.last.is_some() {
             let _ = write!(io::stderr(), "\r\x1b[K");
         }
-    }
-}
-
-#[cfg(test)]
-mod tests {
-    use super::*;
-
-    #[test]
-    fn numbers_as_people_read_them() {
-        assert_eq!(number(0), "0");
-        assert_eq!(number(999), "999");
-        assert_eq!(number(1000), "1,000");
-        assert_eq!(number(1234567), "1,234,567");
-        assert_eq!(count(1, "block"), "1 block");
-        assert_eq!(count(0, "block"), "0 blocks");
     }
 }

@@ -1,0 +1,28 @@
+# Completion for bash: source this file, or put it in bash's folder of completions as mukthiban.
+
+_mukthiban() {
+    local word=${COMP_WORDS[COMP_CWORD]} before=${COMP_WORDS[COMP_CWORD - 1]} command=${COMP_WORDS[1]} options
+    local commands="check ls map cat lift verify put cp mkdir mv rm new help"
+    COMPREPLY=()
+    if [ "$COMP_CWORD" = 1 ]; then
+        COMPREPLY=($(compgen -W "$commands --help --version" -- "$word"))
+        return
+    fi
+    case $command in
+        help) COMPREPLY=($(compgen -W "$commands" -- "$word")); return ;;
+        check | lift) options="--strict" ;;
+        ls) options="--all" ;;
+        map) options="--svg" ;;
+        put | cp) options="--replace" ;;
+        rm) options="-r" ;;
+        new) options="--blocks --block-len --dirs --files --buckets" ;;
+    esac
+    case $before in
+        --blocks | --block-len | --dirs | --files | --buckets | --wait) return ;;
+    esac
+    case $word in
+        -*) COMPREPLY=($(compgen -W "$options --json --quiet --verbose --wait --help" -- "$word")) ;;
+        *) COMPREPLY=($(compgen -f -- "$word")) ;;
+    esac
+}
+complete -o filenames -F _mukthiban mukthiban

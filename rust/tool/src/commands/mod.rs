@@ -1,0 +1,32 @@
+//! The commands, a file each.
+
+mod cat;
+mod check;
+mod cp;
+mod lift;
+mod ls;
+mod map;
+mod mkdir;
+mod mv;
+mod new;
+mod put;
+mod rm;
+mod verify;
+
+use crate::args::Command;
+
+/// All commands, in the order of the help.
+pub const ALL: &[Command] = &[
+    check::COMMAND,
+    ls::COMMAND,
+    cat::COMMAND,
+    lift::COMMAND,
+    verify::COMMAND,
+    put::COMMAND,
+    cp::COMMAND,
+    mkdir::COMMAND,
+    mv::COMMAND,
+    rm::COMMAND,
+    new::COMMAND,
+    map::COMMAND,
+];

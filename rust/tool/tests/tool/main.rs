@@ -1,0 +1,16 @@
+//! The tool, run as a person would: temporary folders, exit codes, messages, JSON, locks, damage and crashes.
+
+mod bench;
+mod crash;
+mod damage;
+mod edges;
+mod hints;
+mod json;
+mod layers;
+mod manual;
+mod many;
+mod person;
+mod safety;
+mod shapes;
+mod show;
+mod transfer;
