@@ -191,10 +191,10 @@ module _ (t : List ℕ) (w first : ℕ) {count i off : ℕ} {work work′ : List
   pub counted-size : n ≡ length (listAt t w (w - 4) first) + 1
   counted-size = A .size p (listAt t w (w - 4) first) (counted-ends .links)
 
-  pub counted-far : ltb 17 n ≡ far t w first
+  pub counted-far : ltb 65 n ≡ far t w first
   counted-far =
       let e : n ≡ length (listAt t w (w - 4) first) + 1 = counted-size in
-      ⊎-elim (λ (k : n ≤ 17). le-ltb 17 n k ∙ far-no t w first (omega arith)) (λ (k : 17 < n). lt-ltb 17 n k ∙ far-yes t w first (omega arith)) (le-or-lt n 17)
+      ⊎-elim (λ (k : n ≤ 65). le-ltb 65 n k ∙ far-no t w first (omega arith)) (λ (k : 65 < n). lt-ltb 65 n k ∙ far-yes t w first (omega arith)) (le-or-lt n 65)
 
 module _ {t : List ℕ} {w count buckets first i off : ℕ} {work work′ : List ℕ} {n : ℕ} (A : ListCounted (linkAt t w (w - 4)) count first i off work work′ n) where
   pub counted-stop : n ≡ 0 → BucketCounted t w count buckets first i off work work′ 0

@@ -111,11 +111,11 @@ module _ (h t : List ℕ) (w least off : ℕ) (work : List ℕ) {count maximum :
           count-max = subst (λ z. z ≤ field w t 0 2) count-is (subst (λ z. count ≤ z) maximum-is (n .2));
         }
 
-    pub single-good : 0 < n → n ≤ 17 → {w2 : List ℕ} → GoneKept off count w1 w2 → TableTested h t w least off work w2 true
-    single-good p s17 {w2} K = record {
+    pub single-good : 0 < n → n ≤ 65 → {w2 : List ℕ} → GoneKept off count w1 w2 → TableTested h t w least off work w2 true
+    single-good p few {w2} K = record {
       good = λ _ root head.
           let n = N .yes e1 in
-          let s = S .good (some p) (record { right = λ j a b f. absurd (false≢true (sym (C .near p s17 .near j a b) ∙ f)) }) root head (front root head) in
+          let s = S .good (some p) (record { right = λ j a b f. absurd (false≢true (sym (C .near p few .near j a b) ∙ f)) }) root head (front root head) in
           let K′ : GoneKept off (field w t 0 1) w1 w2 = subst (λ z. GoneKept off z w1 w2) count-is K in (
             s .0,
             subst (λ z. least ≤ z) count-is (n .3),

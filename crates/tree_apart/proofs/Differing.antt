@@ -21,7 +21,7 @@ use Rattle.tree_marks.specs.inner.Gather.{bucketAt}
 use Rattle.tree_marks.proofs.Walks.{le-or-lt, within-trans}
 use Rattle.tree_marks.proofs.Gathering.{Checking, check-begin, check-on, check-stop, check-done}
 use Rattle.tree_sort.specs.inner.Sort.{at, Inside, Different}
-use Rattle.tree_apart.specs.inner.Apart.{Apart, AllApart, far, Bounded, NoneFar, FarApart, Wiped, Sifted}
+use Rattle.tree_apart.specs.inner.Apart.{Apart, few, AllApart, far, Bounded, NoneFar, FarApart, Wiped, Sifted}
 
 -- ---- places and members
 
@@ -95,13 +95,13 @@ front-is xs rest l n e q = ap (take n) e ∙ take-at xs rest n (sym q)
 
 -- ---- long or not
 
-pub far-yes : (t : List ℕ) (w first : ℕ) → 16 < length (listAt t w (w - 4) first) → true ≡ far t w first
+pub far-yes : (t : List ℕ) (w first : ℕ) → few < length (listAt t w (w - 4) first) → true ≡ far t w first
 unfolding far
-far-yes t w first h = sym (lt-ltb 16 (length (listAt t w (w - 4) first)) h)
+far-yes t w first h = sym (lt-ltb few (length (listAt t w (w - 4) first)) h)
 
-pub far-no : (t : List ℕ) (w first : ℕ) → length (listAt t w (w - 4) first) ≤ 16 → false ≡ far t w first
+pub far-no : (t : List ℕ) (w first : ℕ) → length (listAt t w (w - 4) first) ≤ few → false ≡ far t w first
 unfolding far
-far-no t w first h = sym (le-ltb 16 (length (listAt t w (w - 4) first)) h)
+far-no t w first h = sym (le-ltb few (length (listAt t w (w - 4) first)) h)
 
 pub near-apart : {t : List ℕ} {w first : ℕ} {r : Bool} → r ≡ far t w first → r ≡ false → Tells (far t w first ≡ true → AllApart t w first) true
 near-apart e f = record { yes = λ _ q. absurd (false≢true (sym f ∙ e ∙ q)); only = λ _. refl }

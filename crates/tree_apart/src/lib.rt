@@ -11,7 +11,7 @@ ghost use Rattle.tree_marks.specs.inner.Gather.{bucketAt};
 ghost use Rattle.tree_apart.specs.inner.Apart.{AllApart, far, Bounded, FarApart, Wiped, Sifted};
 
 // A bucket with more entries than this is long: its keys are sorted and neighbours compared. In any other bucket all pairs are compared.
-pub const NEAR: usize = 16;
+pub const NEAR: usize = 64;
 
 // Whether a bucket is long.
 fn is_far(table: &[u8], w: usize, first: u32) -> bool

@@ -20,47 +20,37 @@ Inv-loop work off count y₀ y = Checking (λ z. 0 < markAt work off z) y
 abbrev μ-loop : tie.MeasureT-loop
 μ-loop work off count y₀ y = count - y
 
--- src/lib.rt:72:5
 loop-holds : tie.Need-loop-holds Inv-loop μ-loop
 loop-holds c = check-begin _
 
--- src/lib.rt:73:23
 index-requires : tie.Need-index-requires Inv-loop μ-loop
 index-requires c κs = search needs
 
--- src/lib.rt:73:17
 add-if1 : tie.Need-add-if1 Inv-loop μ-loop
 add-if1 c = search needs
 
--- src/lib.rt:73:12
 mul-if1 : tie.Need-mul-if1 Inv-loop μ-loop
 mul-if1 c = search needs
 
--- src/lib.rt:73:12
 shared-slice-read-if1 : tie.Need-shared-slice-read-if1 Inv-loop μ-loop
 shared-slice-read-if1 c = search needs
 
--- src/lib.rt:74:13
 returns : tie.Need-returns Inv-loop μ-loop
 returns c =
     check-stop {P = λ z. 0 < markAt (c .before .before .before .before .before .before .args .work .now) (c .before .before .before .before .before .before .args .off) z} (c .before .before .before .before .loop .inv) (search needs)
     (mark-none (ap (markAt (c .before .before .before .before .before .before .args .work .now) (c .before .before .before .before .before .before .args .off)) (sym (c .before .before .index .ensures)) ∙ c .if1 .taken)) refl
 
--- src/lib.rt:76:9
 add-y : tie.Need-add-y Inv-loop μ-loop
 add-y c = search needs
 
--- src/lib.rt:72:5
 loop-less : tie.Need-loop-less Inv-loop μ-loop
 loop-less c = search needs
 
--- src/lib.rt:72:5
 loop-again : tie.Need-loop-again Inv-loop μ-loop
 loop-again c =
     check-on {P = λ z. 0 < markAt (c .before .before .before .before .before .before .args .work .now) (c .before .before .before .before .before .before .args .off) z} (c .before .before .before .before .loop .inv)
     (mark-some (λ e. c .if1 .left (ap (markAt (c .before .before .before .before .before .before .args .work .now) (c .before .before .before .before .before .before .args .off)) (c .before .before .index .ensures) ∙ e))) refl
 
--- src/lib.rt:67:1
 returns-2 : tie.Need-returns-2 Inv-loop μ-loop
 returns-2 c = check-done {P = λ z. 0 < markAt (c .before .before .before .args .work .now) (c .before .before .before .args .off) z} (c .before .loop .inv) (search needs)
 

@@ -13,23 +13,18 @@ use Rattle.tree_alone.proofs.front_fits.Reads as reads
 use Rattle.tree_alone.proofs.front_fits.Lts as lts
 use Rattle.tree_table.proofs.index.Reads as index-reads
 
--- src/lib.rt:83:8
 index-requires : tie.Need-index-requires
 index-requires c κs = search needs
 
--- src/lib.rt:84:9
 returns : tie.Need-returns
 returns c = front-no _ _ _ _ (λ p. let a = p .0 in omega arith)
 
--- src/lib.rt:87:9
 returns-2 : tie.Need-returns-2
 returns-2 c = front-no _ _ _ _ (λ p. let a = p .1 in omega arith)
 
--- src/lib.rt:90:9
 returns-3 : tie.Need-returns-3
 returns-3 c = front-no _ _ _ _ (λ p. let a = p .2 in omega arith)
 
--- src/lib.rt:80:1
 returns-4 : tie.Need-returns-4
 returns-4 c = front-last _ _ _ _ (search needs) (search needs) (search needs)
 

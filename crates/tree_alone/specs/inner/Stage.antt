@@ -13,7 +13,7 @@ use Rattle.tree_table.specs.Chain.{linkAt, listAt}
 use Rattle.tree_sound.specs.Sound.{Table}
 use Rattle.tree_marks.specs.inner.Marks.{gone, markAt, Within, Unmarked, Marked}
 use Rattle.tree_marks.specs.inner.Gather.{Gathered, any, bucketAt}
-use Rattle.tree_apart.specs.inner.Apart.{Bounded, NoneFar, FarApart}
+use Rattle.tree_apart.specs.inner.Apart.{few, Bounded, NoneFar, FarApart}
 use Rattle.tree_alone.specs.inner.Entries.{AllFit}
 
 -- the removed entries have the mark `gone`, all others none
@@ -73,7 +73,7 @@ pub record TableSorted (h t : List ℕ) (w off : ℕ) (work work′ : List ℕ) 
 -- the same where the answer is one more than the longest bucket's length, or 0
 pub record TableCounted (h t : List ℕ) (w off : ℕ) (work work′ : List ℕ) (n : ℕ) : Type 0 where
   pub sorted : TableSorted h t w off work work′ (ltb 0 n)
-  pub near : 0 < n → n ≤ 17 → NoneFar h t w
+  pub near : 0 < n → n ≤ few + 1 → NoneFar h t w
 
 -- the whole test of one table by itself; `least` is the smallest count. The marks of the removed entries are left
 pub record TableTested (h t : List ℕ) (w least off : ℕ) (work work′ : List ℕ) (r : Bool) : Type 0 where

@@ -14,23 +14,18 @@ use Rattle.tree_apart.proofs.bucket_apart.Lts as lts
 use Rattle.tree_apart.proofs.is_far.Reads as is-far-reads
 use Rattle.tree_apart.proofs.list_apart.Reads as list-apart-reads
 
--- src/lib.rt:43:9
 is-far-requires : tie.Need-is-far-requires
 is-far-requires c κs = search needs
 
--- src/lib.rt:44:9
 returns : tie.Need-returns
 returns c = near-apart (c .before .is-far .ensures) (not-true (c .before .is-far .result) (c .if1 .taken))
 
--- src/lib.rt:46:5
 list-apart-requires : tie.Need-list-apart-requires
 list-apart-requires c κs = search needs
 
--- src/lib.rt:39:1
 same-length : tie.Need-same-length
 same-length c = search needs
 
--- src/lib.rt:39:1
 returns-2 : tie.Need-returns-2
 returns-2 c = long-apart (c .before .before .before .before .before .is-far .ensures) (not-false (c .before .before .before .before .before .is-far .result) (c .before .before .before .before .if1 .left)) (c .before .before .list-apart .ensures)
 

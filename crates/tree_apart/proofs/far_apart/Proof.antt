@@ -36,7 +36,7 @@ same-length : tie.Need-same-length Inv-loop μ-loop
 same-length c = search needs
 
 returns : tie.Need-returns Inv-loop μ-loop
-returns c = far-right (see-stop (c .before .before .before .before .before .before .before .before .before .before .before .args .hash .now) (Right (c .before .before .before .before .before .before .before .before .before .before .before .args .hash .now) (c .before .before .before .before .before .before .before .before .before .before .before .args .table .now) (c .before .before .before .before .before .before .before .before .before .before .before .args .w)) (c .before .before .before .before .before .before .before .loop .inv .0) (c .before .before .before .before .before .before .loop-test .taken) (right-at (c .before .before .before .before .before .before .before .before .before .before .before .args .hash .now) (c .before .before .before .before .before .before .before .before .before .before .before .args .table .now) (c .before .before .before .before .before .before .before .before .before .before .before .args .w) (c .before .before .before .before .before .before .before .loop .i) (c .before .before .before .before .before .get-hash .ensures) (c .before .before .before .bucket-apart .ensures)) (not-true (c .before .before .before .bucket-apart .result) (c .if1 .taken)))
+returns c = far-right (see-stop (c .before .before .before .before .before .before .before .before .before .before .before .args .hash .now) (Right (c .before .before .before .before .before .before .before .before .before .before .before .args .hash .now) (c .before .before .before .before .before .before .before .before .before .before .before .args .table .now) (c .before .before .before .before .before .before .before .before .before .before .before .args .w)) (c .before .before .before .before .before .before .before .loop .inv .0) (omega arith) (right-at (c .before .before .before .before .before .before .before .before .before .before .before .args .hash .now) (c .before .before .before .before .before .before .before .before .before .before .before .args .table .now) (c .before .before .before .before .before .before .before .before .before .before .before .args .w) (c .before .before .before .before .before .before .before .loop .i) (c .before .before .before .before .before .get-hash .ensures) (c .before .before .before .bucket-apart .ensures)) (not-true (c .before .before .before .bucket-apart .result) (c .if1 .taken)))
 
 add-i : tie.Need-add-i Inv-loop μ-loop
 add-i c = search needs
@@ -45,13 +45,13 @@ loop-less : tie.Need-loop-less Inv-loop μ-loop
 loop-less c = search needs
 
 loop-again : tie.Need-loop-again Inv-loop μ-loop
-loop-again c = (see-on (c .before .before .before .before .before .before .before .before .before .before .before .args .hash .now) (Right (c .before .before .before .before .before .before .before .before .before .before .before .args .hash .now) (c .before .before .before .before .before .before .before .before .before .before .before .args .table .now) (c .before .before .before .before .before .before .before .before .before .before .before .args .w)) (c .before .before .before .before .before .before .before .loop .inv .0) (c .before .before .before .before .before .before .loop-test .taken) (right-at (c .before .before .before .before .before .before .before .before .before .before .before .args .hash .now) (c .before .before .before .before .before .before .before .before .before .before .before .args .table .now) (c .before .before .before .before .before .before .before .before .before .before .before .args .w) (c .before .before .before .before .before .before .before .loop .i) (c .before .before .before .before .before .get-hash .ensures) (c .before .before .before .bucket-apart .ensures)) (not-false (c .before .before .before .bucket-apart .result) (c .if1 .left)), search needs)
+loop-again c = (see-on (c .before .before .before .before .before .before .before .before .before .before .before .args .hash .now) (Right (c .before .before .before .before .before .before .before .before .before .before .before .args .hash .now) (c .before .before .before .before .before .before .before .before .before .before .before .args .table .now) (c .before .before .before .before .before .before .before .before .before .before .before .args .w)) (c .before .before .before .before .before .before .before .loop .inv .0) (omega arith) (right-at (c .before .before .before .before .before .before .before .before .before .before .before .args .hash .now) (c .before .before .before .before .before .before .before .before .before .before .before .args .table .now) (c .before .before .before .before .before .before .before .before .before .before .before .args .w) (c .before .before .before .before .before .before .before .loop .i) (c .before .before .before .before .before .get-hash .ensures) (c .before .before .before .bucket-apart .ensures)) (not-false (c .before .before .before .bucket-apart .result) (c .if1 .left)), search needs)
 
 same-length-2 : tie.Need-same-length-2 Inv-loop μ-loop
 same-length-2 c = c .before .loop .inv .1
 
 returns-2 : tie.Need-returns-2 Inv-loop μ-loop
-returns-2 c = far-right (see-end (c .before .before .before .before .before .args .hash .now) (Right (c .before .before .before .before .before .args .hash .now) (c .before .before .before .before .before .args .table .now) (c .before .before .before .before .before .args .w)) (c .before .loop .inv .0) (c .loop-test .left))
+returns-2 c = far-right (see-end (c .before .before .before .before .before .args .hash .now) (Right (c .before .before .before .before .before .args .hash .now) (c .before .before .before .before .before .args .table .now) (c .before .before .before .before .before .args .w)) (c .before .loop .inv .0) (omega arith))
 
 pub far-apart-spec : {M : Type 1} → statement M
 far-apart-spec =

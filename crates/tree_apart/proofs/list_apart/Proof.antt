@@ -17,43 +17,33 @@ use Rattle.tree_table.proofs.index.Reads as index-reads
 use Rattle.tree_table.proofs.write_list.Reads as write-list-reads
 use Rattle.tree_sort.proofs.distinct_keys.Reads as distinct-keys-reads
 
--- src/lib.rt:32:46
 sub-count-list : tie.Need-sub-count-list
 sub-count-list c = search needs
 
--- src/lib.rt:32:9
 count-list-requires : tie.Need-count-list-requires
 count-list-requires c κs = search needs
 
--- src/lib.rt:33:9
 index-requires : tie.Need-index-requires
 index-requires c κs = search needs
 
--- src/lib.rt:34:38
 sub-write-list : tie.Need-sub-write-list
 sub-write-list c = search needs
 
--- src/lib.rt:34:5
 write-list-requires : tie.Need-write-list-requires
 write-list-requires c κs = search needs
 
--- src/lib.rt:35:35
 slice-relend-prefix-distinct-keys : tie.Need-slice-relend-prefix-distinct-keys
 slice-relend-prefix-distinct-keys c = search needs
 
--- src/lib.rt:35:35
 slice-aggregate-distinct-keys : tie.Need-slice-aggregate-distinct-keys
 slice-aggregate-distinct-keys c = sym (length-take-le _ _ (held-fits (c .before .before .before .before .before .before .before .before .before .args .table .now) (c .before .before .before .before .before .before .before .before .before .args .w) (c .before .before .before .before .before .before .before .before .before .args .first) (drop (length (listAt (c .before .before .before .before .before .before .before .before .before .args .table .now) (c .before .before .before .before .before .before .before .before .before .args .w) (c .before .before .before .before .before .before .before .before .before .args .w - 4) (c .before .before .before .before .before .before .before .before .before .args .first))) (c .before .before .before .before .before .before .before .before .before .args .room .now)) (c .before .before .before .write-list .ensures) (c .before .before .before .before .before .index .ensures ∙ c .before .before .before .before .before .before .count-list .ensures) (c .before .before .before .before .before .before .before .before .before .pre .0)))
 
--- src/lib.rt:35:5
 distinct-keys-requires : tie.Need-distinct-keys-requires
 distinct-keys-requires c κs = held-inside (c .before .before .before .before .before .before .before .before .before .args .table .now) (c .before .before .before .before .before .before .before .before .before .args .w) (c .before .before .before .before .before .before .before .before .before .args .first) (drop (length (listAt (c .before .before .before .before .before .before .before .before .before .args .table .now) (c .before .before .before .before .before .before .before .before .before .args .w) (c .before .before .before .before .before .before .before .before .before .args .w - 4) (c .before .before .before .before .before .before .before .before .before .args .first))) (c .before .before .before .before .before .before .before .before .before .args .room .now)) (c .before .before .before .write-list .ensures) (c .before .before .before .before .before .index .ensures ∙ c .before .before .before .before .before .before .count-list .ensures) (c .before .before .before .before .before .before .before .before .before .pre .0) (c .before .before .before .before .before .before .before .before .before .pre .1)
 
--- src/lib.rt:28:1
 same-length : tie.Need-same-length
 same-length c = search needs
 
--- src/lib.rt:28:1
 returns : tie.Need-returns
 returns c = held-tells (c .before .before .before .before .before .before .before .before .before .before .before .before .args .table .now) (c .before .before .before .before .before .before .before .before .before .before .before .before .args .w) (c .before .before .before .before .before .before .before .before .before .before .before .before .args .first) (drop (length (listAt (c .before .before .before .before .before .before .before .before .before .before .before .before .args .table .now) (c .before .before .before .before .before .before .before .before .before .before .before .before .args .w) (c .before .before .before .before .before .before .before .before .before .before .before .before .args .w - 4) (c .before .before .before .before .before .before .before .before .before .before .before .before .args .first))) (c .before .before .before .before .before .before .before .before .before .before .before .before .args .room .now)) (c .before .before .before .before .before .before .write-list .ensures) (c .before .before .before .before .before .before .before .before .index .ensures ∙ c .before .before .before .before .before .before .before .before .before .count-list .ensures) (c .before .before .before .before .before .before .before .before .before .before .before .before .pre .0) (c .before .before .distinct-keys .ensures .0)
 

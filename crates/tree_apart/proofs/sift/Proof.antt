@@ -14,39 +14,30 @@ use Rattle.tree_apart.proofs.sift.Lts as lts
 use Rattle.tree_apart.proofs.far_apart.Reads as far-apart-reads
 use Rattle.tree_table.proofs.index.Reads as index-reads
 
--- src/lib.rt:88:21
 index-requires : tie.Need-index-requires
 index-requires c κs = search needs
 
--- src/lib.rt:88:15
 add-end : tie.Need-add-end
 add-end c = search needs
 
--- src/lib.rt:89:31
 mul-far-apart : tie.Need-mul-far-apart
 mul-far-apart c = search needs
 
--- src/lib.rt:89:31
 sub-far-apart : tie.Need-sub-far-apart
 sub-far-apart c = search needs
 
--- src/lib.rt:89:31
 part-far-apart-start : tie.Need-part-far-apart-start
 part-far-apart-start c = search needs
 
--- src/lib.rt:89:31
 part-far-apart-end : tie.Need-part-far-apart-end
 part-far-apart-end c = search needs
 
--- src/lib.rt:89:5
 far-apart-requires : tie.Need-far-apart-requires
 far-apart-requires c κs = (part-bounded (c .before .before .before .before .before .args .work .now) (c .before .before .before .before .before .args .off) (c .before .index .result) (c .before .index .ensures) (c .before .before .before .before .before .pre .2) (c .before .before .before .before .before .pre .0), c .before .before .before .before .before .pre .1)
 
--- src/lib.rt:84:1
 same-length : tie.Need-same-length
 same-length c = search needs
 
--- src/lib.rt:84:1
 returns : tie.Need-returns
 returns c = (c .before .before .far-apart .ensures, part-within (c .before .before .before .before .before .before .before .before .args .work .now) (c .before .before .far-apart .last .1 .1 .1 .0) (c .before .before .before .before .before .before .before .before .args .off) (c .before .before .before .before .before .before .before .before .args .count) (c .before .before .before .before .before .before .before .before .args .off + c .before .before .before .before .index .result - c .before .before .before .before .before .before .before .before .args .off) (c .before .before .before .before .before .before .before .before .pre .2) (omega (arith, c .before .before .before .before .index .ensures)) (omega (arith, part-room (c .before .before .before .before .before .before .before .before .args .work .now) (c .before .before .before .before .before .before .before .before .args .off) (c .before .before .before .before .index .result) (c .before .before .before .before .before .before .before .before .args .count) (c .before .before .before .before .index .ensures) (c .before .before .before .before .before .before .before .before .pre .2), c .before .before .before .before .index .ensures)))
 

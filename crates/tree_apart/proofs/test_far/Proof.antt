@@ -16,43 +16,33 @@ use Rattle.tree_apart.proofs.wipe.Reads as wipe-reads
 use Rattle.tree_marks.proofs.mark_list.Reads as mark-list-reads
 use Rattle.tree_table.proofs.link_of.Reads as link-of-reads
 
--- src/lib.rt:107:9
 sift-requires : tie.Need-sift-requires
 sift-requires c κs = search needs
 
--- src/lib.rt:108:9
 same-length : tie.Need-same-length
 same-length c = search needs
 
--- src/lib.rt:108:9
 returns : tie.Need-returns
 returns c = sift-stop (c .before .before .before .sift .ensures) (not-true (c .before .before .before .sift .result) (c .if1 .taken))
 
--- src/lib.rt:110:5
 wipe-requires : tie.Need-wipe-requires
 wipe-requires c κs = search needs
 
--- src/lib.rt:111:47
 sub-link-of : tie.Need-sub-link-of
 sub-link-of c = search needs
 
--- src/lib.rt:111:9
 link-of-requires : tie.Need-link-of-requires
 link-of-requires c κs = search needs
 
--- src/lib.rt:112:37
 sub-mark-list : tie.Need-sub-mark-list
 sub-mark-list c = search needs
 
--- src/lib.rt:112:5
 mark-list-requires : tie.Need-mark-list-requires
 mark-list-requires c κs = search needs
 
--- src/lib.rt:102:1
 same-length-2 : tie.Need-same-length-2
 same-length-2 c = search needs
 
--- src/lib.rt:102:1
 returns-2 : tie.Need-returns-2
 returns-2 c = sift-end (c .before .before .before .before .before .before .before .before .before .before .before .before .sift .ensures) (not-false (c .before .before .before .before .before .before .before .before .before .before .before .before .sift .result) (c .before .before .before .before .before .before .before .before .before .if1 .left)) (c .before .before .before .before .before .before .before .before .before .before .before .before .before .before .before .before .before .pre .5) (c .before .before .before .before .before .before .before .wipe .ensures) (c .before .before .before .before .link-of .ensures) (c .before .before .mark-list .ensures)
 

@@ -14,39 +14,30 @@ use Rattle.tree_apart.proofs.wipe.Lts as lts
 use Rattle.tree_table.proofs.index.Reads as index-reads
 use Rattle.order.proofs.clear.Reads as clear-reads
 
--- src/lib.rt:97:21
 index-requires : tie.Need-index-requires
 index-requires c κs = search needs
 
--- src/lib.rt:97:15
 add-end : tie.Need-add-end
 add-end c = search needs
 
--- src/lib.rt:98:18
 mul-clear : tie.Need-mul-clear
 mul-clear c = search needs
 
--- src/lib.rt:98:18
 sub-clear : tie.Need-sub-clear
 sub-clear c = search needs
 
--- src/lib.rt:98:18
 part-clear-start : tie.Need-part-clear-start
 part-clear-start c = search needs
 
--- src/lib.rt:98:18
 part-clear-end : tie.Need-part-clear-end
 part-clear-end c = search needs
 
--- src/lib.rt:98:5
 clear-requires : tie.Need-clear-requires
 clear-requires c κs = search needs
 
--- src/lib.rt:93:1
 same-length : tie.Need-same-length
 same-length c = search needs
 
--- src/lib.rt:93:1
 returns : tie.Need-returns
 returns c = part-wiped (c .before .before .before .before .before .before .args .work .now) _ (c .before .before .before .before .before .before .args .off) (c .before .before .before .before .before .before .args .count) (c .before .before .before .before .before .before .args .off + c .before .before .before .before .index .result - c .before .before .before .before .before .before .args .off) (c .before .before .before .before .before .before .pre) (omega (arith, c .before .before .before .before .index .ensures)) (omega (arith, part-room (c .before .before .before .before .before .before .args .work .now) (c .before .before .before .before .before .before .args .off) (c .before .before .before .before .index .result) (c .before .before .before .before .before .before .args .count) (c .before .before .before .before .index .ensures) (c .before .before .before .before .before .before .pre), c .before .before .before .before .index .ensures)) (length (take (c .before .before .before .before .before .before .args .off + c .before .before .before .before .index .result - c .before .before .before .before .before .before .args .off) (drop (c .before .before .before .before .before .before .args .off) (c .before .before .before .before .before .before .args .work .now)))) (omega (arith, part-room (c .before .before .before .before .before .before .args .work .now) (c .before .before .before .before .before .before .args .off) (c .before .before .before .before .index .result) (c .before .before .before .before .before .before .args .count) (c .before .before .before .before .index .ensures) (c .before .before .before .before .before .before .pre), c .before .before .before .before .index .ensures)) (c .before .before .clear .ensures)
 

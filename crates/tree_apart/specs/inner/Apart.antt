@@ -20,11 +20,15 @@ Apart t w y = (z : ℕ) → z ∈ listAt t w (start w collisionField) (linkAt t 
 pub record AllApart (t : List ℕ) (w first : ℕ) : Type 0 where
   pub each : (y : ℕ) → y ∈ listAt t w (start w collisionField) first → Apart t w y
 
+-- the keys of a bucket of at most this many entries are compared pair by pair
+abbrev pub few : ℕ
+few = 64
+
 -- whether a bucket is long: its keys are then compared by sorting
 unfoldable pub far : List ℕ → ℕ → ℕ → Bool
-far t w first = ltb 16 (length (listAt t w (start w collisionField) first))
+far t w first = ltb few (length (listAt t w (start w collisionField) first))
 
--- the buckets end, and each has fewer entries than `room`
+-- the buckets end, and each has at most `room` entries
 pub record Bounded (h t : List ℕ) (w room : ℕ) : Type 0 where
   pub ends : (j : ℕ) → 0 < j → j < length h / 4 + 1 → Ends t w (start w collisionField) (bucketAt h j)
   pub short : (j : ℕ) → 0 < j → j < length h / 4 + 1 → length (listAt t w (start w collisionField) (bucketAt h j)) ≤ room
