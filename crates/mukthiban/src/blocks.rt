@@ -8,8 +8,9 @@ ghost use Rattle.fat_node.specs.declared.Formatted.{Formatted};
 ghost use Rattle.fat_test.specs.Promise.{TestPromise, tested};
 ghost use Rattle.fat_promises.specs.Calls.{CreatePromise, createGives, ResizePromise, DeletePromise, changeGives, ListPromise, listGives, ReadPromise, WritePromise, carryGives};
 ghost use Rattle.mukthiban.specs.Export.{Exported};
+use crate::Answered;
 use crate::Created;
-use crate::Listed;
+use crate::Opened;
 use crate::Plain;
 use crate::Tested;
 
@@ -63,12 +64,12 @@ pub extern "C" fn mukthiban_fat_resize(
     work: &mut [u32],
     first_block: usize,
     block_count: usize,
-) -> Plain
+) -> Answered
     ensures { λ p. ⌜ Exported (p .answer) (λ a. ResizePromise (now (table .entry)) (length (now («data» .entry))) «block_len» (now (work .entry)) «first_block» «block_count» (beside (changeGives a (now (table .exit))) (now (work .exit)))) ⌝ }
 {
     let r = fat::resize(table, data, block_len, work, first_block, block_count);
     let answer = r.answer;
-    Plain {
+    Answered {
         answer: order::number(answer),
     }
 }
@@ -80,12 +81,12 @@ pub extern "C" fn mukthiban_fat_delete(
     block_len: usize,
     work: &mut [u32],
     first_block: usize,
-) -> Plain
+) -> Answered
     ensures { λ p. ⌜ Exported (p .answer) (λ a. DeletePromise (now (table .entry)) (length (now («data» .entry))) «block_len» (now (work .entry)) «first_block» (beside (changeGives a (now (table .exit))) (now (work .exit)))) ⌝ }
 {
     let r = fat::delete(table, data, block_len, work, first_block);
     let answer = r.answer;
-    Plain {
+    Answered {
         answer: order::number(answer),
     }
 }
@@ -98,12 +99,12 @@ pub extern "C" fn mukthiban_fat_open_list(
     work: &mut [u32],
     first_block: usize,
     list: &mut [u32],
-) -> Listed
+) -> Opened
     ensures { λ p. ⌜ Exported (p .answer) (λ a. ListPromise (now (table .entry)) (length (now («data» .entry))) «block_len» (now (work .entry)) «first_block» (now (list .entry)) (beside (listGives a (p .count) (now (list .exit))) (now (work .exit)))) ⌝ }
 {
     let r = fat::open_list(table, data, block_len, work, first_block, list);
     let answer = r.answer;
-    Listed {
+    Opened {
         answer: order::number(answer),
         count: r.count,
     }
@@ -118,12 +119,12 @@ pub extern "C" fn mukthiban_fat_read(
     first_block: usize,
     pos: usize,
     buf: &mut [u8],
-) -> Plain
+) -> Answered
     ensures { λ p. ⌜ Exported (p .answer) (λ a. ReadPromise (now (table .entry)) (now («data» .entry)) «block_len» (now (work .entry)) «first_block» pos (now (buf .entry)) (beside (carryGives a (now (buf .exit))) (now (work .exit)))) ⌝ }
 {
     let r = fat::read(table, data, block_len, work, first_block, pos, buf);
     let answer = r.answer;
-    Plain {
+    Answered {
         answer: order::number(answer),
     }
 }
@@ -137,12 +138,12 @@ pub extern "C" fn mukthiban_fat_write(
     first_block: usize,
     pos: usize,
     buf: &[u8],
-) -> Plain
+) -> Answered
     ensures { λ p. ⌜ Exported (p .answer) (λ a. WritePromise (now (table .entry)) (now («data» .entry)) «block_len» (now (work .entry)) «first_block» pos (now (buf .entry)) (beside (carryGives a (now («data» .exit))) (now (work .exit)))) ⌝ }
 {
     let r = fat::write(table, data, block_len, work, first_block, pos, buf);
     let answer = r.answer;
-    Plain {
+    Answered {
         answer: order::number(answer),
     }
 }

@@ -11,9 +11,15 @@ mod tested_look;
 mod tested_opens;
 mod trees;
 
-// The answer of a call that gives nothing else.
+// The answer of both formats, and of a tree call that gives nothing else.
 #[repr(C)]
 pub struct Plain {
+    pub answer: u32,
+}
+
+// The answer of a block call that gives nothing else.
+#[repr(C)]
+pub struct Answered {
     pub answer: u32,
 }
 
@@ -39,7 +45,14 @@ pub struct Made {
     pub inode: u32,
 }
 
-// How many places of the lent list hold the answer.
+// How many places of the lent list hold the file's blocks.
+#[repr(C)]
+pub struct Opened {
+    pub answer: u32,
+    pub count: usize,
+}
+
+// How many places of the lent list hold the directory's children.
 #[repr(C)]
 pub struct Listed {
     pub answer: u32,

@@ -4,9 +4,9 @@ ghost use Rattle.order.specs.First.{First};
 ghost use Rattle.fat_inner.specs.Volume.{Volume, Data};
 ghost use Rattle.fat_promises.specs.Calls.{createRows, createDone, createGives, resizeRows, resizeDone, deleteRows, deleteDone, changeGives, listRows, listDone, listGives, carryRows, readDone, writeDone, carryGives};
 ghost use Rattle.mukthiban.specs.Export.{Exported};
+use crate::Answered;
 use crate::Created;
-use crate::Listed;
-use crate::Plain;
+use crate::Opened;
 
 #[no_mangle]
 pub extern "C" fn mukthiban_tested_fat_create(
@@ -31,13 +31,13 @@ pub extern "C" fn mukthiban_tested_fat_resize(
     n: usize,
     first_block: usize,
     block_count: usize,
-) -> Plain
+) -> Answered
     requires { ⌜ Volume n (now table) ⌝ }
     ensures { λ p. ⌜ Exported (p .answer) (λ a. First (resizeRows n (now (table .entry)) «first_block» «block_count») (resizeDone n (now (table .entry)) «first_block» «block_count») (changeGives a (now (table .exit)))) ⌝ }
 {
     let r = fat_inner::step::resize_sound(table, n, first_block, block_count);
     let answer = r.answer;
-    Plain {
+    Answered {
         answer: order::number(answer),
     }
 }
@@ -47,13 +47,13 @@ pub extern "C" fn mukthiban_tested_fat_delete(
     table: &mut [u8],
     n: usize,
     first_block: usize,
-) -> Plain
+) -> Answered
     requires { ⌜ Volume n (now table) ⌝ }
     ensures { λ p. ⌜ Exported (p .answer) (λ a. First (deleteRows n (now (table .entry)) «first_block») (deleteDone n (now (table .entry)) «first_block») (changeGives a (now (table .exit)))) ⌝ }
 {
     let r = fat_inner::step::delete_sound(table, n, first_block);
     let answer = r.answer;
-    Plain {
+    Answered {
         answer: order::number(answer),
     }
 }
@@ -64,13 +64,13 @@ pub extern "C" fn mukthiban_tested_fat_open_list(
     n: usize,
     first_block: usize,
     list: &mut [u32],
-) -> Listed
+) -> Opened
     requires { ⌜ Volume n (now table) ⌝ }
     ensures { λ p. ⌜ Exported (p .answer) (λ a. First (listRows n (now (table .entry)) «first_block» (now (list .entry))) (listDone n (now (table .entry)) «first_block» (now (list .entry))) (listGives a (p .count) (now (list .exit)))) ⌝ }
 {
     let r = fat_inner::list::open_list_sound(table, n, first_block, list);
     let answer = r.answer;
-    Listed {
+    Opened {
         answer: order::number(answer),
         count: r.count,
     }
@@ -85,14 +85,14 @@ pub extern "C" fn mukthiban_tested_fat_read(
     first_block: usize,
     pos: usize,
     buf: &mut [u8],
-) -> Plain
+) -> Answered
     requires { ⌜ Volume n (now table) ⌝ }
     requires { ⌜ Data n (length (now «data»)) «block_len» ⌝ }
     ensures { λ p. ⌜ Exported (p .answer) (λ a. First (carryRows n (now (table .entry)) «block_len» «first_block» pos (length (now (buf .entry))) (now (buf .entry))) (readDone n (now (table .entry)) (now («data» .entry)) «block_len» «first_block» pos (now (buf .entry))) (carryGives a (now (buf .exit)))) ⌝ }
 {
     let r = fat_inner::copy::read_sound(table, data, block_len, n, first_block, pos, buf);
     let answer = r.answer;
-    Plain {
+    Answered {
         answer: order::number(answer),
     }
 }
@@ -106,14 +106,14 @@ pub extern "C" fn mukthiban_tested_fat_write(
     first_block: usize,
     pos: usize,
     buf: &[u8],
-) -> Plain
+) -> Answered
     requires { ⌜ Volume n (now table) ⌝ }
     requires { ⌜ Data n (length (now «data»)) «block_len» ⌝ }
     ensures { λ p. ⌜ Exported (p .answer) (λ a. First (carryRows n (now (table .entry)) «block_len» «first_block» pos (length (now (buf .entry))) (now («data» .entry))) (writeDone n (now (table .entry)) (now («data» .entry)) «block_len» «first_block» pos (now (buf .entry))) (carryGives a (now («data» .exit)))) ⌝ }
 {
     let r = fat_inner::copy::write_sound(table, data, block_len, n, first_block, pos, buf);
     let answer = r.answer;
-    Plain {
+    Answered {
         answer: order::number(answer),
     }
 }
