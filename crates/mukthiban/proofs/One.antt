@@ -1,0 +1,303 @@
+-- One answer for every export: what it promises and its input leave one number, one of each field, and one of every lent buffer.
+use mathlib.Core.Path.{_≡_, refl, sym, ap, _∙_}
+use mathlib.Core.List.{List, [], _∷_}
+use mathlib.Core.Logic.{_⊎_}
+use Prim.Native.Nat.{ℕ, _<_}
+use lib.ListN.{getD, length}
+use Rattle.order.specs.First.{First}
+use Rattle.order.specs.Beside.{Beside, beside}
+use Rattle.order.specs.Answer.{numberOf}
+use Rattle.order.specs.declared.Answer.{Answer}
+use Rattle.order.specs.declared.Answer.the-variants.{
+  Done,
+  SizeMismatch,
+  InvalidValue,
+  WorkTooShort,
+  BrokenFat,
+  NotAFile,
+  NoSpace,
+  OutOfBound,
+  ListTooShort,
+  BrokenTree,
+  NotFound,
+  AlreadyExist,
+  Busy,
+  DeletingRoot,
+  NotEmpty,
+  IntoItself,
+  NotOpen,
+  TooManyOpens,
+}
+use Rattle.order.proofs.One.{one}
+use Rattle.fat_node.specs.Entry.{Bytes}
+use Rattle.fat_node.specs.Format as format
+use Rattle.fat_node.specs.declared.Formatted.{Formatted}
+use Rattle.fat_test.specs.Promise as test
+use Rattle.fat_test.proofs.Unique.{one-answer}
+use Rattle.fat_promises.specs.Calls as fat
+use Rattle.fat_promises.proofs.Unique as fat-one
+use Rattle.tree_table.specs.View.{View}
+use Rattle.tree_sound.specs.Sizes.{Outside, rooms}
+use Rattle.tree_test.specs.Gate.{treeGate, entryGate}
+use Rattle.tree_test.specs.Promise as tree-test
+use Rattle.tree_test.proofs.Unique.{one-test}
+use Rattle.tree_promises.specs.Tables.{Tables}
+use Rattle.tree_promises.specs.Calls as tree
+use Rattle.tree_promises.specs.Format.{FormatPromise}
+use Rattle.tree_promises.specs.Promise.{worked}
+use Rattle.tree_promises.specs.Public as promised
+use Rattle.tree_promises.proofs.Unique as tree-one
+use Rattle.tree_promises.proofs.Unique.{One}
+use Rattle.mukthiban.specs.Export.{Exported}
+use Rattle.mukthiban.specs.Name.{namedGives, nameRows, nameDone, NamePromise}
+
+-- the answers by their numbers
+abbrev answers : List Answer
+answers =
+    Done
+    ∷ SizeMismatch
+    ∷ InvalidValue
+    ∷ WorkTooShort
+    ∷ BrokenFat
+    ∷ NotAFile
+    ∷ NoSpace
+    ∷ OutOfBound
+    ∷ ListTooShort
+    ∷ BrokenTree
+    ∷ NotFound
+    ∷ AlreadyExist
+    ∷ Busy
+    ∷ DeletingRoot
+    ∷ NotEmpty
+    ∷ IntoItself
+    ∷ NotOpen
+    ∷ TooManyOpens
+    ∷ []
+
+answer-of : (a : Answer) → getD answers (numberOf a) Done ≡ a
+answer-of Done = refl
+answer-of SizeMismatch = refl
+answer-of InvalidValue = refl
+answer-of WorkTooShort = refl
+answer-of BrokenFat = refl
+answer-of NotAFile = refl
+answer-of NoSpace = refl
+answer-of OutOfBound = refl
+answer-of ListTooShort = refl
+answer-of BrokenTree = refl
+answer-of NotFound = refl
+answer-of AlreadyExist = refl
+answer-of Busy = refl
+answer-of DeletingRoot = refl
+answer-of NotEmpty = refl
+answer-of IntoItself = refl
+answer-of NotOpen = refl
+answer-of TooManyOpens = refl
+
+-- a number tells which answer it stands for
+pub told-apart : (a b : Answer) → numberOf a ≡ numberOf b → a ≡ b
+told-apart a b e = sym (answer-of a) ∙ ap (λ (n : ℕ). getD answers n Done) e ∙ answer-of b
+
+-- whatever the promise P: out a x is what a call gives with the answer a, and x is everything else of it, the other fields and the lent buffers
+abbrev pub OneExport : {A X : Type 0} → (Answer → X → A) → (A → Type 0) → Type 0
+OneExport {A} {X} out P =
+    (n n′ : ℕ) (x x′ : X) → Exported n (λ a. P (out a x)) → Exported n′ (λ a. P (out a x′)) → (n ≡ n′) × (x ≡ x′)
+
+module _ {A X : Type 0} (out : Answer → X → A) (answer : A → Answer) (rest : A → X) (P : A → Type 0) (same : (a : Answer) (x : X) → answer (out a x) ≡ a)
+    (left : (a : Answer) (x : X) → rest (out a x) ≡ x) where
+  pub one-export : One P → OneExport out P
+  one-export u n n′ x x′ (a, e, p) (b, f, q) =
+      let z : out a x ≡ out b x′ = u (out a x) (out b x′) p q in (
+        e ∙ ap numberOf (sym (same a x) ∙ ap answer z ∙ same b x′) ∙ sym f,
+        sym (left a x) ∙ ap rest z ∙ left b x′,
+      )
+
+-- a call with a work list: x is what it gives besides the answer, and the work list
+module _ {G X : Type 0} (out : Answer → X → G) (answer : G → Answer) (rest : G → X) (P : Beside G → Type 0) (same : (a : Answer) (x : X) → answer (out a x) ≡ a)
+    (left : (a : Answer) (x : X) → rest (out a x) ≡ x) where
+  pub one-beside : One P → OneExport {X = X × List ℕ} (λ a x. beside (out a (x .0)) (x .1)) P
+  one-beside u n n′ x x′ p q =
+      one-export
+      (λ (a : Answer) (x : X × List ℕ). beside (out a (x .0)) (x .1))
+      (λ o. answer (o .given))
+      (λ o. (rest (o .given), o .work))
+      P
+      (λ a x. same a (x .0))
+      (λ a x. ap (λ (y : X). (y, x .1)) (left a (x .0)))
+      u n n′ x x′ p q
+
+-- ---- the block table
+
+pub export-format : (t : Bytes) (n n′ : ℕ) (table table′ : Bytes)
+    → ((r : Formatted) × (n ≡ numberOf (r .answer)) × format.FormatPromise t r table)
+    → ((r : Formatted) × (n′ ≡ numberOf (r .answer)) × format.FormatPromise t r table′)
+    → (n ≡ n′) × (table ≡ table′)
+export-format t n n′ table table′ (r, e, p) (r′, e′, p′) =
+    let z : _≡_ {A = Formatted × Bytes} (r, table) (r′, table′) = one (format.formatRows t) (format.formatDone t) (r, table) (r′, table′) p p′ in
+    (e ∙ ap (λ (o : Formatted × Bytes). numberOf (o .0 .answer)) z ∙ sym e′, ap (λ (o : Formatted × Bytes). o .1) z)
+
+pub export-test : (t : Bytes) (work : List ℕ)
+    → OneExport {X = (ℕ × ℕ) × List ℕ} (λ a x. (test.tested a (x .0 .0) (x .0 .1), x .1)) (test.TestPromise t work)
+export-test t work =
+    one-export
+    (λ (a : Answer) (x : (ℕ × ℕ) × List ℕ). (test.tested a (x .0 .0) (x .0 .1), x .1))
+    (λ o. o .0 .answer)
+    (λ o. ((o .0 .free, o .0 .files), o .1))
+    (test.TestPromise t work)
+    (λ a x. refl)
+    (λ a x. refl)
+    (one-answer t work)
+
+pub export-create : (t : Bytes) (d l : ℕ) (work : List ℕ) (count : ℕ)
+    → OneExport {X = (ℕ × Bytes) × List ℕ} (λ a x. beside (fat.createGives a (x .0 .0) (x .0 .1)) (x .1)) (fat.CreatePromise t d l work count)
+export-create t d l work count =
+    one-beside (λ (a : Answer) (x : ℕ × Bytes). fat.createGives a (x .0) (x .1)) (λ g. g .answer) (λ g. (g .first, g .table)) (fat.CreatePromise t d l work count) (λ a x. refl) (λ a x. refl) (fat-one.one-create t d l work count)
+
+pub export-resize : (t : Bytes) (d l : ℕ) (work : List ℕ) (b count : ℕ)
+    → OneExport {X = Bytes × List ℕ} (λ a x. beside (fat.changeGives a (x .0)) (x .1)) (fat.ResizePromise t d l work b count)
+export-resize t d l work b count =
+    one-beside (λ (a : Answer) (x : Bytes). fat.changeGives a x) (λ g. g .answer) (λ g. g .table) (fat.ResizePromise t d l work b count) (λ a x. refl) (λ a x. refl) (fat-one.one-resize t d l work b count)
+
+pub export-delete : (t : Bytes) (d l : ℕ) (work : List ℕ) (b : ℕ)
+    → OneExport {X = Bytes × List ℕ} (λ a x. beside (fat.changeGives a (x .0)) (x .1)) (fat.DeletePromise t d l work b)
+export-delete t d l work b =
+    one-beside (λ (a : Answer) (x : Bytes). fat.changeGives a x) (λ g. g .answer) (λ g. g .table) (fat.DeletePromise t d l work b) (λ a x. refl) (λ a x. refl) (fat-one.one-delete t d l work b)
+
+pub export-open-list : (t : Bytes) (d l : ℕ) (work : List ℕ) (b : ℕ) (list : List ℕ)
+    → OneExport {X = (ℕ × List ℕ) × List ℕ} (λ a x. beside (fat.listGives a (x .0 .0) (x .0 .1)) (x .1)) (fat.ListPromise t d l work b list)
+export-open-list t d l work b list =
+    one-beside (λ (a : Answer) (x : ℕ × List ℕ). fat.listGives a (x .0) (x .1)) (λ g. g .answer) (λ g. (g .count, g .list)) (fat.ListPromise t d l work b list) (λ a x. refl) (λ a x. refl) (fat-one.one-list t d l work b list)
+
+pub export-read : (t d : Bytes) (l : ℕ) (work : List ℕ) (b pos : ℕ) (buf : Bytes)
+    → OneExport {X = Bytes × List ℕ} (λ a x. beside (fat.carryGives a (x .0)) (x .1)) (fat.ReadPromise t d l work b pos buf)
+export-read t d l work b pos buf =
+    one-beside (λ (a : Answer) (x : Bytes). fat.carryGives a x) (λ g. g .answer) (λ g. g .bytes) (fat.ReadPromise t d l work b pos buf) (λ a x. refl) (λ a x. refl) (fat-one.one-read t d l work b pos buf)
+
+pub export-write : (t d : Bytes) (l : ℕ) (work : List ℕ) (b pos : ℕ) (buf : Bytes)
+    → OneExport {X = Bytes × List ℕ} (λ a x. beside (fat.carryGives a (x .0)) (x .1)) (fat.WritePromise t d l work b pos buf)
+export-write t d l work b pos buf =
+    one-beside (λ (a : Answer) (x : Bytes). fat.carryGives a x) (λ g. g .answer) (λ g. g .bytes) (fat.WritePromise t d l work b pos buf) (λ a x. refl) (λ a x. refl) (fat-one.one-write t d l work b pos buf)
+
+-- ---- the entry tables; lookup and listing of a view, the directories or the files
+
+pub export-tree-format : (s : Tables) (dm fm : ℕ)
+    → OneExport {X = Tables} (λ a x. tree.carryGives a x) (FormatPromise s dm fm)
+export-tree-format s dm fm =
+    one-export (λ (a : Answer) (x : Tables). tree.carryGives a x) (λ g. g .answer) (λ g. g .tables) (FormatPromise s dm fm) (λ a x. refl) (λ a x. refl) (tree-one.one-format s dm fm)
+
+pub export-tree-test : (dh d fh f work : List ℕ)
+    → OneExport {X = List ℕ} (λ a x. tree-test.tested a x) (First (treeGate tree-test.tested dh d fh f work) (tree-test.testDone d f work))
+export-tree-test dh d fh f work =
+    one-export
+    (λ (a : Answer) (x : List ℕ). tree-test.tested a x)
+    (λ o. o .0 .answer)
+    (λ o. o .1)
+    (First (treeGate tree-test.tested dh d fh f work) (tree-test.testDone d f work))
+    (λ a x. refl)
+    (λ a x. refl)
+    (one-test dh d fh f work)
+
+pub export-lookup : (s : Tables) (work : List ℕ) (v : View) (p : ℕ) (name : List ℕ)
+    → OneExport {X = (ℕ × ℕ) × List ℕ} (λ a x. beside (tree.lookupGives a (x .0 .0) (x .0 .1)) (x .1)) (promised.LookupPromise s v work p name)
+export-lookup s work v p name =
+    one-beside (λ (a : Answer) (x : ℕ × ℕ). tree.lookupGives a (x .0) (x .1)) (λ g. g .answer) (λ g. (g .inode, g .compared)) (promised.LookupPromise s v work p name) (λ a x. refl) (λ a x. refl) (tree-one.one-lookup s work v p name)
+
+pub export-list : (s : Tables) (work : List ℕ) (v : View) (x : ℕ) (list : List ℕ)
+    → OneExport {X = (ℕ × List ℕ) × List ℕ} (λ a x. beside (tree.listGives a (x .0 .0) (x .0 .1)) (x .1)) (promised.ListPromise s v work x list)
+export-list s work v x list =
+    one-beside (λ (a : Answer) (x : ℕ × List ℕ). tree.listGives a (x .0) (x .1)) (λ g. g .answer) (λ g. (g .count, g .list)) (promised.ListPromise s v work x list) (λ a x. refl) (λ a x. refl) (tree-one.one-list s work v x list)
+
+pub export-stat : (s : Tables) (work : List ℕ)
+    → OneExport {X = ((ℕ × ℕ) × (ℕ × ℕ)) × List ℕ} (λ a x. beside (tree.statGives a (x .0 .0 .0) (x .0 .0 .1) (x .0 .1 .0) (x .0 .1 .1)) (x .1)) (promised.StatPromise s work)
+export-stat s work =
+    one-beside (λ (a : Answer) (x : (ℕ × ℕ) × (ℕ × ℕ)). tree.statGives a (x .0 .0) (x .0 .1) (x .1 .0) (x .1 .1)) (λ g. g .answer) (λ g. ((g .dirTotal, g .dirFree), (g .fileTotal, g .fileFree))) (promised.StatPromise s work) (λ a x. refl) (λ a x. refl) (tree-one.one-stat s work)
+
+pub export-carried-dir : (s : Tables) (work : List ℕ) (x : ℕ)
+    → OneExport {X = List ℕ × List ℕ} (λ a x. beside (tree.shownGives a (x .0)) (x .1)) (promised.CarriedDirPromise s work x)
+export-carried-dir s work x =
+    one-beside (λ (a : Answer) (x : List ℕ). tree.shownGives a x) (λ g. g .answer) (λ g. g .bytes) (promised.CarriedDirPromise s work x) (λ a x. refl) (λ a x. refl) (tree-one.one-carried-dir s work x)
+
+pub export-set-carried-dir : (s : Tables) (work : List ℕ) (x : ℕ) (carried : List ℕ)
+    → OneExport {X = Tables × List ℕ} (λ a x. beside (tree.carryGives a (x .0)) (x .1)) (promised.SetCarriedDirPromise s work x carried)
+export-set-carried-dir s work x carried =
+    one-beside (λ (a : Answer) (x : Tables). tree.carryGives a x) (λ g. g .answer) (λ g. g .tables) (promised.SetCarriedDirPromise s work x carried) (λ a x. refl) (λ a x. refl) (tree-one.one-set-carried-dir s work x carried)
+
+pub export-make-dir : (s : Tables) (opens work : List ℕ) (p : ℕ) (name carried : List ℕ)
+    → OneExport {X = (ℕ × (Tables × List ℕ)) × List ℕ} (λ a x. beside (tree.makeGives a (x .0 .0) (x .0 .1 .0) (x .0 .1 .1)) (x .1)) (promised.MakeDirPromise s opens work p name carried)
+export-make-dir s opens work p name carried =
+    one-beside (λ (a : Answer) (x : ℕ × (Tables × List ℕ)). tree.makeGives a (x .0) (x .1 .0) (x .1 .1)) (λ g. g .answer) (λ g. (g .inode, (g .tables, g .opens))) (promised.MakeDirPromise s opens work p name carried) (λ a x. refl) (λ a x. refl) (tree-one.one-make-dir s opens work p name carried)
+
+pub export-rename-dir : (s : Tables) (opens work : List ℕ) (x p : ℕ) (name : List ℕ)
+    → OneExport {X = (Tables × List ℕ) × List ℕ} (λ a x. beside (tree.changeGives a (x .0 .0) (x .0 .1)) (x .1)) (promised.RenameDirPromise s opens work x p name)
+export-rename-dir s opens work x p name =
+    one-beside (λ (a : Answer) (x : Tables × List ℕ). tree.changeGives a (x .0) (x .1)) (λ g. g .answer) (λ g. (g .tables, g .opens)) (promised.RenameDirPromise s opens work x p name) (λ a x. refl) (λ a x. refl) (tree-one.one-rename-dir s opens work x p name)
+
+pub export-delete-dir : (s : Tables) (opens work : List ℕ) (x : ℕ)
+    → OneExport {X = (Tables × List ℕ) × List ℕ} (λ a x. beside (tree.changeGives a (x .0 .0) (x .0 .1)) (x .1)) (promised.DeleteDirPromise s opens work x)
+export-delete-dir s opens work x =
+    one-beside (λ (a : Answer) (x : Tables × List ℕ). tree.changeGives a (x .0) (x .1)) (λ g. g .answer) (λ g. (g .tables, g .opens)) (promised.DeleteDirPromise s opens work x) (λ a x. refl) (λ a x. refl) (tree-one.one-delete-dir s opens work x)
+
+pub export-open-dir : (s : Tables) (opens work : List ℕ) (x : ℕ)
+    → OneExport {X = List ℕ × List ℕ} (λ a x. beside (tree.openingGives a (x .0)) (x .1)) (promised.OpenDirPromise s opens work x)
+export-open-dir s opens work x =
+    one-beside (λ (a : Answer) (x : List ℕ). tree.openingGives a x) (λ g. g .answer) (λ g. g .opens) (promised.OpenDirPromise s opens work x) (λ a x. refl) (λ a x. refl) (tree-one.one-open-dir s opens work x)
+
+pub export-close-dir : (s : Tables) (opens work : List ℕ) (x : ℕ)
+    → OneExport {X = List ℕ × List ℕ} (λ a x. beside (tree.openingGives a (x .0)) (x .1)) (promised.CloseDirPromise s opens work x)
+export-close-dir s opens work x =
+    one-beside (λ (a : Answer) (x : List ℕ). tree.openingGives a x) (λ g. g .answer) (λ g. g .opens) (promised.CloseDirPromise s opens work x) (λ a x. refl) (λ a x. refl) (tree-one.one-close-dir s opens work x)
+
+pub export-carried-file : (s : Tables) (work : List ℕ) (x : ℕ)
+    → OneExport {X = List ℕ × List ℕ} (λ a x. beside (tree.shownGives a (x .0)) (x .1)) (promised.CarriedFilePromise s work x)
+export-carried-file s work x =
+    one-beside (λ (a : Answer) (x : List ℕ). tree.shownGives a x) (λ g. g .answer) (λ g. g .bytes) (promised.CarriedFilePromise s work x) (λ a x. refl) (λ a x. refl) (tree-one.one-carried-file s work x)
+
+pub export-set-carried-file : (s : Tables) (work : List ℕ) (x : ℕ) (carried : List ℕ)
+    → OneExport {X = Tables × List ℕ} (λ a x. beside (tree.carryGives a (x .0)) (x .1)) (promised.SetCarriedFilePromise s work x carried)
+export-set-carried-file s work x carried =
+    one-beside (λ (a : Answer) (x : Tables). tree.carryGives a x) (λ g. g .answer) (λ g. g .tables) (promised.SetCarriedFilePromise s work x carried) (λ a x. refl) (λ a x. refl) (tree-one.one-set-carried-file s work x carried)
+
+pub export-make-file : (s : Tables) (opens work : List ℕ) (p : ℕ) (name carried : List ℕ)
+    → OneExport {X = (ℕ × (Tables × List ℕ)) × List ℕ} (λ a x. beside (tree.makeGives a (x .0 .0) (x .0 .1 .0) (x .0 .1 .1)) (x .1)) (promised.MakeFilePromise s opens work p name carried)
+export-make-file s opens work p name carried =
+    one-beside (λ (a : Answer) (x : ℕ × (Tables × List ℕ)). tree.makeGives a (x .0) (x .1 .0) (x .1 .1)) (λ g. g .answer) (λ g. (g .inode, (g .tables, g .opens))) (promised.MakeFilePromise s opens work p name carried) (λ a x. refl) (λ a x. refl) (tree-one.one-make-file s opens work p name carried)
+
+pub export-rename-file : (s : Tables) (opens work : List ℕ) (x p : ℕ) (name : List ℕ)
+    → OneExport {X = (Tables × List ℕ) × List ℕ} (λ a x. beside (tree.changeGives a (x .0 .0) (x .0 .1)) (x .1)) (promised.RenameFilePromise s opens work x p name)
+export-rename-file s opens work x p name =
+    one-beside (λ (a : Answer) (x : Tables × List ℕ). tree.changeGives a (x .0) (x .1)) (λ g. g .answer) (λ g. (g .tables, g .opens)) (promised.RenameFilePromise s opens work x p name) (λ a x. refl) (λ a x. refl) (tree-one.one-rename-file s opens work x p name)
+
+pub export-delete-file : (s : Tables) (opens work : List ℕ) (x : ℕ)
+    → OneExport {X = (Tables × List ℕ) × List ℕ} (λ a x. beside (tree.changeGives a (x .0 .0) (x .0 .1)) (x .1)) (promised.DeleteFilePromise s opens work x)
+export-delete-file s opens work x =
+    one-beside (λ (a : Answer) (x : Tables × List ℕ). tree.changeGives a (x .0) (x .1)) (λ g. g .answer) (λ g. (g .tables, g .opens)) (promised.DeleteFilePromise s opens work x) (λ a x. refl) (λ a x. refl) (tree-one.one-delete-file s opens work x)
+
+pub export-open-file : (s : Tables) (opens work : List ℕ) (x : ℕ)
+    → OneExport {X = List ℕ × List ℕ} (λ a x. beside (tree.openingGives a (x .0)) (x .1)) (promised.OpenFilePromise s opens work x)
+export-open-file s opens work x =
+    one-beside (λ (a : Answer) (x : List ℕ). tree.openingGives a x) (λ g. g .answer) (λ g. g .opens) (promised.OpenFilePromise s opens work x) (λ a x. refl) (λ a x. refl) (tree-one.one-open-file s opens work x)
+
+pub export-close-file : (s : Tables) (opens work : List ℕ) (x : ℕ)
+    → OneExport {X = List ℕ × List ℕ} (λ a x. beside (tree.openingGives a (x .0)) (x .1)) (promised.CloseFilePromise s opens work x)
+export-close-file s opens work x =
+    one-beside (λ (a : Answer) (x : List ℕ). tree.openingGives a x) (λ g. g .answer) (λ g. g .opens) (promised.CloseFilePromise s opens work x) (λ a x. refl) (λ a x. refl) (tree-one.one-close-file s opens work x)
+
+-- ---- the name, whose field is the place in the table that the kind selects
+
+pub one-name : (s : Tables) (work : List ℕ) (kind x : ℕ) → One (NamePromise s work kind x)
+one-name s work kind x =
+    tree-one.one-promised
+    (entryGate
+    (λ a w. beside (namedGives a 0) w)
+    (s .dirHash) (s .dirTable) (s .fileHash) (s .fileTable)
+    (Outside (s .dirHash) (s .dirTable) (s .fileHash) (s .fileTable) ⊎ (1 < kind))
+    (length work < rooms (s .dirTable) (s .fileTable))
+    work)
+    (worked s work)
+    (nameRows s kind x)
+    (nameDone kind x)
+
+pub export-name : (s : Tables) (work : List ℕ) (kind x : ℕ)
+    → OneExport {X = ℕ × List ℕ} (λ a x. beside (namedGives a (x .0)) (x .1)) (NamePromise s work kind x)
+export-name s work kind x =
+    one-beside (λ (a : Answer) (x : ℕ). namedGives a x) (λ g. g .answer) (λ g. g .offset) (NamePromise s work kind x) (λ a x. refl) (λ a x. refl) (one-name s work kind x)
