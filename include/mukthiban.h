@@ -45,6 +45,11 @@
 extern "C" {
 #endif
 
+/* ---- The library ---- */
+
+/* The version that was linked, as MUKTHIBAN_VERSION_NUMBER has that of the header. */
+uint32_t mukthiban_version(void);
+
 /* ---- The block table ---- */
 
 /* Makes one free node of all n blocks. Entries between that node's own are left as they were. Answers 1, 2. */
@@ -92,6 +97,20 @@ mukthiban_answered mukthiban_fat_write(const uint8_t *table, size_t table_len,
                                        uint32_t *work, size_t work_len,
                                        size_t first_block, size_t pos,
                                        const uint8_t *buf, size_t buf_len);
+
+/* Reads buf_len bytes from position pos on of what a block list names, as mukthiban_fat_open_list gave it: block
+ * list[k / block_len] has byte k. Takes no table and no work list; of the list's blocks only those that the bytes lie in are
+ * looked at, so that a read costs nothing of the file's length. n is data_len / block_len here. Answers 1, 2, 7 (the list's
+ * end), 2 (a block that the bytes lie in is n or more). */
+mukthiban_answered mukthiban_fat_read_blocks(const uint8_t *data, size_t data_len, size_t block_len,
+                                             const uint32_t *list, size_t list_len, size_t pos,
+                                             uint8_t *buf, size_t buf_len);
+
+/* Writes buf's bytes from position pos on into what a block list names, byte after byte: where the list names a block
+ * twice, the later byte stays. Answers as mukthiban_fat_read_blocks. */
+mukthiban_answered mukthiban_fat_write_blocks(uint8_t *data, size_t data_len, size_t block_len,
+                                              const uint32_t *list, size_t list_len, size_t pos,
+                                              const uint8_t *buf, size_t buf_len);
 
 /* ---- The entry tables ---- */
 

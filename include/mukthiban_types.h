@@ -10,6 +10,8 @@
 #define MUKTHIBAN_VERSION_MINOR 2
 #define MUKTHIBAN_VERSION_PATCH 0
 #define MUKTHIBAN_VERSION "0.2.0"
+#define MUKTHIBAN_VERSION_NUMBER \
+    (MUKTHIBAN_VERSION_MAJOR * 65536 + MUKTHIBAN_VERSION_MINOR * 256 + MUKTHIBAN_VERSION_PATCH)
 
 /* Widths and limits. */
 #define MUKTHIBAN_ROOT 1u               /* the root directory's inode */

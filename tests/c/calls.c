@@ -35,6 +35,31 @@ static const uint8_t a[16] = {'a'}, b[16] = {'b'};
 static const uint8_t four[4] = {1, 2, 3, 4};
 static const uint8_t twenty[20] = {1, 2, 3, 4, 5, 6, 7, 8, 9, 10, 11, 12, 13, 14, 15, 16, 17, 18, 19, 20};
 
+/* Reads and writes by the list that is open: blocks 0, 1 and 3, of which bytes 9, 8, 7, 6 lie over the second border. */
+static void listed_blocks(size_t count)
+{
+    static const uint32_t twice[2] = {2, 2}, foreign[2] = {1, 4};
+    uint8_t buf[4] = {0}, back[LENGTH + 1];
+
+    EXPECT(mukthiban_fat_read_blocks(DATA, list, count, 2 * LENGTH - 2, buf, 4).answer == MUKTHIBAN_DONE);
+    EXPECT(buf[0] == 9 && buf[1] == 8 && buf[2] == 7 && buf[3] == 6);
+    EXPECT(mukthiban_fat_read_blocks(DATA, list, count, 3 * LENGTH, buf, 0).answer == MUKTHIBAN_DONE);
+    EXPECT(mukthiban_fat_read_blocks(DATA, list, count, 3 * LENGTH - 3, buf, 4).answer == MUKTHIBAN_OUT_OF_BOUND);
+    EXPECT(mukthiban_fat_read_blocks(DATA, list, count, SIZE_MAX, buf, 4).answer == MUKTHIBAN_OUT_OF_BOUND);
+    EXPECT(mukthiban_fat_read_blocks(DATA, foreign, 2, LENGTH - 4, buf, 4).answer == MUKTHIBAN_DONE);
+    EXPECT(mukthiban_fat_read_blocks(DATA, foreign, 2, LENGTH - 3, buf, 4).answer == MUKTHIBAN_INVALID_VALUE);
+    EXPECT(mukthiban_fat_read_blocks(data, sizeof data - 1, LENGTH, list, count, 0, buf, 4).answer == MUKTHIBAN_SIZE_MISMATCH);
+    EXPECT(mukthiban_fat_read_blocks(data, sizeof data, 0, list, count, 0, buf, 4).answer == MUKTHIBAN_SIZE_MISMATCH);
+    EXPECT(mukthiban_fat_read_blocks(data, 0, LENGTH, list, count, 0, buf, 4).answer == MUKTHIBAN_INVALID_VALUE);
+
+    memset(back, 5, sizeof back);
+    back[LENGTH] = 6;
+    EXPECT(mukthiban_fat_write_blocks(DATA, twice, 2, 0, back, sizeof back).answer == MUKTHIBAN_DONE);
+    EXPECT(data[2 * LENGTH] == 6 && data[2 * LENGTH + 1] == 5 && data[3 * LENGTH - 1] == 5);
+    EXPECT(mukthiban_fat_write_blocks(DATA, foreign, 2, LENGTH - 3, back, 4).answer == MUKTHIBAN_INVALID_VALUE);
+    EXPECT(data[2 * LENGTH - 3] == 0 && data[2 * LENGTH - 2] == 9);
+}
+
 static void blocks(void)
 {
     uint8_t buf[4] = {9, 8, 7, 6};
@@ -70,6 +95,8 @@ static void blocks(void)
     EXPECT(mukthiban_fat_read(FAT, DATA, WORK, 0, 2 * LENGTH - 2, buf, 4).answer == MUKTHIBAN_DONE);
     EXPECT(buf[0] == 9 && buf[3] == 6);
     EXPECT(mukthiban_fat_read(FAT, DATA, WORK, 0, 3 * LENGTH - 3, buf, 4).answer == MUKTHIBAN_OUT_OF_BOUND);
+
+    listed_blocks(opened.count);
 
     EXPECT(mukthiban_fat_delete(FAT, DATA, WORK, 0).answer == MUKTHIBAN_DONE);
     tested = mukthiban_fat_test(FAT, WORK);
@@ -167,6 +194,7 @@ static void texts(void)
 
 int main(void)
 {
+    EXPECT(mukthiban_version() == MUKTHIBAN_VERSION_NUMBER);
     texts();
     blocks();
     tree();

@@ -36,6 +36,8 @@ use Rattle.fat_test.specs.Promise as test
 use Rattle.fat_test.proofs.Unique.{one-answer}
 use Rattle.fat_promises.specs.Calls as fat
 use Rattle.fat_promises.proofs.Unique as fat-one
+use Rattle.fat_listed.specs.Listed.{ReadBlocksPromise, WriteBlocksPromise}
+use Rattle.fat_listed.proofs.Same.{one-read-blocks, one-write-blocks}
 use Rattle.tree_table.specs.View.{View}
 use Rattle.tree_sound.specs.Sizes.{Outside, rooms}
 use Rattle.tree_test.specs.Gate.{treeGate, entryGate}
@@ -177,6 +179,16 @@ pub export-write : (t d : Bytes) (l : ℕ) (work : List ℕ) (b pos : ℕ) (buf 
     → OneExport {X = Bytes × List ℕ} (λ a x. beside (fat.carryGives a (x .0)) (x .1)) (fat.WritePromise t d l work b pos buf)
 export-write t d l work b pos buf =
     one-beside (λ (a : Answer) (x : Bytes). fat.carryGives a x) (λ g. g .answer) (λ g. g .bytes) (fat.WritePromise t d l work b pos buf) (λ a x. refl) (λ a x. refl) (fat-one.one-write t d l work b pos buf)
+
+pub export-read-blocks : (d : Bytes) (l : ℕ) (list : List ℕ) (pos : ℕ) (buf : Bytes)
+    → OneExport {X = Bytes} (λ a x. fat.carryGives a x) (ReadBlocksPromise d l list pos buf)
+export-read-blocks d l list pos buf =
+    one-export (λ (a : Answer) (x : Bytes). fat.carryGives a x) (λ g. g .answer) (λ g. g .bytes) (ReadBlocksPromise d l list pos buf) (λ a x. refl) (λ a x. refl) (one-read-blocks d l list pos buf)
+
+pub export-write-blocks : (d : Bytes) (l : ℕ) (list : List ℕ) (pos : ℕ) (buf : Bytes)
+    → OneExport {X = Bytes} (λ a x. fat.carryGives a x) (WriteBlocksPromise d l list pos buf)
+export-write-blocks d l list pos buf =
+    one-export (λ (a : Answer) (x : Bytes). fat.carryGives a x) (λ g. g .answer) (λ g. g .bytes) (WriteBlocksPromise d l list pos buf) (λ a x. refl) (λ a x. refl) (one-write-blocks d l list pos buf)
 
 -- ---- the entry tables; lookup and listing of a view, the directories or the files
 

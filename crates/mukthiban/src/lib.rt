@@ -1,6 +1,7 @@
 // The C interface: every call once, under the name that include/mukthiban.h declares. An export gives the call's own answer with its number in the
 // place of its name, and promises what the call promises: there is an answer with that number and those fields of which the call's promise holds.
 mod blocks;
+mod by_list;
 mod change;
 mod look;
 mod name;
@@ -10,6 +11,7 @@ mod tested_change;
 mod tested_look;
 mod tested_opens;
 mod trees;
+mod version;
 
 // The answer of both formats, and of a tree call that gives nothing else.
 #[repr(C)]

@@ -1,7 +1,7 @@
 //! `compare short` or `compare long [seed]`: every comparison, with counts and the seed. It ends at the first difference.
 
 use compare::chance::Chance;
-use compare::{block_history, check, closure, damage, edges, tree_history};
+use compare::{block_history, by_list, check, closure, damage, edges, tree_history};
 use std::time::{Instant, SystemTime, UNIX_EPOCH};
 
 /// How much of everything.
@@ -31,6 +31,8 @@ fn histories(name: &str, run: fn(&mut Chance), seed: u64, count: u64) {
 }
 
 fn say_what_is_here() {
+    let (major, minor, patch) = port::library_version();
+    println!("library {major}.{minor}.{patch}");
     if !original::PRESENT {
         println!("!!!! THE ORIGINAL'S SOURCE IS NOT HERE: NOTHING IS COMPARED WITH IT. SAVE3DS_SRC names its folder. !!!!");
     }
@@ -51,6 +53,7 @@ fn main() {
     let start = Instant::now();
     histories("block", block_history::run, seed, run.histories);
     histories("border", block_history::borders, seed, run.histories);
+    histories("list", by_list::run, seed, run.histories);
     histories("tree", tree_history::run, seed, run.histories);
     closure::run(&mut Chance::new(seed), run.depth, run.states);
     damage::run(&mut Chance::new(seed), run.whole, run.damaged);

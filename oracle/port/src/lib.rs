@@ -1,10 +1,12 @@
 //! "A port": something that answers the calls of RULES 1.3 over lent bytes. The statement of the rules is one, the proved library another.
 
+mod by_list;
 mod calls;
 mod inner;
 mod library;
 mod stated;
 
+pub use by_list::{library_version, ByList, ListCall};
 pub use calls::{Answered, BlockCall, Blocks, Kind, Tree, TreeCall};
 pub use inner::Inner;
 pub use library::Library;

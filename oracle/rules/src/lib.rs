@@ -6,6 +6,7 @@
 
 pub mod answer;
 pub mod blocks;
+pub mod by_list;
 pub mod entries;
 pub mod layout;
 pub mod sound;

@@ -3,6 +3,7 @@
 use crate::answers::*;
 
 calls! {
+    fn mukthiban_version() -> u32;
     fn mukthiban_fat_format(table: &mut [u8]) -> Plain;
     fn mukthiban_fat_test(table: &[u8], work: &mut [u32]) -> Tested;
     fn mukthiban_fat_open_list(
@@ -22,6 +23,12 @@ calls! {
     ) -> Answered;
     fn mukthiban_fat_write(
         table: &[u8], data: &mut [u8], block_len: usize, work: &mut [u32], first_block: usize, pos: usize, buf: &[u8],
+    ) -> Answered;
+    fn mukthiban_fat_read_blocks(
+        data: &[u8], block_len: usize, list: &[u32], pos: usize, buf: &mut [u8],
+    ) -> Answered;
+    fn mukthiban_fat_write_blocks(
+        data: &mut [u8], block_len: usize, list: &[u32], pos: usize, buf: &[u8],
     ) -> Answered;
     fn mukthiban_tree_format(
         dir_hash: &mut [u8], dir_table: &mut [u8], dir_max: usize, file_hash: &mut [u8], file_table: &mut [u8],

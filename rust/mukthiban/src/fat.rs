@@ -214,3 +214,52 @@ pub fn write(
     };
     judge(r.answer)
 }
+
+/// Reads `buf.len()` bytes from `pos` on of what a block list names, as [`open_list`] gave it. Only the blocks that the
+/// bytes lie in are looked at, so that a read costs nothing of the file's length.
+///
+/// ```
+/// use mukthiban::{fat, Refusal};
+/// let mut data = [0u8; 4 * 512];
+/// fat::write_blocks(&mut data, 512, &[3, 1], 510, b"over")?;
+/// let mut back = [0; 4];
+/// fat::read_blocks(&data, 512, &[3, 1], 510, &mut back)?;
+/// assert_eq!(&back, b"over");
+/// assert_eq!(&data[512..514], b"er");
+/// assert_eq!(fat::read_blocks(&data, 512, &[3, 1], 1021, &mut back), Err(Refusal::OutOfBound));
+/// assert_eq!(fat::read_blocks(&data, 512, &[3, 4], 510, &mut back), Err(Refusal::InvalidValue));
+/// # Ok::<(), Refusal>(())
+/// ```
+pub fn read_blocks(data: &[u8], block_len: usize, list: &[u32], pos: usize, buf: &mut [u8]) -> Result<(), Refusal> {
+    let r = unsafe {
+        ffi::mukthiban_fat_read_blocks(
+            data.as_ptr(),
+            data.len(),
+            block_len,
+            list.as_ptr(),
+            list.len(),
+            pos,
+            buf.as_mut_ptr(),
+            buf.len(),
+        )
+    };
+    judge(r.answer)
+}
+
+/// Writes `buf` from `pos` on into what a block list names, byte after byte: where it names a block twice, the later byte
+/// stays. Refused as [`read_blocks`] is.
+pub fn write_blocks(data: &mut [u8], block_len: usize, list: &[u32], pos: usize, buf: &[u8]) -> Result<(), Refusal> {
+    let r = unsafe {
+        ffi::mukthiban_fat_write_blocks(
+            data.as_mut_ptr(),
+            data.len(),
+            block_len,
+            list.as_ptr(),
+            list.len(),
+            pos,
+            buf.as_ptr(),
+            buf.len(),
+        )
+    };
+    judge(r.answer)
+}

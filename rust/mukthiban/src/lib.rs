@@ -46,3 +46,15 @@ pub use refusal::Refusal;
 pub use tables::{Kind, Name, ROOT};
 #[cfg(feature = "std")]
 pub use volume::{Entry, File, FileMut, NotSound, Volume, Walk};
+
+/// The version of the proved library that is linked: major, minor, patch.
+///
+/// ```
+/// let (major, minor, patch) = mukthiban::version();
+/// assert_eq!(format!("{major}.{minor}.{patch}"), env!("CARGO_PKG_VERSION"));
+/// ```
+pub fn version() -> (u32, u32, u32) {
+    // SAFETY: it takes nothing.
+    let number = unsafe { mukthiban_ffi::mukthiban_version() };
+    (number / 65_536, number / 256 % 256, number % 256)
+}
