@@ -1,10 +1,10 @@
 //! Files of a volume as the standard library's: read, written and sought, with the block list opened once.
 
 use super::Volume;
+use crate::fat;
 use crate::record::Record;
 use crate::refusal::Refusal;
 use std::io::{self, Read, Seek, SeekFrom, Write};
-use std::ops::Range;
 
 /// Where a handle stands in its file.
 #[derive(Clone, Debug)]
@@ -27,35 +27,17 @@ impl Place {
         Ok(Place { blocks, size: record.size, pos: 0 })
     }
 
-    /// The stretches of data that so many bytes from a position on lie in, which the blocks hold.
-    fn stretches(&self, block_len: usize, pos: u64, len: usize) -> impl Iterator<Item = Range<usize>> + '_ {
-        let (mut at, end) = (pos, pos + len as u64);
-        let len = block_len as u64;
-        std::iter::from_fn(move || {
-            if at >= end {
-                return None;
-            }
-            let stop = end.min((at / len + 1) * len);
-            let block = *self.blocks.get((at / len) as usize)? as usize;
-            let start = block * block_len + (at % len) as usize;
-            let range = start..start + (stop - at) as usize;
-            at = stop;
-            Some(range)
-        })
-    }
-
     /// Reads up to the file's end.
-    fn read(&mut self, volume: &Volume, buf: &mut [u8]) -> usize {
+    fn read(&mut self, volume: &Volume, buf: &mut [u8]) -> Result<usize, Refusal> {
         let left = self.size.saturating_sub(self.pos);
         let count = buf.len().min(usize::try_from(left).unwrap_or(usize::MAX));
-        let mut rest = &mut buf[..count];
-        for range in self.stretches(volume.parts.block_len, self.pos, count) {
-            let (front, back) = rest.split_at_mut(range.len());
-            front.copy_from_slice(&volume.parts.data[range]);
-            rest = back;
+        if count == 0 {
+            return Ok(0);
         }
+        let pos = usize::try_from(self.pos).map_err(|_| Refusal::OutOfBound)?;
+        fat::read_blocks(&volume.parts.data, volume.parts.block_len, &self.blocks, pos, &mut buf[..count])?;
         self.pos += count as u64;
-        count
+        Ok(count)
     }
 
     fn seek(&mut self, to: SeekFrom) -> io::Result<u64> {
@@ -107,7 +89,7 @@ impl File<'_> {
 
 impl Read for File<'_> {
     fn read(&mut self, buf: &mut [u8]) -> io::Result<usize> {
-        Ok(self.place.read(self.volume, buf))
+        Ok(self.place.read(self.volume, buf)?)
     }
 }
 
@@ -167,9 +149,8 @@ impl FileMut<'_> {
         self.record = now;
         self.place = Place { pos, ..Place::open(self.volume, now)? };
         // What is new, and what the last block has behind the end, so that no older file's bytes are left there.
-        let (from, end) = (before.min(size), self.place.blocks.len() * self.volume.parts.block_len);
-        self.put(from, None, end - from as usize);
-        Ok(())
+        let (from, end) = (before.min(size) as usize, self.place.blocks.len() * self.volume.parts.block_len);
+        self.clear(from, end)
     }
 
     /// The record with that size, its chain as long as it needs.
@@ -190,24 +171,28 @@ impl FileMut<'_> {
         Ok(wanted)
     }
 
-    /// Puts bytes, or so many zeros, where the blocks hold them.
-    fn put(&mut self, pos: u64, bytes: Option<&[u8]>, len: usize) {
-        let mut done = 0;
-        for range in self.place.stretches(self.volume.parts.block_len, pos, len) {
-            let count = range.len();
-            let data = &mut self.volume.parts.data[range];
-            match bytes {
-                Some(bytes) => data.copy_from_slice(&bytes[done..done + count]),
-                None => data.fill(0),
-            }
-            done += count;
+    /// Puts bytes where the blocks hold them.
+    fn put(&mut self, pos: usize, bytes: &[u8]) -> Result<(), Refusal> {
+        let parts = &mut self.volume.parts;
+        fat::write_blocks(&mut parts.data, parts.block_len, &self.place.blocks, pos, bytes)
+    }
+
+    /// Puts zeros from one byte up to another, a block's length at a time.
+    fn clear(&mut self, from: usize, end: usize) -> Result<(), Refusal> {
+        let zeros = vec![0; self.volume.parts.block_len.min(end - from)];
+        let mut at = from;
+        while at < end {
+            let count = zeros.len().min(end - at);
+            self.put(at, &zeros[..count])?;
+            at += count;
         }
+        Ok(())
     }
 }
 
 impl Read for FileMut<'_> {
     fn read(&mut self, buf: &mut [u8]) -> io::Result<usize> {
-        Ok(self.place.read(self.volume, buf))
+        Ok(self.place.read(self.volume, buf)?)
     }
 }
 
@@ -228,7 +213,7 @@ impl Write for FileMut<'_> {
         if end > self.place.size {
             self.set_len(end)?;
         }
-        self.put(pos, Some(buf), buf.len());
+        self.put(usize::try_from(pos).map_err(|_| Refusal::OutOfBound)?, buf)?;
         self.place.pos = end;
         Ok(buf.len())
     }
