@@ -20,6 +20,7 @@ use Rattle.tree_promises.specs.inner.Ready.{LiveAt}
 use Rattle.order.specs.Tells.{Tells}
 use Rattle.tree_test.proofs.Cases.{tells-not}
 use Rattle.tree_promises.specs.declared.Kind.the-variants.{Directory, File}
+use Rattle.tree_promises.specs.Promise.{TreePromise}
 use Rattle.tree.specs.Name.{NameAnswerPromise}
 use Rattle.mukthiban.specs.Export.{Exported}
 use Rattle.mukthiban.specs.Name.{Naming, namedGives, placed, nameRows, nameDone, NamePromise}
@@ -53,6 +54,7 @@ module _ (s : Tables) (work w : List ℕ) (kind x n off : ℕ) (a : Answer) (num
   -- the directories
   pub dir-named : kind ≡ 0 → NameAnswerPromise s work Directory x (beside a w) → off ≡ placed (numberOf a) (x * 40 + 4)
       → Exported n (λ a. NamePromise s work kind x (beside (namedGives a off) w))
+  unfolding TreePromise
   dir-named e p z = (
     a,
     number,
@@ -64,6 +66,7 @@ module _ (s : Tables) (work w : List ℕ) (kind x n off : ℕ) (a : Answer) (num
   -- the files
   pub file-named : kind ≡ 1 → NameAnswerPromise s work File x (beside a w) → off ≡ placed (numberOf a) (x * 48 + 4)
       → Exported n (λ a. NamePromise s work kind x (beside (namedGives a off) w))
+  unfolding TreePromise
   file-named e p z = (
     a,
     number,
