@@ -1,17 +1,15 @@
 -- What is left to know of sizes and maxima where neither row of format applies, and lists that are all zero.
-use mathlib.Core.Path.{_≡_, refl, sym, ap, _∙_, subst⁻¹}
+use mathlib.Core.Path.{_≡_, ap, _∙_, subst⁻¹}
 use mathlib.Core.List.{List, [], _∷_, _++_, append-nil}
 use mathlib.Core.Bool.{Bool, false}
 use mathlib.Core.Logic.{inl, inr, ⊎-elim}
 use Prim.Native.Nat.{ℕ, _+_, _*_, _/_, _%_, _≤_, _<_}
 use native.Mathlib.Omega.{arith}
 use native.Mathlib.Nat.{mod-lt}
-use lib.ListN.{length, drop, replicate}
+use lib.ListN.{length, replicate}
 use lib.Seq.{drop-length}
 use Rattle.order.specs.Gate.{cleared}
 use Rattle.tree_key.specs.Hash.{hashOf}
-use Rattle.order.specs.First.{First}
-use Rattle.order.specs.declared.Answer.{Answer}
 use Rattle.order.specs.declared.Answer.the-variants.{Done}
 use Rattle.order.specs.Tells.{Tells}
 use Rattle.tree_marks.proofs.Walks.{le-or-lt}

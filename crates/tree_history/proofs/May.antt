@@ -1,14 +1,13 @@
 -- Where no row of a call applies, the call may go: one law for each record of specs/May.antt.
-use mathlib.Core.Path.{_≡_, refl}
+use mathlib.Core.Path.{_≡_}
 use mathlib.Core.List.{List}
-use Prim.Native.Nat.{ℕ, suc, _<_}
+use Prim.Native.Nat.{ℕ}
 use native.Mathlib.Nat.{lt-of-not-le}
 use native.Mathlib.Omega.{arith}
 use Rattle.order.specs.Given.{None}
 use Rattle.tree_key.specs.Key.{nameKey}
 use Rattle.tree_table.specs.View.{View}
 use Rattle.tree_sound.specs.Tables.{Tables, dirs, files}
-use Rattle.tree_opens.specs.Opens.{opened}
 use Rattle.tree_promises.specs.declared.Kind.{Kind}
 use Rattle.tree_promises.specs.declared.Kind.the-variants.{Directory, File}
 use Rattle.tree_promises.specs.Kinds.{kindView}

@@ -1,7 +1,7 @@
 -- NoSpace in rename never comes.
 use mathlib.Core.Path.{_≡_, ap}
 use mathlib.Core.List.{List}
-use Prim.Native.Nat.{ℕ, _+_, _<_}
+use Prim.Native.Nat.{ℕ, _+_}
 use native.Mathlib.Omega.{arith}
 use Rattle.order.specs.Beside.{Beside}
 use Rattle.order.specs.Answer.{numberOf}

@@ -1,6 +1,5 @@
 -- What a call leaves of the entry tables.
 use mathlib.Core.Path.{_≡_}
-use mathlib.Core.List.{List}
 use lib.ListN.{length}
 use Rattle.words.specs.Word.{AreBytes}
 use Rattle.tree_sound.specs.Tables.{Tables, MisfitIn, OutsideIn, SoundIn}

@@ -1,30 +1,27 @@
 -- The calls that change sound tables, by the places of their code.
 use mathlib.Core.Path.{_≡_, refl, sym, ap, ap₂, _∙_, subst}
 use mathlib.Core.Bool.{Bool, true, false}
-use mathlib.Core.List.{List, [], _∷_, _++_}
+use mathlib.Core.List.{List, [], _∷_}
 use mathlib.Core.Logic.{_⊎_, inl, inr, ⊎-elim, _≢_}
-use Prim.Native.Nat.{ℕ, zero, suc, _+_, _-_, _*_, _/_, _%_, _≤_, _<_}
+use Prim.Native.Nat.{ℕ, _+_, _-_, _*_, _/_, _≤_, _<_}
 use native.Mathlib.Omega.{arith}
-use lib.Dec.{eqb}
 use lib.ListN.{length}
-use Rattle.order.specs.First.{Row, row, First}
+use Rattle.order.specs.First.{Row, First}
 use Rattle.order.specs.Given.{Given, None}
 use Rattle.order.specs.declared.Answer.{Answer}
-use Rattle.order.specs.declared.Answer.the-variants.{Done, NotFound, NotOpen, Busy, DeletingRoot, IntoItself, AlreadyExist, NoSpace}
-use Rattle.words.specs.Word.{word}
+use Rattle.order.specs.declared.Answer.the-variants.{Done, NotFound, DeletingRoot, IntoItself, AlreadyExist, NoSpace}
 use Rattle.links.specs.Links.{_∈_, Links, Holds}
-use Rattle.links.specs.Change.{walk}
 use Rattle.links.proofs.Laws.{walked, fewer}
 use Rattle.links.proofs.Held.{same-or}
 use Rattle.tree_key.specs.Key.{nameKey}
 use Rattle.tree_table.specs.Field.{field, wrote}
-use Rattle.tree_table.specs.View.{View, LiveIn, keyAt, parent}
+use Rattle.tree_table.specs.View.{View, LiveIn, parent}
 use Rattle.tree_table.specs.Steps.{freeOf, giveWrites}
 use Rattle.tree_table.specs.Chain.{linkAt, listAt, Ends, member}
 use Rattle.tree_table.proofs.Chain.{member-in, not-member}
 use Rattle.tree_table.proofs.Field.{length-wrote}
 use Rattle.tree_table.proofs.Table.{not-zero}
-use Rattle.tree_sound.specs.Sound.{Table, up}
+use Rattle.tree_sound.specs.Sound.{up}
 use Rattle.tree_opens.specs.Opens.{withOpen, Counted, AllCounted}
 use Rattle.tree_promises.specs.Kinds.{kindRoom}
 use Rattle.tree_sound.specs.Tables.{Tables, tables, dirs, files}
@@ -32,16 +29,16 @@ use Rattle.tree_promises.specs.declared.Kind.the-variants.{Directory, File}
 use Rattle.tree_promises.specs.Has.{above, Has, HasOther}
 use Rattle.tree_promises.specs.Steps.{unlinkedFrom, linkedTo}
 use Rattle.order.specs.Giving.{giving}
-use Rattle.tree_promises.specs.Calls.{heldTests, onceTests, deleteTests, renameTests, makeTests, changeGives, deleteRows, deleteDone, renameRows, renameDone}
-use Rattle.tree_promises.specs.inner.Ready.{Ready, ReadyOpens, LiveAt, Single, alone, hashed}
-use Rattle.tree_inner.specs.inner.Seat.{headOf, Listed}
+use Rattle.tree_promises.specs.Calls.{heldTests, onceTests, deleteTests, renameTests, makeTests, changeGives, deleteRows, deleteDone, renameDone}
+use Rattle.tree_promises.specs.inner.Ready.{Ready, ReadyOpens, LiveAt, Single, alone}
+use Rattle.tree_inner.specs.inner.Seat.{InParent}
 use Rattle.tree_inner.specs.inner.Judge.{JudgedBy}
 use Rattle.tree_inner.specs.declared.judge.Judged.{Judged}
 use Rattle.tree_inner.specs.declared.judge.Judged.the-variants.{Go, Refused}
 use Rattle.tree_inner.proofs.Lists.{inside, all-fit, count-few, child-ends, child-list, dir-single, file-single, ends-of, list-of}
 use Rattle.order.specs.Tells.{Tells}
 use Rattle.tree_test.proofs.Cases.{tells-not}
-use Rattle.tree_inner.proofs.Judges.{given-behind, none-both, passed, given-first, none-first, live-sure}
+use Rattle.tree_inner.proofs.Judges.{passed, given-first, none-first, live-sure}
 
 -- ---- where a live entry stands in its parent's list
 
@@ -57,7 +54,7 @@ module _ (s : Tables) (R : Ready s) (x : ℕ) where
     dir-up : LiveIn (dirs s) (field 40 (s .dirTable) x 1)
     dir-up = R .sound .dirs .below .parents x l n
 
-    pub dir-listed : Listed (s .dirTable) 24 (s .dirTable) 40 x
+    pub dir-listed : InParent (s .dirTable) 24 (s .dirTable) 40 x
     unfolding field
     dir-listed =
         let H = R .sound .dirs .below .lists (field 40 (s .dirTable) x 1) dir-up in
@@ -75,7 +72,7 @@ module _ (s : Tables) (R : Ready s) (x : ℕ) where
     file-up : LiveIn (dirs s) (field 48 (s .fileTable) x 1)
     file-up = R .sound .files .parents x l (not-zero (l .0))
 
-    pub file-listed : Listed (s .dirTable) 28 (s .fileTable) 48 x
+    pub file-listed : InParent (s .dirTable) 28 (s .fileTable) 48 x
     unfolding field
     file-listed =
         let H = R .sound .files .lists (field 48 (s .fileTable) x 1) file-up in
@@ -268,7 +265,7 @@ module _ (s : Tables) (R : Ready s) (opens : List ℕ) (x : ℕ) where
     gone-file : LiveIn (files s) x
     gone-file = live-sure 48 (s .fileTable) x (n .0)
 
-    pub delete-file-asks : Single (s .fileHash) (s .fileTable) 48 × LiveAt 48 (s .fileTable) x × Listed (s .dirTable) 28 (s .fileTable) 48 x
+    pub delete-file-asks : Single (s .fileHash) (s .fileTable) 48 × LiveAt 48 (s .fileTable) x × InParent (s .dirTable) 28 (s .fileTable) 48 x
     delete-file-asks = (file-single s R, gone-file, file-listed s R x gone-file)
 
     pub give-file-asks : {f1 : List ℕ} → f1 ≡ unlinkedFrom File (tables [] (s .dirTable) (s .fileHash) (s .fileTable)) x .fileTable → (x * 48 + 48 ≤ length f1) × (4 ≤ 48) × (0 < x)
@@ -285,7 +282,7 @@ module _ (s : Tables) (R : Ready s) (opens : List ℕ) (x : ℕ) where
     not-root : x ≢ 1
     not-root = n .1 .1 .1 .0
 
-    pub delete-dir-asks : Single (s .dirHash) (s .dirTable) 40 × LiveAt 40 (s .dirTable) x × Listed (s .dirTable) 24 (s .dirTable) 40 x
+    pub delete-dir-asks : Single (s .dirHash) (s .dirTable) 40 × LiveAt 40 (s .dirTable) x × InParent (s .dirTable) 24 (s .dirTable) 40 x
     delete-dir-asks = (dir-single s R, gone-dir, dir-listed s R x gone-dir not-root)
 
     pub give-dir-asks : {d1 : List ℕ} → d1 ≡ unlinkedFrom Directory (tables (s .dirHash) (s .dirTable) [] []) x .dirTable → (x * 40 + 40 ≤ length d1) × (4 ≤ 40) × (0 < x)
@@ -303,7 +300,7 @@ module _ (s : Tables) (R : Ready s) (opens : List ℕ) (x : ℕ) where
       file-goal : LiveIn (dirs s) p
       file-goal = live-sure 40 (s .dirTable) p (n .1 .1 .0)
 
-      pub rename-file-asks : Single (s .fileHash) (s .fileTable) 48 × LiveAt 48 (s .fileTable) x × Listed (s .dirTable) 28 (s .fileTable) 48 x
+      pub rename-file-asks : Single (s .fileHash) (s .fileTable) 48 × LiveAt 48 (s .fileTable) x × InParent (s .dirTable) 28 (s .fileTable) 48 x
       rename-file-asks = (file-single s R, moved-file, file-listed s R x moved-file)
 
       abbrev before-file : Tables
@@ -327,7 +324,7 @@ module _ (s : Tables) (R : Ready s) (opens : List ℕ) (x : ℕ) where
       dir-goal : LiveIn (dirs s) p
       dir-goal = live-sure 40 (s .dirTable) p (n .1 .1 .1 .0)
 
-      pub rename-dir-asks : Single (s .dirHash) (s .dirTable) 40 × LiveAt 40 (s .dirTable) x × Listed (s .dirTable) 24 (s .dirTable) 40 x
+      pub rename-dir-asks : Single (s .dirHash) (s .dirTable) 40 × LiveAt 40 (s .dirTable) x × InParent (s .dirTable) 24 (s .dirTable) 40 x
       rename-dir-asks = (dir-single s R, moved-dir, dir-listed s R x moved-dir (n .1 .1 .0))
 
       abbrev before-dir : Tables

@@ -12,20 +12,19 @@ use borrow.Author.Tests.{not-true, not-false, eq-eqb, ne-eqb, le-leb, leb-true}
 use Rattle.order.specs.First.{Row, row, First}
 use Rattle.order.specs.Given.{Given, None}
 use Rattle.order.specs.declared.Answer.{Answer}
-use Rattle.order.specs.declared.Answer.the-variants.{Done, NotFound, NotOpen, Busy, DeletingRoot, NotEmpty}
-use Rattle.words.specs.Word.{word}
+use Rattle.order.specs.declared.Answer.the-variants.{NotFound, NotOpen, Busy, DeletingRoot, NotEmpty}
 use Rattle.links.specs.Links.{_∈_}
 use Rattle.links.specs.Change.{walk}
 use Rattle.tree_key.specs.Hash.{hashOf}
 use Rattle.tree_table.specs.Field.{field}
-use Rattle.tree_table.specs.View.{View, keyAt, hashAt, bucketOf, LiveIn}
+use Rattle.tree_table.specs.View.{keyAt, hashAt}
 use Rattle.tree_table.specs.Steps.{freeOf}
 use Rattle.tree_table.specs.Chain.{linkAt, listAt, Ends, seekIn}
 use Rattle.tree_table.specs.declared.Hit.{Hit}
 use Rattle.tree_sound.specs.Sizes.{buckets}
 use Rattle.tree_sound.specs.Tables.{Tables, tables}
 use Rattle.tree_promises.specs.declared.Kind.the-variants.{Directory}
-use Rattle.tree_promises.specs.Has.{HasOther, Has}
+use Rattle.tree_promises.specs.Has.{HasOther}
 use Rattle.order.specs.Giving.{giving}
 use Rattle.tree_promises.specs.Calls.{heldTests, onceTests, deleteTests}
 use Rattle.tree_opens.specs.Opens.{opened, Counted}
@@ -37,7 +36,7 @@ use Rattle.tree_inner.proofs.Lists.{inside, all-fit, bucket-ends, bucke
 use Rattle.order.specs.Tells.{Tells}
 use Rattle.tree_inner.proofs.Live.{in-hash}
 use Rattle.tree_test.proofs.Cases.{told-false, tells-not}
-use Rattle.tree_inner.proofs.Lookups.{Missed, seek-missed, seek-met}
+use Rattle.tree_inner.proofs.Lookups.{seek-missed, seek-met}
 
 -- ---- rows in two parts
 

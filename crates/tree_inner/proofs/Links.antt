@@ -1,25 +1,24 @@
 -- What the code that links and unlinks an entry has written: the steps of the specification.
-use mathlib.Core.Path.{_≡_, refl, sym, ap, ap₂, _∙_, subst}
+use mathlib.Core.Path.{_≡_, sym, ap, ap₂, _∙_}
 use mathlib.Core.List.{List, [], _∷_, _++_}
 use Prim.Native.Nat.{ℕ, _+_, _-_, _*_, _/_, _%_, _≤_, _<_}
 use native.Mathlib.Omega.{arith}
 use native.Mathlib.Nat.{mod-lt}
 use lib.Dec.{eqb}
 use lib.ListN.{length, getD}
-use Rattle.words.specs.Word.{word, putWord}
+use Rattle.words.specs.Word.{putWord}
 use Rattle.tree_key.specs.Key.{nameKey, keyWords}
 use Rattle.tree_key.specs.Hash.{hashOf}
 use Rattle.tree_key.specs.declared.SaveExtKey.{SaveExtKey}
 use Rattle.tree_table.specs.Field.{field, Write, write, wrote}
-use Rattle.tree_table.specs.View.{hashAt, place, parent}
+use Rattle.tree_table.specs.View.{hashAt, parent}
 use Rattle.tree_table.specs.Steps.{enterWrites, cutWrites, headWrites, bucketBefore, childBefore}
 use Rattle.tree_table.specs.Chain.{linkAt}
 use Rattle.tree_table.proofs.Cases.{wrote-append}
 use Rattle.tree_sound.specs.Tables.{Tables, tables, dirs, files}
 use Rattle.tree_promises.specs.declared.Kind.the-variants.{Directory, File}
 use Rattle.tree_promises.specs.Steps.{linkedTo, unlinkedFrom}
-use Rattle.tree_promises.specs.inner.Ready.{hashed}
-use Rattle.tree_inner.specs.inner.Seat.{headOf, InBucket, InList}
+use Rattle.tree_inner.specs.inner.Seat.{InBucket, InList}
 use Rattle.tree_inner.specs.declared.step.Seat.{Seat}
 use Rattle.tree_inner.specs.declared.step.Child.{Child}
 

@@ -1,20 +1,18 @@
 -- The rows of the listings and of stat, by the places of their code.
-use mathlib.Core.Path.{_≡_, refl, sym, ap, _∙_, subst}
-use mathlib.Core.Bool.{Bool, true, false}
+use mathlib.Core.Path.{_≡_, sym, ap, _∙_, subst}
+use mathlib.Core.Bool.{Bool, true}
 use mathlib.Core.List.{List, [], _∷_, _++_}
-use mathlib.Core.Logic.{_⊎_, inl, inr}
-use Prim.Native.Nat.{ℕ, suc, _+_, _-_, _*_, _/_, _≤_, _<_}
+use mathlib.Core.Logic.{inr}
+use Prim.Native.Nat.{ℕ, suc, _+_, _-_, _*_, _≤_, _<_}
 use native.Mathlib.Numerals.{add-one}
 use native.Mathlib.Omega.{arith}
 use lib.ListN.{length, getD, set, take, drop, length-drop}
 use lib.Seq.{drop-cons, take-all, take-suc, take-suc-set, getD-drop}
 use Rattle.order.specs.First.{First}
-use Rattle.order.specs.declared.Answer.{Answer}
-use Rattle.order.specs.declared.Answer.the-variants.{Done, NotFound, ListTooShort}
+use Rattle.order.specs.declared.Answer.the-variants.{Done}
 use Rattle.words.specs.Word.{word}
-use Rattle.links.specs.Links.{_∈_, Holds}
 use Rattle.tree_table.specs.Field.{field}
-use Rattle.tree_table.specs.View.{View, childrenOf, removedOf, LiveIn}
+use Rattle.tree_table.specs.View.{childrenOf, removedOf, LiveIn}
 use Rattle.tree_table.specs.Steps.{freeOf}
 use Rattle.tree_table.specs.Chain.{listAt, Ends}
 use Rattle.order.specs.Tells.{Tells}
@@ -22,8 +20,7 @@ use Rattle.tree_sound.specs.Tables.{Tables, dirs, files}
 use Rattle.tree_promises.specs.inner.Ready.{Ready, LiveAt, Single, alone}
 use Rattle.tree_promises.specs.Calls.{Listing, listGives, shortRows, listedDone, ListDirs, ListFiles, part}
 use Rattle.tree_inner.proofs.Lists.{inside, all-fit, removed-ends, removed-list, child-ends, child-list, dir-single, file-single}
-use Rattle.tree_inner.proofs.Live.{count-word, first-fits}
-use Rattle.tree_test.proofs.Cases.{tells-not}
+use Rattle.tree_inner.proofs.Live.{count-word}
 
 pub short-done : (xs list l : List ℕ) (n : ℕ) → n ≡ length xs → n ≤ length list → l ≡ xs ++ drop (length xs) list
     → First (shortRows xs list) (listedDone xs list) (listGives Done n l)

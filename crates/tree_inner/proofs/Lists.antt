@@ -1,21 +1,18 @@
 -- The lists of sound tables are those that the code walks: each ends, lies in its table, and is what its definition says.
-use mathlib.Core.Path.{_≡_, refl, sym, ap, _∙_, subst}
-use mathlib.Core.List.{List, [], _∷_}
-use Prim.Native.Nat.{ℕ, suc, _+_, _-_, _*_, _/_, _≤_, _<_}
+use mathlib.Core.Path.{_≡_, refl, sym, _∙_}
+use mathlib.Core.List.{List}
+use Prim.Native.Nat.{ℕ, _+_, _-_, _*_, _/_, _≤_, _<_}
 use native.Mathlib.Nat.{mul-le-mul-right, suc-mul, div-mul-le-self}
 use native.Mathlib.Omega.{arith}
 use lib.ListN.{length}
-use Rattle.words.specs.Word.{word}
 use Rattle.links.specs.Links.{_∈_, Links, Holds}
 use Rattle.links.specs.Change.{walk}
 use Rattle.links.proofs.Laws.{walked, fewer, kept}
 use Rattle.tree_table.specs.Field.{field}
-use Rattle.tree_table.specs.View.{View, viewOf, hashAt, removedOf, bucketOf, childrenOf, LiveIn}
+use Rattle.tree_table.specs.View.{View, viewOf, hashAt, removedOf, bucketOf}
 use Rattle.tree_table.specs.Chain.{linkAt, listAt, Ends}
 use Rattle.tree_table.proofs.Chain.{list-is, ends}
-use Rattle.tree_sound.specs.Sound.{Table, up}
 use Rattle.tree_sound.specs.Tables.{Tables, dirs, files}
-use Rattle.tree_promises.specs.Has.{above}
 use Rattle.tree_sound.specs.Sizes.{buckets}
 use Rattle.tree_promises.specs.inner.Ready.{Ready, LiveAt, Single}
 

@@ -1,9 +1,8 @@
 -- Whether an inode is live, by the bucket of its own key.
-use mathlib.Core.Path.{_≡_, refl, sym, ap, _∙_, subst}
-use mathlib.Core.Bool.{Bool, true, false}
-use mathlib.Core.List.{List, [], _∷_}
-use mathlib.Core.Logic.{_≢_}
-use Prim.Native.Nat.{ℕ, suc, _+_, _-_, _*_, _/_, _%_, _≤_, _<_}
+use mathlib.Core.Path.{_≡_, sym, ap, _∙_, subst}
+use mathlib.Core.Bool.{Bool, false}
+use mathlib.Core.List.{List}
+use Prim.Native.Nat.{ℕ, _+_, _-_, _*_, _/_, _%_, _≤_, _<_}
 use native.Mathlib.Nat.{mul-le-mul-right, mod-lt}
 use native.Mathlib.Omega.{arith}
 use lib.ListN.{length, take, drop}
@@ -12,7 +11,7 @@ use Rattle.links.specs.Links.{_∈_}
 use Rattle.tree_key.specs.Key.{keyOf}
 use Rattle.tree_key.specs.Hash.{hashOf}
 use Rattle.tree_table.specs.Field.{field}
-use Rattle.tree_table.specs.View.{View, keyAt, hashAt, bucketOf}
+use Rattle.tree_table.specs.View.{keyAt, hashAt}
 use Rattle.tree_table.specs.Chain.{listAt, Ends, member}
 use Rattle.tree_table.proofs.Chain.{key-part, member-in, in-member}
 use Rattle.tree_sound.specs.Sizes.{buckets}

@@ -2,8 +2,8 @@
 use mathlib.Core.Path.{_≡_, refl, sym, ap, _∙_, subst}
 use mathlib.Core.Bool.{Bool, true, false}
 use mathlib.Core.List.{List, [], _∷_}
-use mathlib.Core.Logic.{_⊎_, inl, inr, _≢_}
-use Prim.Native.Nat.{ℕ, suc, _+_, _-_, _*_, _/_, _%_, _≤_, _<_}
+use mathlib.Core.Logic.{inl, inr, _≢_}
+use Prim.Native.Nat.{ℕ, _+_, _-_, _*_, _/_, _%_, _<_}
 use native.Mathlib.Omega.{arith}
 use lib.ListN.{length}
 use Rattle.order.specs.First.{First}
@@ -11,16 +11,14 @@ use Rattle.order.specs.declared.Answer.the-variants.{Done, NotFound}
 use Rattle.words.specs.Word.{word}
 use Rattle.links.specs.Links.{_∈_}
 use Rattle.links.specs.Change.{pick}
-use Rattle.links.proofs.Laws.{positive}
 use Rattle.tree_key.specs.Key.{sameKey}
 use Rattle.tree_key.specs.Hash.{hashOf}
 use Rattle.tree_key.proofs.Laws.{same-equal, equal-same}
 use Rattle.tree_table.specs.Field.{field}
-use Rattle.tree_table.specs.View.{View, keyAt, hashAt, bucketOf, place, LiveIn}
+use Rattle.tree_table.specs.View.{View, keyAt, bucketOf, place}
 use Rattle.tree_table.specs.Chain.{listAt, seekIn}
 use Rattle.tree_table.specs.declared.Hit.{Hit}
 use Rattle.tree_sound.specs.Sizes.{buckets}
-use Rattle.tree_promises.specs.Has.{Has}
 use Rattle.tree_promises.specs.inner.Ready.{LiveAt, Single, hashed}
 use Rattle.tree_promises.specs.Calls.{Lookup, lookupRows, lookupDone, lookupGives}
 use Rattle.tree_inner.proofs.Lists.{bucket-list, bucket-is}

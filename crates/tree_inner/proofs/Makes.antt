@@ -1,17 +1,15 @@
 -- Make on sound tables, by the places of its code.
 use mathlib.Core.Path.{_≡_, refl, sym, ap, ap₂, _∙_, subst}
-use mathlib.Core.Bool.{Bool, true, false}
-use mathlib.Core.List.{List, [], _∷_, _++_}
-use mathlib.Core.Logic.{_⊎_, inl, inr, ⊎-elim, _≢_}
-use Prim.Native.Nat.{ℕ, zero, suc, _+_, _-_, _*_, _/_, _%_, _≤_, _<_}
+use mathlib.Core.List.{List, [], _∷_}
+use mathlib.Core.Logic.{inl, _≢_}
+use Prim.Native.Nat.{ℕ, zero, suc, _+_, _-_, _*_, _/_, _≤_, _<_}
 use native.Mathlib.Omega.{arith}
-use native.Mathlib.Nat.{mul-le-mul-right, suc-mul, div-mul-le-self}
+use native.Mathlib.Nat.{div-mul-le-self}
 use lib.Dec.{eqb}
 use lib.ListN.{length}
 use Rattle.order.specs.First.{First}
 use Rattle.order.specs.Given.{None}
 use Rattle.order.specs.declared.Answer.the-variants.{Done}
-use Rattle.words.specs.Word.{putWord}
 use Rattle.links.specs.Links.{_∈_, Links}
 use Rattle.links.specs.Change.{pick, walk}
 use Rattle.links.proofs.Laws.{by-eq}
@@ -24,9 +22,9 @@ use Rattle.tree_opens.specs.Opens.{withOpen, Counted, AllCounted}
 use Rattle.tree_promises.specs.Kinds.{kindRoom}
 use Rattle.tree_sound.specs.Tables.{Tables, tables, dirs, files}
 use Rattle.tree_promises.specs.declared.Kind.the-variants.{Directory, File}
-use Rattle.tree_promises.specs.Steps.{linkedTo, withCarried, childless, made}
+use Rattle.tree_promises.specs.Steps.{linkedTo, withCarried, made}
 use Rattle.tree_promises.specs.Calls.{makeTests, makeRows, makeGives, makeDone}
-use Rattle.tree_promises.specs.inner.Ready.{Ready, ReadyOpens, LiveAt, Single, alone, hashed}
+use Rattle.tree_promises.specs.inner.Ready.{Ready, ReadyOpens, Single, alone, hashed}
 use Rattle.tree_inner.specs.inner.Take.{Takes}
 use Rattle.tree_inner.proofs.Lists.{inside, all-fit, dir-single, file-single}
 use Rattle.tree_inner.proofs.Live.{first-fits}

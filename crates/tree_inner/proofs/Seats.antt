@@ -1,26 +1,22 @@
 -- Where an entry of a sound table stands in its lists.
-use mathlib.Core.Path.{_≡_, refl, sym, ap, _∙_, subst}
-use mathlib.Core.List.{List, [], _∷_}
+use mathlib.Core.Path.{_≡_, sym, ap, _∙_, subst}
+use mathlib.Core.List.{List}
 use mathlib.Core.Logic.{_⊎_, ⊎-elim}
-use Prim.Native.Nat.{ℕ, suc, _+_, _-_, _*_, _/_, _%_, _≤_, _<_}
+use Prim.Native.Nat.{ℕ, _+_, _-_, _*_, _/_, _%_, _≤_, _<_}
 use native.Mathlib.Omega.{arith}
-use native.Mathlib.Nat.{mul-le-mul-right}
 use lib.ListN.{length, take, drop}
-use Rattle.words.specs.Word.{word}
-use Rattle.links.specs.Links.{_∈_, Links}
-use Rattle.links.specs.Change.{walk, before}
+use Rattle.links.specs.Links.{_∈_}
+use Rattle.links.specs.Change.{before}
 use Rattle.links.proofs.Held.{before-is}
 use Rattle.tree_key.specs.Key.{keyOf}
 use Rattle.tree_key.specs.Hash.{hashOf}
 use Rattle.tree_table.specs.Field.{field}
 use Rattle.tree_table.specs.View.{keyAt, hashAt, bucketOf, place}
-use Rattle.tree_table.specs.Steps.{bucketBefore}
 use Rattle.tree_table.specs.Chain.{linkAt, listAt, Ends}
 use Rattle.tree_table.proofs.Chain.{key-part}
 use Rattle.tree_sound.specs.Sizes.{buckets}
 use Rattle.tree_promises.specs.inner.Ready.{LiveAt, Single, hashed}
-use Rattle.tree_inner.specs.inner.Seat.{headOf, Listed, InBucket, InList}
-use Rattle.tree_inner.specs.declared.step.Seat.{Seat}
+use Rattle.tree_inner.specs.inner.Seat.{headOf, InParent, InBucket, InList}
 use Rattle.tree_inner.proofs.Lists.{inside, all-fit, bucket-ends, bucket-list, bucket-is}
 use Rattle.tree_inner.proofs.Live.{first-fits, in-hash}
 
@@ -73,7 +69,7 @@ module _ {h t : List ℕ} {w : ℕ} (S : Single h t w) {x : ℕ} (l : LiveAt w t
           before-inside = before-fits x p (own-ends ef) (own-there ef) (first-fits S) ep;
         }
 
-module _ {d : List ℕ} {at : ℕ} {t : List ℕ} {w x : ℕ} (L : Listed d at t w x) (up first : ℕ) (eu : up ≡ linkAt t w 0 x) where
+module _ {d : List ℕ} {at : ℕ} {t : List ℕ} {w x : ℕ} (L : InParent d at t w x) (up first : ℕ) (eu : up ≡ linkAt t w 0 x) where
   up-is : up ≡ field w t x 1
   unfolding field
   up-is = eu

@@ -1,6 +1,6 @@
 // The bytes that a caller keeps in an entry, and its name: read, written and shown on sound tables. Nothing here tests soundness.
 ghost use mathlib.Core.Path.{_≡_};
-ghost use mathlib.Core.List.{[], _∷_};
+ghost use mathlib.Core.List.{[]};
 ghost use Prim.Native.Nat.{_+_, _*_, _≤_};
 ghost use lib.ListN.{length, take, drop, replicate};
 ghost use Rattle.words.specs.Word.{word, putWord};

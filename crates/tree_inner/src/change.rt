@@ -1,8 +1,4 @@
 // The calls inside that change sound entry tables: delete, rename and make. Each judges first and changes nothing where a row applies; none tests soundness.
-ghost use mathlib.Core.Path.{_≡_};
-ghost use mathlib.Core.List.{[], _∷_};
-ghost use Prim.Native.Nat.{_+_, _*_, _/_, _≤_, _<_};
-ghost use lib.ListN.{length};
 ghost use Rattle.order.specs.First.{First};
 ghost use Rattle.tree_sound.specs.Tables.{Tables, tables};
 ghost use Rattle.tree_promises.specs.declared.Kind.the-variants.{Directory, File};

@@ -1,7 +1,7 @@
 // What the tests before a step decide on sound tables: that no row applies, or the answer of the first that does. Nothing is changed here.
 ghost use mathlib.Core.Path.{_≡_};
-ghost use mathlib.Core.List.{[], _∷_};
-ghost use Prim.Native.Nat.{_+_, _*_, _/_, _≤_, _<_};
+ghost use mathlib.Core.List.{[]};
+ghost use Prim.Native.Nat.{_/_, _≤_, _<_};
 ghost use lib.ListN.{length};
 ghost use Rattle.tree_key.specs.Key.{keyWords, nameKey};
 ghost use Rattle.order.specs.Tells.{Tells};

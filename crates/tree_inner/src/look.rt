@@ -1,7 +1,6 @@
 // What stands in sound entry tables: the inner calls that look, and those that touch open counts alone. Each requires soundness and tests nothing.
 ghost use mathlib.Core.Path.{_≡_};
 ghost use Prim.Native.Nat.{_-_, _/_, _≤_};
-ghost use lib.ListN.{length};
 ghost use Rattle.order.specs.First.{First};
 ghost use Rattle.tree_promises.specs.Calls.{openRows, openDone, closeRows, closeDone, openingGives, lookupRows, lookupDone, lookupGives, listGives, shortRows, listedDone, ListDirs, ListFiles, statGives, statDone};
 ghost use Rattle.order.specs.Tells.{Tells};

@@ -1,7 +1,7 @@
 // The steps on the four tables: an entry leaves its bucket and its parent's list, or enters them. Each asks for what soundness gives, and tests nothing.
 // A directory's entry and its parent's stand in one table, which can't be lent twice: so the steps of directories take it once, those of files take both.
 ghost use mathlib.Core.Path.{_≡_};
-ghost use mathlib.Core.List.{[], _∷_, _++_};
+ghost use mathlib.Core.List.{[], _++_};
 ghost use Prim.Native.Nat.{_+_, _*_, _/_, _≤_, _<_};
 ghost use lib.ListN.{length};
 ghost use Rattle.tree_sound.specs.Tables.{tables};
@@ -11,7 +11,7 @@ ghost use Rattle.tree_promises.specs.inner.Ready.{LiveAt, Single};
 ghost use Rattle.tree_table.specs.Field.{wrote, nextField, subDirField, subFileField};
 ghost use Rattle.tree_table.specs.Steps.{cutWrites, headWrites};
 ghost use lib.Dec.{eqb};
-ghost use Rattle.tree_inner.specs.inner.Seat.{Listed, InBucket, InList};
+ghost use Rattle.tree_inner.specs.inner.Seat.{InParent, InBucket, InList};
 use tree_key::SaveExtDirEntry;
 use tree_key::SaveExtFileEntry;
 use tree_key::SaveExtKey;
@@ -49,7 +49,7 @@ fn in_bucket(hash: &[u8], table: &[u8], w: usize, x: u32) -> Seat
 
 // Where entry x stands in its parent's list, whose head is at place `at` of the parent's entry.
 fn in_parent(dirs: &[u8], at: usize, table: &[u8], w: usize, x: u32) -> Child
-    requires { ⌜ Listed (now dirs) at (now table) w x × (at + 4 ≤ 40) × (28 ≤ w) ⌝ }
+    requires { ⌜ InParent (now dirs) at (now table) w x × (at + 4 ≤ 40) × (28 ≤ w) ⌝ }
     ensures { λ r. ⌜ InList (now (dirs .entry)) at (now (table .entry)) w x r ⌝ }
 {
     let up = tree_table::link_of(table, w, 0, x);
@@ -112,7 +112,7 @@ fn leave_file(dirs: &mut [u8], files: &mut [u8], up: u32, before: u32, after: u3
 
 // Directory x leaves its bucket and its parent's list.
 pub fn unlink_dir(hash: &mut [u8], dirs: &mut [u8], x: u32)
-    requires { ⌜ Single (now hash) (now dirs) 40 × LiveAt 40 (now dirs) x × Listed (now dirs) 24 (now dirs) 40 x ⌝ }
+    requires { ⌜ Single (now hash) (now dirs) 40 × LiveAt 40 (now dirs) x × InParent (now dirs) 24 (now dirs) 40 x ⌝ }
     ensures { λ _. ⌜ (now (hash .exit) ≡ unlinkedFrom Directory (tables (now (hash .entry)) (now (dirs .entry)) [] []) x .dirHash)
         × (now (dirs .exit) ≡ unlinkedFrom Directory (tables (now (hash .entry)) (now (dirs .entry)) [] []) x .dirTable) ⌝ }
 {
@@ -137,7 +137,7 @@ pub fn unlink_dir(hash: &mut [u8], dirs: &mut [u8], x: u32)
 
 // File x leaves its bucket and its parent's list.
 pub fn unlink_file(dirs: &mut [u8], hash: &mut [u8], files: &mut [u8], x: u32)
-    requires { ⌜ Single (now hash) (now files) 48 × LiveAt 48 (now files) x × Listed (now dirs) 28 (now files) 48 x ⌝ }
+    requires { ⌜ Single (now hash) (now files) 48 × LiveAt 48 (now files) x × InParent (now dirs) 28 (now files) 48 x ⌝ }
     ensures { λ _. ⌜ (now (dirs .exit) ≡ unlinkedFrom File (tables [] (now (dirs .entry)) (now (hash .entry)) (now (files .entry))) x .dirTable)
         × (now (hash .exit) ≡ unlinkedFrom File (tables [] (now (dirs .entry)) (now (hash .entry)) (now (files .entry))) x .fileHash)
         × (now (files .exit) ≡ unlinkedFrom File (tables [] (now (dirs .entry)) (now (hash .entry)) (now (files .entry))) x .fileTable) ⌝ }

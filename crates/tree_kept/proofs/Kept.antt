@@ -14,7 +14,7 @@ use Rattle.tree_key.specs.Key.{nameKey}
 use Rattle.tree_table.specs.View.{View, removedOf, LiveIn}
 use Rattle.tree_table.specs.Steps.{freeOf}
 use Rattle.tree_table.proofs.Table.{Space, rest}
-use Rattle.tree_sound.specs.Sound.{Sound, up}
+use Rattle.tree_sound.specs.Sound.{up}
 use Rattle.tree_sound.proofs.Tree.{Tree}
 use Rattle.tree_sound.proofs.Equal.{tree-of, sound-of}
 use Rattle.tree_sound.specs.Tables.{Tables, dirs, files, SoundIn}

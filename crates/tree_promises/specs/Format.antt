@@ -6,7 +6,6 @@ use Prim.Native.Nat.{ℕ, _*_, _%_, _<_}
 use lib.ListN.{length, replicate}
 use Rattle.order.specs.First.{Row, row, First}
 use Rattle.order.specs.Gate.{cleared}
-use Rattle.order.specs.declared.Answer.{Answer}
 use Rattle.order.specs.declared.Answer.the-variants.{Done, SizeMismatch, InvalidValue}
 use Rattle.tree_key.specs.Hash.{hashOf}
 use Rattle.tree_table.specs.Field.{write, wrote, collisionField, countField, maximumField}

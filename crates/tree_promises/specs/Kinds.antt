@@ -1,5 +1,5 @@
 -- The directories and the files, by kind: what is said of both is said once, over the kind.
-use mathlib.Core.List.{List, [], _∷_, _++_}
+use mathlib.Core.List.{List, _++_}
 use Prim.Native.Nat.{ℕ}
 use Rattle.tree_table.specs.Field.{Write, wrote, subDirField, subFileField}
 use Rattle.tree_table.specs.View.{View}

@@ -1,7 +1,7 @@
 -- Where an entry stands in its two lists, as the code that takes it out finds it.
 use mathlib.Core.Path.{_≡_}
 use mathlib.Core.List.{List}
-use Prim.Native.Nat.{ℕ, _+_, _*_, _<_, _≤_}
+use Prim.Native.Nat.{ℕ, _+_, _*_, _≤_}
 use lib.ListN.{length}
 use Rattle.links.specs.Links.{_∈_}
 use Rattle.links.specs.Change.{walk, before}
@@ -18,7 +18,7 @@ abbrev pub headOf : List ℕ → ℕ → List ℕ → ℕ → ℕ → ℕ
 headOf d at t w x = linkAt d 40 at (field w t x 1)
 
 -- entry x lies in the table, its parent's entry among the directories, and its parent's list ends and holds it
-pub record Listed (d : List ℕ) (at : ℕ) (t : List ℕ) (w x : ℕ) : Type 0 where
+pub record InParent (d : List ℕ) (at : ℕ) (t : List ℕ) (w x : ℕ) : Type 0 where
   pub inside : x * w + w ≤ length t
   pub up-inside : field w t x 1 * 40 + 40 ≤ length d
   pub ends : Ends t w 20 (headOf d at t w x)
