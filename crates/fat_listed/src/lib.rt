@@ -182,9 +182,9 @@ fn store(data: &mut [u8], n: usize, block_len: usize, list: &[u32], pos: usize, 
         let s = share_at(list, block_len, i, from, len - done);
         let at = s.at;
         let to = at + s.len;
-        let end = done + s.len;
-        copy(&mut data[at..to], &buf[done..end]);
-        done = end;
+        let upto = done + s.len;
+        copy(&mut data[at..to], &buf[done..upto]);
+        done = upto;
         from = 0;
         i += 1;
     }

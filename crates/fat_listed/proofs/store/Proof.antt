@@ -31,8 +31,8 @@ share-at-requires c κs = (turn-in _ _ _ _ _ _ _ _ (c .before .before .before .b
 add-to : tie.Need-add-to Inv-loop μ-loop
 add-to c = omega (arith, turn-data _ _ _ _ _ _ _ _ (c .before .before .before .before .before .before .before .pre .1) (c .before .before .loop-test .taken) (c .before .before .before .loop .inv .0 .at (c .before .before .loop-test .taken)) _ _ (c .before .share-at .ensures), c .before .before .before .before .before .before .before .pre .0 .0 .fits)
 
-add-end : tie.Need-add-end Inv-loop μ-loop
-add-end c = omega (arith, turn-upto _ _ _ _ _ _ _ _ (c .before .before .before .before .before .before .before .before .pre .1) (c .before .before .before .loop-test .taken) (c .before .before .before .before .loop .inv .0 .at (c .before .before .before .loop-test .taken)) _ _ (c .before .before .share-at .ensures))
+add-upto : tie.Need-add-upto Inv-loop μ-loop
+add-upto c = omega (arith, turn-upto _ _ _ _ _ _ _ _ (c .before .before .before .before .before .before .before .before .pre .1) (c .before .before .before .loop-test .taken) (c .before .before .before .before .loop .inv .0 .at (c .before .before .before .loop-test .taken)) _ _ (c .before .before .share-at .ensures))
 
 sub-copy : tie.Need-sub-copy Inv-loop μ-loop
 sub-copy c = omega arith
@@ -82,7 +82,7 @@ store-spec =
     sub-share-at
     share-at-requires
     add-to
-    add-end
+    add-upto
     sub-copy
     part-copy-start
     part-copy-end
