@@ -104,7 +104,7 @@ pub enum Access {
 #[derive(Debug)]
 pub struct Folder {
     path: PathBuf,
-    _lock: Option<File>,
+    lock: Option<File>,
 }
 
 impl Folder {
@@ -117,7 +117,7 @@ impl Folder {
         if !about.is_dir() {
             return Err(FolderError::NotAFolder(path.into()));
         }
-        let folder = Folder { path: path.into(), _lock: lock(path, access, wait)? };
+        let folder = Folder { path: path.into(), lock: lock(path, access, wait)? };
         if access == Access::Change {
             folder.recover()?;
         }
@@ -259,6 +259,16 @@ impl Folder {
         match journal::drop_part(&self.path).map_err(host)? {
             None => Ok(()),
             Some(path) => Err(FolderError::Foreign(path)),
+        }
+    }
+}
+
+/// The lock is given back at once, and not when the last copy of the open folder goes: a program that is being started
+/// by another thread may hold one for a moment.
+impl Drop for Folder {
+    fn drop(&mut self) {
+        if let Some(lock) = &self.lock {
+            let _ = lock.unlock();
         }
     }
 }
