@@ -14,7 +14,8 @@ use Rattle.fat_table.specs.Changes.{Kept, entriesOf, createEntries, resizeEntri
 use Rattle.fat_table.proofs.Unchanged.{formatted-keeps, created-keeps, resized-keeps, deleted-keeps}
 use Rattle.fat_promises.specs.Promise.{Beside}
 use Rattle.fat_promises.specs.Calls.{Create, CreatePromise, Change, ResizePromise, DeletePromise}
-use Rattle.fat_history.proofs.Means.{are-bytes, format-means, create-keeps, resize-keeps, delete-keeps}
+use Rattle.fat_history.proofs.Passes.{are-bytes}
+use Rattle.fat_history.proofs.Means.{format-means, create-keeps, resize-keeps, delete-keeps}
 use Rattle.fat_history.proofs.Formats.{format-cases}
 
 -- a table that is as it was
@@ -36,8 +37,8 @@ module _ (t : Bytes) (d l : ℕ) (work : List ℕ) (g : AreBytes t) where
       ⊎-elim
       (λ q. same e t (o .given .table) q)
       (λ q.
-      subst⁻¹ (λ (x : Beside Create). Kept e t (x .given .table)) (q .1)
-      (created-keeps (blocks t) t (q .0 .passed .whole) count (q .0 .some) (q .0 .enough)))
+      subst⁻¹ (λ (x : Beside Create). Kept e t (x .given .table)) (q .is)
+      (created-keeps (blocks t) t (q .passed .whole) count (q .may .some) (q .may .enough)))
       (create-keeps t d l work count o (are-bytes t g) p)
 
   pub other-resize : (b count : ℕ) (o : Beside Change) → ResizePromise t d l work b count o → Kept (resizeEntries (blocks t) t b count) t (o .given .table)
@@ -46,8 +47,8 @@ module _ (t : Bytes) (d l : ℕ) (work : List ℕ) (g : AreBytes t) where
       ⊎-elim
       (λ q. same e t (o .given .table) q)
       (λ q.
-      subst⁻¹ (λ (x : Beside Change). Kept e t (x .given .table)) (q .1)
-      (resized-keeps (blocks t) t (q .0 .passed .whole) b count (q .0 .file) (q .0 .some) (q .0 .enough)))
+      subst⁻¹ (λ (x : Beside Change). Kept e t (x .given .table)) (q .is)
+      (resized-keeps (blocks t) t (q .passed .whole) b count (q .may .file) (q .may .some) (q .may .enough)))
       (resize-keeps t d l work b count o (are-bytes t g) p)
 
   pub other-delete : (b : ℕ) (o : Beside Change) → DeletePromise t d l work b o → Kept (deleteEntries (blocks t) t b) t (o .given .table)
@@ -56,6 +57,6 @@ module _ (t : Bytes) (d l : ℕ) (work : List ℕ) (g : AreBytes t) where
       ⊎-elim
       (λ q. same e t (o .given .table) q)
       (λ q.
-      subst⁻¹ (λ (x : Beside Change). Kept e t (x .given .table)) (q .1)
-      (deleted-keeps (blocks t) t (q .0 .passed .whole) b (q .0 .file)))
+      subst⁻¹ (λ (x : Beside Change). Kept e t (x .given .table)) (q .is)
+      (deleted-keeps (blocks t) t (q .passed .whole) b (q .may .file)))
       (delete-keeps t d l work b o (are-bytes t g) p)

@@ -19,7 +19,8 @@ use Rattle.fat_table.proofs.Stepped.{holds-format}
 use Rattle.fat_table.proofs.Files.{file-of}
 use Rattle.fat_history.specs.Away.{Away, none, creates, resizes, deletes, writes}
 use Rattle.fat_history.specs.Formats.{Calls, away, formats, Stays, Ended}
-use Rattle.fat_history.proofs.Means.{Fits, format-means}
+use Rattle.fat_history.proofs.Passes.{Fits}
+use Rattle.fat_history.proofs.Means.{format-means}
 use Rattle.fat_history.proofs.Honest.{blocks-of}
 use Rattle.fat_history.proofs.Theorems.{apart}
 
