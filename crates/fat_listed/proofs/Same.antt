@@ -27,13 +27,14 @@ use Rattle.fat_table.specs.Sound.{Sound, File}
 use Rattle.fat_table.specs.Chain.{total, chainAt, fileAt}
 use Rattle.fat_test.specs.Gate.{blockGate}
 use Rattle.fat_promises.specs.Blocks.{blocksFrom, blocksOf, bytesAt, written}
-use Rattle.fat_promises.specs.Promise.{Beside, beside}
+use Rattle.fat_promises.specs.Promise.{Beside, beside, Promise}
 use Rattle.fat_promises.specs.Calls.{Carry, carryGives, carryRows, readDone, writeDone, sizeOf, ReadPromise, WritePromise, Listing, listGives, listDone, ListPromise}
-use Rattle.fat_inner.specs.Inner.{Volume, Chain}
-use Rattle.fat_inner.specs.Stretches.{Data}
+use Rattle.fat_inner.specs.Volume.{Volume}
+use Rattle.fat_inner.specs.inner.Chains.{Chain}
+use Rattle.fat_inner.specs.Volume.{Data}
 use Rattle.fat_inner.proofs.Lists.{length-from, length-blocks}
 use Rattle.fat_inner.proofs.Joins.{mid-within}
-use Rattle.fat_inner.proofs.Done.{file-from}
+use Rattle.fat_inner.proofs.Found.{file-from}
 use Rattle.fat_listed.proofs.Tests.{fit-none}
 use Rattle.fat_listed.specs.Listed.{Uneven, Unfit, Foreign, listedTests, ReadBlocksPromise, WriteBlocksPromise}
 
@@ -138,6 +139,7 @@ module _ (t : Bytes) (d l b count : ℕ) (work work′ list list′ : List ℕ) 
   number o e = ap (λ (o : Beside Listing). numberOf (o .given .answer)) e
 
   pub listed : ListPromise t d l work b list (beside (listGives Done count list′) work′) → Listed t d l b count list′
+  unfolding Promise
   listed (inl p) = absurd (omega (arith, number _ (p .1)))
   listed (inr (m, inl p)) = absurd (omega (arith, number _ (p .1)))
   listed (inr (m, inr (i, inl p))) = absurd (omega (arith, number _ (p .1)))
@@ -169,6 +171,7 @@ module _ (t d : Bytes) (l b count : ℕ) (list : List ℕ) (g : AreBytes t) (w :
   }
 
   pub opened-read : ReadBlocksPromise d l (take count list) pos buf o → ReadPromise t d l work b pos buf (beside o (cleared (blocks t) work))
+  unfolding Promise
   opened-read p =
       rows.passed
       (blockGate (λ a w. beside (carryGives a buf) w) t (length d) l work)
@@ -181,6 +184,7 @@ module _ (t d : Bytes) (l b count : ℕ) (list : List ℕ) (g : AreBytes t) (w :
       (subst (λ (x : List ℕ). ReadBlocksPromise d l x pos buf o) (w .is) p))
 
   pub opened-write : WriteBlocksPromise d l (take count list) pos buf o → WritePromise t d l work b pos buf (beside o (cleared (blocks t) work))
+  unfolding Promise
   opened-write p =
       rows.passed
       (blockGate (λ a w. beside (carryGives a d) w) t (length d) l work)

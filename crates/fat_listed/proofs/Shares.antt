@@ -10,7 +10,7 @@ use lib.Seq.{sets, length-sets, length-take-le, take-length, take-add}
 use Rattle.fat_node.specs.Entry.{Bytes}
 use Rattle.fat_node.proofs.Nodes.{le-or-lt}
 use Rattle.fat_promises.specs.Blocks.{placeOf, bytesAt, written}
-use Rattle.fat_inner.specs.Inner.{Least}
+use Rattle.fat_inner.specs.inner.Chains.{Least}
 use Rattle.fat_inner.proofs.Lists.{sets-append}
 use Rattle.fat_inner.proofs.Puts.{lent-back, sets-whole}
 use Rattle.fat_inner.proofs.InRow.{length-bytes, bytes-split, bytes-row, written-append, written-row, InRow}

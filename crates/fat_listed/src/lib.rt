@@ -2,7 +2,7 @@
 ghost use mathlib.Core.Path.{_≡_};
 ghost use Prim.Native.Nat.{_+_, _*_, _/_, _≤_, _<_};
 ghost use lib.ListN.{length, getD};
-ghost use Rattle.fat_inner.specs.Stretches.{Data};
+ghost use Rattle.fat_inner.specs.Volume.{Data};
 ghost use Rattle.fat_promises.specs.Calls.{carryGives};
 ghost use Rattle.fat_promises.specs.Blocks.{bytesAt, written};
 ghost use Rattle.order.specs.Tells.{Tells};
