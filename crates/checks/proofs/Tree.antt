@@ -208,7 +208,7 @@ unfolding putWord hashOf mix rotated
 lengths1 = (refl, refl, refl, refl)
 
 live1 : LiveIn (dirs s1) 1
-live1 = fresh-sound (dirs s1) (files s1) fresh1 .root-live
+live1 = fresh-sound (dirs s1) (files s1) fresh1 .dirs .root-live
 
 -- no directory has the new key yet
 no-key1 : Has (dirs s1) key → ⊥
