@@ -1,4 +1,4 @@
--- The checks of the block table, in document 01's order. A state is a table.
+-- The checks of the block table, in the order of RULES 8. A state is a table.
 use mathlib.Core.List.{List, [], _∷_}
 use Prim.Native.Nat.{ℕ, _+_, _*_}
 use lib.ListN.{replicate}
@@ -124,7 +124,7 @@ create1 = creates 1 (0 ∷ 0 ∷ 0 ∷ 2 ∷ 0x80000000 ∷ 0 ∷ 0x80000000 ∷
 abbrev pub create2 : Check Bytes
 create2 = creates 2 (0 ∷ 1 ∷ 0 ∷ 4 ∷ 0x80000000 ∷ 0 ∷ 0x80000000 ∷ 0x80000000 ∷ 0x80000002 ∷ 3 ∷ 0x80000000 ∷ 0 ∷ [])
 
--- head, entry 1 and entry 4 as document 01 has them; the file at 1 keeps its entries
+-- head, entry 1 and entry 4 as RULES 8 has them; the file at 1 keeps its entries
 abbrev pub delete0 : Check Bytes
 delete0 = deletes 0 (0 ∷ 0 ∷ 1 ∷ 0x80000000 ∷ 4 ∷ 0x80000000 ∷ 0x80000000 ∷ 0x80000002 ∷ 3 ∷ 1 ∷ 0 ∷ [])
 

@@ -1,4 +1,4 @@
--- The checks of the entry tables, in document 01's order. A state is the four tables.
+-- The checks of the entry tables, in the order of RULES 8. A state is the four tables.
 use mathlib.Core.Path.{_≡_}
 use mathlib.Core.List.{List, [], _∷_, _++_}
 use Prim.Native.Nat.{ℕ, zero, suc, _+_, _%_}

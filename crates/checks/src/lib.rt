@@ -1,1 +1,1 @@
-// The checks of document 01 that are proved: one list, one statement.
+// The checks of RULES 8 that are proved: one list, one statement.

@@ -18,7 +18,7 @@ formatted n t = setHead (setNode t (run 0 n) 0 0) 1
 abbrev pub formatGives : (answer : Answer) (table : Bytes) → Formatted × Bytes
 formatGives answer table = (record { answer = answer }, table)
 
--- its rows, in document 01's order: the table stays
+-- its rows, in the order of RULES 2.2: the table stays
 abbrev pub formatRows : (t : Bytes) → List (Row (Formatted × Bytes))
 formatRows t = row (Misfit t) (formatGives SizeMismatch t) ∷ row (Outside t) (formatGives InvalidValue t) ∷ []
 

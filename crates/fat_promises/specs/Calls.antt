@@ -1,4 +1,4 @@
--- What each call on files promises. Its tests are its own refusals, in document 01's order, decided where sizes, work list and soundness have passed; a
+-- What each call on files promises. Its tests are its own refusals, in the order of RULES 2.2, decided where sizes, work list and soundness have passed; a
 -- refusal changes nothing. May.. says by name what stands where no test applies, ..Done what Done gives, ..Sound both of a sound table, and ..Promise the
 -- whole. n is the number of blocks, t the table, d the length of the data or the data, l the block length, b the given first block.
 use mathlib.Core.Path.{_≡_}

@@ -1,4 +1,4 @@
--- Soundness of the block table, sentence by sentence as document 01 has it, and what the test of it answers.
+-- Soundness of the block table, sentence by sentence as RULES 3.4 has it, and what the test of it answers.
 use mathlib.Core.Path.{_≡_}
 use Prim.Native.Nat.{ℕ, _+_, _<_}
 use Rattle.fat_node.specs.Entry.{Bytes, vAt}

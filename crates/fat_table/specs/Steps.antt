@@ -1,4 +1,4 @@
--- The steps of document 01 as functions on the table's bytes; n is the number of blocks. A chain that a step changes is laid whole, so a node that does
+-- The steps of RULES 4 as functions on the table's bytes; n is the number of blocks. A chain that a step changes is laid whole, so a node that does
 -- not change is given the bytes that it has: that no other entry changes is a theorem about these definitions.
 use mathlib.Core.List.{List, [], _∷_, _++_}
 use mathlib.Core.Bool.{cond}

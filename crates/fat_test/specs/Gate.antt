@@ -1,4 +1,4 @@
--- The rows that the calls on a block table begin with: sizes, work list, soundness, in document 01's order.
+-- The rows that the calls on a block table begin with: sizes, work list, soundness, in the order of RULES 2.2.
 use mathlib.Core.Path.{_≡_}
 use mathlib.Core.List.{List, [], _∷_}
 use mathlib.Core.Logic.{_⊎_}

@@ -23,6 +23,6 @@ testRefused answer work = (tested answer 0 0, work)
 abbrev pub testDone : (t : Bytes) (work : List ℕ) → Tested × List ℕ
 testDone t work = (tested Done (freeBlocks (blocks t) t) (otherChains (blocks t) t), cleared (blocks t) work)
 
--- the promise of the test: its rows in document 01's order, and what Done gives
+-- the promise of the test: its rows in the order of RULES 2.2, and what Done gives
 abbrev pub TestPromise : (t : Bytes) (work : List ℕ) (o : Tested × List ℕ) → Type 0
 TestPromise t work o = First (testGate testRefused t work) (testDone t work) o

@@ -1,4 +1,4 @@
--- The numbers of document 01's table, for the answers by name.
+-- The numbers of RULES 2.1, for the answers by name.
 use Prim.Native.Nat.{ℕ}
 use Rattle.order.specs.declared.Answer.{Answer}
 use Rattle.order.specs.declared.Answer.the-variants.{
@@ -22,7 +22,7 @@ use Rattle.order.specs.declared.Answer.the-variants.{
   TooManyOpens,
 }
 
--- the number that document 01 gives an answer
+-- the number of an answer (RULES 2.1)
 abbrev pub numberOf : Answer → ℕ
 numberOf Done = 0
 numberOf SizeMismatch = 1

@@ -1,4 +1,4 @@
--- A promise as document 01's table has it: rows in order, and what is given is the first row's that applies, or what Done gives where none does.
+-- A promise as RULES 2.2 has it: rows in order, and what is given is the first row's that applies, or what Done gives where none does.
 use mathlib.Core.Path.{_≡_}
 use mathlib.Core.List.{List, [], _∷_}
 use mathlib.Core.Logic.{_⊎_}

@@ -1,4 +1,4 @@
-// The answers that a call can give, by document 01's names, and the work list's clearing.
+// The answers that a call can give, by the names of RULES 2.1, and the work list's clearing.
 ghost use mathlib.Core.Path.{_≡_};
 ghost use lib.ListN.{length, replicate};
 ghost use Rattle.order.specs.Answer.{numberOf};

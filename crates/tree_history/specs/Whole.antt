@@ -11,7 +11,7 @@ pub record Lent (s : Tables) : Type 0 where
   pub file-hash : AreBytes (s .fileHash)
   pub file-table : AreBytes (s .fileTable)
 
--- four tables of bytes whose sizes are within document 01's, and that are sound
+-- four tables of bytes whose sizes are within the bounds of RULES 1.2, and that are sound
 pub record Whole (s : Tables) : Type 0 where
   pub lent : Lent s
   pub fits : MisfitIn s → ⊥

@@ -1,4 +1,4 @@
--- Every tree call that is answered Done leaves sound tables: where document 01's rows let a step pass, the step keeps Sound. The hypotheses are the
+-- Every tree call that is answered Done leaves sound tables: where the rows of RULES 2.2 let a step pass, the step keeps Sound. The hypotheses are the
 -- rows' own conditions, not met.
 use mathlib.Core.Path.{_≡_, refl, sym, ap, subst}
 use mathlib.Core.List.{List, [], _∷_}

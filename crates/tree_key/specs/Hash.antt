@@ -15,6 +15,6 @@ abbrev pub mixed : ℕ → List ℕ → ℕ
 mixed h [] = h
 mixed h (w ∷ ws) = mixed (mix h w) ws
 
--- document 01: start 0x12345678, then each word of the key
+-- RULES 5.3: start 0x12345678, then each word of the key
 unfoldable pub hashOf : List ℕ → ℕ
 hashOf key = mixed 0x12345678 key

@@ -1,4 +1,4 @@
--- What each call on the entry tables promises: its own rows, in document 01's order, and what Done gives. s are the four tables, v the view of the table
+-- What each call on the entry tables promises: its own rows, in the order of RULES 2.2, and what Done gives. s are the four tables, v the view of the table
 -- that the call is about, x an inode, p a parent's inode, k a key. These rows are decided where sizes, work list and soundness have passed.
 use mathlib.Core.Path.{_≡_}
 use mathlib.Core.List.{List, [], _∷_, _++_}

@@ -18,7 +18,7 @@ abbrev pub FormatMisfit : (s : Tables) (dm fm : ℕ) → Type 0
 FormatMisfit s dm fm =
     MisfitIn s ⊎ (length (s .dirTable) < dm * 40) ⊎ (length (s .fileTable) < fm * 48)
 
--- a size outside document 01's, or a maximum that is not from 2 (directories) or 1 (files) to 65,536
+-- a size out of the bounds of RULES 1.2, or a maximum that is not from 2 (directories) or 1 (files) to 65,536
 abbrev pub FormatOutside : (s : Tables) (dm fm : ℕ) → Type 0
 FormatOutside s dm fm =
     OutsideIn s ⊎ (dm < 2) ⊎ (65536 < dm) ⊎ (fm < 1) ⊎ (65536 < fm)

@@ -1,4 +1,4 @@
--- Document 01's steps on the four tables, as writes to their fields, for directories and files alike. Make is take, link and carry; delete is unlink and
+-- The steps of RULES 6 on the four tables, as writes to their fields, for directories and files alike. Make is take, link and carry; delete is unlink and
 -- give up; rename is unlink and link. x is an entry, p its parent, name sixteen bytes.
 use mathlib.Core.List.{List, [], _∷_, _++_}
 use Prim.Native.Nat.{ℕ}

@@ -1,4 +1,4 @@
--- Document 01's Sound and the form that the steps are proved with say the same.
+-- Sound, as RULES 5.7 has it, and the form that the steps are proved with say the same.
 use mathlib.Core.Path.{_≡_, refl, sym, ap, _∙_, subst}
 use mathlib.Core.List.{List, [], _∷_}
 use mathlib.Core.Logic.{_⊎_, inl, inr, ⊎-elim, _≢_, _↔_}
@@ -40,7 +40,7 @@ half-of D v root B same = record {
 }
 
 module _ (D F : View) (dir-root : D .root ≡ 1) (file-root : F .root ≡ 0) where
-  -- from 01's sentences
+  -- from the sentences of RULES 5.7
   pub tree-of : whole.Sound D F → Tree D F (removedOf D) (removedOf F)
   tree-of S = record {
     dirs = half-of D D 1 (S .dirs .below) dir-root;

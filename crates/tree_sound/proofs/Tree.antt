@@ -1,5 +1,5 @@
 -- The two tables as one tree, in the form that the steps are proved with: each table sound with one loose inode (0 for none) and its removed list at
--- hand. It is document 01's Sound, and make, delete and rename keep it.
+-- hand. It is Sound (RULES 5.7), and make, delete and rename keep it.
 use mathlib.Core.Path.{_≡_, refl, sym, ap, _∙_, subst}
 use mathlib.Core.List.{List, [], _∷_, _++_}
 use mathlib.Core.Logic.{_⊎_, inl, inr, ⊎-elim, _≢_, _↔_}

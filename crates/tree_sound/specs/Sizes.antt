@@ -31,6 +31,6 @@ Misfit dh d fh f = HashMisfit dh ⊎ (length d < 40) ⊎ HashMisfit fh ⊎ (leng
 abbrev pub Beyond : ℕ → Type 0
 Beyond n = (n < 1) ⊎ (65536 < n)
 
--- one of the four has a size outside document 01's
+-- one of the four has a size out of the bounds of RULES 1.2
 abbrev pub Outside : List ℕ → List ℕ → List ℕ → List ℕ → Type 0
 Outside dh d fh f = Beyond (buckets dh) ⊎ Beyond (dirRoom d) ⊎ Beyond (buckets fh) ⊎ Beyond (fileRoom f)

@@ -1,4 +1,4 @@
--- Soundness of the two entry tables together, sentence by sentence as document 01 has it. D are the directories and F the files, as their views. The
+-- Soundness of the two entry tables together, sentence by sentence as RULES 5.7 has it. D are the directories and F the files, as their views. The
 -- inodes from 1 below count that are not removed are live: LiveIn is that sentence.
 use mathlib.Core.Path.{_≡_}
 use mathlib.Core.List.{List, [], _∷_}

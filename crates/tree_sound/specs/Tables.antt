@@ -22,7 +22,7 @@ dirs s = dirView (s .dirHash) (s .dirTable)
 abbrev pub files : Tables → View
 files s = fileView (s .dirTable) (s .fileHash) (s .fileTable)
 
--- one of the four does not fit; one has a size outside document 01's; the places of the work list that they name; they are sound
+-- one of the four does not fit; one has a size out of the bounds of RULES 1.2; the places of the work list that they name; they are sound
 abbrev pub MisfitIn : Tables → Type 0
 MisfitIn s = Misfit (s .dirHash) (s .dirTable) (s .fileHash) (s .fileTable)
 

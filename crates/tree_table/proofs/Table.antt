@@ -18,7 +18,7 @@ use Rattle.tree_table.specs.Steps.{taken, bucketBefore, childBefore}
 abbrev pub Here : View → List ℕ → ℕ → ℕ → Type 0
 Here v R x y = Live (v .count) R y × (y ≢ x)
 
--- 01's rule of one table, with `Dir` the live directories, R the removed list, and x the one live entry that stands in no bucket and no child list; 0 for none
+-- the rules of one table (RULES 5.7), with `Dir` the live directories, R the removed list, and x the one live entry that stands in no bucket and no child list; 0 for none
 pub record Sound (v : View) (Dir : ℕ → Type 0) (R : List ℕ) (x : ℕ) : Type 0 where
   pub max-room : v .maximum ≤ v .room
   pub count-one : 1 ≤ v .count

@@ -1,4 +1,4 @@
--- Document 01's steps on one table, as writes to its fields. m is the table's fields before the step.
+-- The steps of RULES 6.2 to 6.5 on one table, as writes to its fields. m is the table's fields before the step.
 use mathlib.Core.List.{List, [], _∷_, _++_}
 use mathlib.Core.Bool.{Bool, true, false}
 use Prim.Native.Nat.{ℕ, zero, suc, _+_, _-_, _/_}

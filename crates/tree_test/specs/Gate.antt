@@ -1,4 +1,4 @@
--- The rows that the calls on the entry tables begin with: sizes, work list, soundness, in document 01's order. s are the four tables.
+-- The rows that the calls on the entry tables begin with: sizes, work list, soundness, in the order of RULES 2.2. s are the four tables.
 use mathlib.Core.List.{List, [], _∷_}
 use mathlib.Core.Logic.{_⊎_}
 use Prim.Native.Nat.{ℕ, _<_}

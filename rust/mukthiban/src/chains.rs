@@ -5,7 +5,7 @@ use crate::volume::Volume;
 
 impl Volume {
     /// The blocks of a file, in chain order, as [`Volume::open_list`] gives them. The nodes before the file are not
-    /// looked at: that the block begins one is known from the counts, and the chain is followed by document 01's node
+    /// looked at: that the block begins one is known from the counts, and the chain is followed by the node
     /// rule on a table that the test has accepted.
     ///
     /// ```

@@ -1,4 +1,4 @@
--- `order::number` gives document 01's numbers.
+-- `order::number` gives the numbers of RULES 2.1.
 use mathlib.Core.Path.{ap, sym}
 use Rattle.order.specs.Answer.{numberOf}
 use borrow.Author.Needs.{needs}

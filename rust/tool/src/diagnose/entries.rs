@@ -1,4 +1,4 @@
-//! Hints for entry tables that are refused, rule by rule as document 01 has them.
+//! Hints for entry tables that are refused, rule by rule as RULES 5.7 has them.
 
 use super::Hints;
 use crate::name::shown;
