@@ -4,7 +4,6 @@ use mathlib.Core.List.{List, [], _∷_}
 use mathlib.Core.Logic.{_⊎_}
 use Prim.Native.Nat.{ℕ, _<_}
 use lib.ListN.{getD, length}
-use Rattle.order.specs.First.{First}
 use Rattle.order.specs.Beside.{Beside, beside}
 use Rattle.order.specs.Answer.{numberOf}
 use Rattle.order.specs.declared.Answer.{Answer}
@@ -39,11 +38,11 @@ use Rattle.fat_promises.proofs.Unique as fat-one
 use Rattle.fat_listed.specs.Listed.{ReadBlocksPromise, WriteBlocksPromise}
 use Rattle.fat_listed.proofs.Same.{one-read-blocks, one-write-blocks}
 use Rattle.tree_table.specs.View.{View}
-use Rattle.tree_sound.specs.Sizes.{Outside, rooms}
-use Rattle.tree_test.specs.Gate.{treeGate, entryGate}
+use Rattle.tree_test.specs.Gate.{entryGate}
 use Rattle.tree_test.specs.Promise as tree-test
 use Rattle.tree_test.proofs.Unique.{one-test}
-use Rattle.tree_promises.specs.Tables.{Tables}
+use Rattle.tree_sound.specs.Tables.{Tables, OutsideIn, roomsIn}
+use Rattle.tree_promises.specs.declared.Kind.{Kind}
 use Rattle.tree_promises.specs.Calls as tree
 use Rattle.tree_promises.specs.Format.{FormatPromise}
 use Rattle.tree_promises.specs.Promise.{worked}
@@ -197,17 +196,16 @@ pub export-tree-format : (s : Tables) (dm fm : ℕ)
 export-tree-format s dm fm =
     one-export (λ (a : Answer) (x : Tables). tree.carryGives a x) (λ g. g .answer) (λ g. g .tables) (FormatPromise s dm fm) (λ a x. refl) (λ a x. refl) (tree-one.one-format s dm fm)
 
-pub export-tree-test : (dh d fh f work : List ℕ)
-    → OneExport {X = List ℕ} (λ a x. tree-test.tested a x) (First (treeGate tree-test.tested dh d fh f work) (tree-test.testDone d f work))
-export-tree-test dh d fh f work =
+pub export-tree-test : (s : Tables) (work : List ℕ) → OneExport {X = List ℕ} (λ a x. tree-test.tested a x) (tree-test.TestPromise s work)
+export-tree-test s work =
     one-export
     (λ (a : Answer) (x : List ℕ). tree-test.tested a x)
     (λ o. o .0 .answer)
     (λ o. o .1)
-    (First (treeGate tree-test.tested dh d fh f work) (tree-test.testDone d f work))
+    (tree-test.TestPromise s work)
     (λ a x. refl)
     (λ a x. refl)
-    (one-test dh d fh f work)
+    (one-test s work)
 
 pub export-lookup : (s : Tables) (work : List ℕ) (v : View) (p : ℕ) (name : List ℕ)
     → OneExport {X = (ℕ × ℕ) × List ℕ} (λ a x. beside (tree.lookupGives a (x .0 .0) (x .0 .1)) (x .1)) (promised.LookupPromise s v work p name)
@@ -224,75 +222,40 @@ pub export-stat : (s : Tables) (work : List ℕ)
 export-stat s work =
     one-beside (λ (a : Answer) (x : (ℕ × ℕ) × (ℕ × ℕ)). tree.statGives a (x .0 .0) (x .0 .1) (x .1 .0) (x .1 .1)) (λ g. g .answer) (λ g. ((g .dirTotal, g .dirFree), (g .fileTotal, g .fileFree))) (promised.StatPromise s work) (λ a x. refl) (λ a x. refl) (tree-one.one-stat s work)
 
-pub export-carried-dir : (s : Tables) (work : List ℕ) (x : ℕ)
-    → OneExport {X = List ℕ × List ℕ} (λ a x. beside (tree.shownGives a (x .0)) (x .1)) (promised.CarriedDirPromise s work x)
-export-carried-dir s work x =
-    one-beside (λ (a : Answer) (x : List ℕ). tree.shownGives a x) (λ g. g .answer) (λ g. g .bytes) (promised.CarriedDirPromise s work x) (λ a x. refl) (λ a x. refl) (tree-one.one-carried-dir s work x)
+pub export-tree-carried : (kind : Kind) (s : Tables) (work : List ℕ) (x : ℕ)
+    → OneExport {X = List ℕ × List ℕ} (λ a x. beside (tree.shownGives a (x .0)) (x .1)) (promised.CarriedPromise kind s work x)
+export-tree-carried kind s work x =
+    one-beside (λ (a : Answer) (x : List ℕ). tree.shownGives a x) (λ g. g .answer) (λ g. g .bytes) (promised.CarriedPromise kind s work x) (λ a x. refl) (λ a x. refl) (tree-one.one-carried kind s work x)
 
-pub export-set-carried-dir : (s : Tables) (work : List ℕ) (x : ℕ) (carried : List ℕ)
-    → OneExport {X = Tables × List ℕ} (λ a x. beside (tree.carryGives a (x .0)) (x .1)) (promised.SetCarriedDirPromise s work x carried)
-export-set-carried-dir s work x carried =
-    one-beside (λ (a : Answer) (x : Tables). tree.carryGives a x) (λ g. g .answer) (λ g. g .tables) (promised.SetCarriedDirPromise s work x carried) (λ a x. refl) (λ a x. refl) (tree-one.one-set-carried-dir s work x carried)
+pub export-tree-set-carried : (kind : Kind) (s : Tables) (work : List ℕ) (x : ℕ) (carried : List ℕ)
+    → OneExport {X = Tables × List ℕ} (λ a x. beside (tree.carryGives a (x .0)) (x .1)) (promised.SetCarriedPromise kind s work x carried)
+export-tree-set-carried kind s work x carried =
+    one-beside (λ (a : Answer) (x : Tables). tree.carryGives a x) (λ g. g .answer) (λ g. g .tables) (promised.SetCarriedPromise kind s work x carried) (λ a x. refl) (λ a x. refl) (tree-one.one-set-carried kind s work x carried)
 
-pub export-make-dir : (s : Tables) (opens work : List ℕ) (p : ℕ) (name carried : List ℕ)
-    → OneExport {X = (ℕ × (Tables × List ℕ)) × List ℕ} (λ a x. beside (tree.makeGives a (x .0 .0) (x .0 .1 .0) (x .0 .1 .1)) (x .1)) (promised.MakeDirPromise s opens work p name carried)
-export-make-dir s opens work p name carried =
-    one-beside (λ (a : Answer) (x : ℕ × (Tables × List ℕ)). tree.makeGives a (x .0) (x .1 .0) (x .1 .1)) (λ g. g .answer) (λ g. (g .inode, (g .tables, g .opens))) (promised.MakeDirPromise s opens work p name carried) (λ a x. refl) (λ a x. refl) (tree-one.one-make-dir s opens work p name carried)
+pub export-tree-make : (kind : Kind) (s : Tables) (opens work : List ℕ) (p : ℕ) (name carried : List ℕ)
+    → OneExport {X = (ℕ × (Tables × List ℕ)) × List ℕ} (λ a x. beside (tree.makeGives a (x .0 .0) (x .0 .1 .0) (x .0 .1 .1)) (x .1)) (promised.MakePromise kind s opens work p name carried)
+export-tree-make kind s opens work p name carried =
+    one-beside (λ (a : Answer) (x : ℕ × (Tables × List ℕ)). tree.makeGives a (x .0) (x .1 .0) (x .1 .1)) (λ g. g .answer) (λ g. (g .inode, (g .tables, g .opens))) (promised.MakePromise kind s opens work p name carried) (λ a x. refl) (λ a x. refl) (tree-one.one-make kind s work opens p name carried)
 
-pub export-rename-dir : (s : Tables) (opens work : List ℕ) (x p : ℕ) (name : List ℕ)
-    → OneExport {X = (Tables × List ℕ) × List ℕ} (λ a x. beside (tree.changeGives a (x .0 .0) (x .0 .1)) (x .1)) (promised.RenameDirPromise s opens work x p name)
-export-rename-dir s opens work x p name =
-    one-beside (λ (a : Answer) (x : Tables × List ℕ). tree.changeGives a (x .0) (x .1)) (λ g. g .answer) (λ g. (g .tables, g .opens)) (promised.RenameDirPromise s opens work x p name) (λ a x. refl) (λ a x. refl) (tree-one.one-rename-dir s opens work x p name)
+pub export-tree-rename : (kind : Kind) (s : Tables) (opens work : List ℕ) (x p : ℕ) (name : List ℕ)
+    → OneExport {X = (Tables × List ℕ) × List ℕ} (λ a x. beside (tree.changeGives a (x .0 .0) (x .0 .1)) (x .1)) (promised.RenamePromise kind s opens work x p name)
+export-tree-rename kind s opens work x p name =
+    one-beside (λ (a : Answer) (x : Tables × List ℕ). tree.changeGives a (x .0) (x .1)) (λ g. g .answer) (λ g. (g .tables, g .opens)) (promised.RenamePromise kind s opens work x p name) (λ a x. refl) (λ a x. refl) (tree-one.one-rename kind s work opens x p name)
 
-pub export-delete-dir : (s : Tables) (opens work : List ℕ) (x : ℕ)
-    → OneExport {X = (Tables × List ℕ) × List ℕ} (λ a x. beside (tree.changeGives a (x .0 .0) (x .0 .1)) (x .1)) (promised.DeleteDirPromise s opens work x)
-export-delete-dir s opens work x =
-    one-beside (λ (a : Answer) (x : Tables × List ℕ). tree.changeGives a (x .0) (x .1)) (λ g. g .answer) (λ g. (g .tables, g .opens)) (promised.DeleteDirPromise s opens work x) (λ a x. refl) (λ a x. refl) (tree-one.one-delete-dir s opens work x)
+pub export-tree-delete : (kind : Kind) (s : Tables) (opens work : List ℕ) (x : ℕ)
+    → OneExport {X = (Tables × List ℕ) × List ℕ} (λ a x. beside (tree.changeGives a (x .0 .0) (x .0 .1)) (x .1)) (promised.DeletePromise kind s opens work x)
+export-tree-delete kind s opens work x =
+    one-beside (λ (a : Answer) (x : Tables × List ℕ). tree.changeGives a (x .0) (x .1)) (λ g. g .answer) (λ g. (g .tables, g .opens)) (promised.DeletePromise kind s opens work x) (λ a x. refl) (λ a x. refl) (tree-one.one-delete kind s work opens x)
 
-pub export-open-dir : (s : Tables) (opens work : List ℕ) (x : ℕ)
-    → OneExport {X = List ℕ × List ℕ} (λ a x. beside (tree.openingGives a (x .0)) (x .1)) (promised.OpenDirPromise s opens work x)
-export-open-dir s opens work x =
-    one-beside (λ (a : Answer) (x : List ℕ). tree.openingGives a x) (λ g. g .answer) (λ g. g .opens) (promised.OpenDirPromise s opens work x) (λ a x. refl) (λ a x. refl) (tree-one.one-open-dir s opens work x)
+pub export-tree-open : (kind : Kind) (s : Tables) (opens work : List ℕ) (x : ℕ)
+    → OneExport {X = List ℕ × List ℕ} (λ a x. beside (tree.openingGives a (x .0)) (x .1)) (promised.OpenPromise kind s opens work x)
+export-tree-open kind s opens work x =
+    one-beside (λ (a : Answer) (x : List ℕ). tree.openingGives a x) (λ g. g .answer) (λ g. g .opens) (promised.OpenPromise kind s opens work x) (λ a x. refl) (λ a x. refl) (tree-one.one-open kind s work opens x)
 
-pub export-close-dir : (s : Tables) (opens work : List ℕ) (x : ℕ)
-    → OneExport {X = List ℕ × List ℕ} (λ a x. beside (tree.openingGives a (x .0)) (x .1)) (promised.CloseDirPromise s opens work x)
-export-close-dir s opens work x =
-    one-beside (λ (a : Answer) (x : List ℕ). tree.openingGives a x) (λ g. g .answer) (λ g. g .opens) (promised.CloseDirPromise s opens work x) (λ a x. refl) (λ a x. refl) (tree-one.one-close-dir s opens work x)
-
-pub export-carried-file : (s : Tables) (work : List ℕ) (x : ℕ)
-    → OneExport {X = List ℕ × List ℕ} (λ a x. beside (tree.shownGives a (x .0)) (x .1)) (promised.CarriedFilePromise s work x)
-export-carried-file s work x =
-    one-beside (λ (a : Answer) (x : List ℕ). tree.shownGives a x) (λ g. g .answer) (λ g. g .bytes) (promised.CarriedFilePromise s work x) (λ a x. refl) (λ a x. refl) (tree-one.one-carried-file s work x)
-
-pub export-set-carried-file : (s : Tables) (work : List ℕ) (x : ℕ) (carried : List ℕ)
-    → OneExport {X = Tables × List ℕ} (λ a x. beside (tree.carryGives a (x .0)) (x .1)) (promised.SetCarriedFilePromise s work x carried)
-export-set-carried-file s work x carried =
-    one-beside (λ (a : Answer) (x : Tables). tree.carryGives a x) (λ g. g .answer) (λ g. g .tables) (promised.SetCarriedFilePromise s work x carried) (λ a x. refl) (λ a x. refl) (tree-one.one-set-carried-file s work x carried)
-
-pub export-make-file : (s : Tables) (opens work : List ℕ) (p : ℕ) (name carried : List ℕ)
-    → OneExport {X = (ℕ × (Tables × List ℕ)) × List ℕ} (λ a x. beside (tree.makeGives a (x .0 .0) (x .0 .1 .0) (x .0 .1 .1)) (x .1)) (promised.MakeFilePromise s opens work p name carried)
-export-make-file s opens work p name carried =
-    one-beside (λ (a : Answer) (x : ℕ × (Tables × List ℕ)). tree.makeGives a (x .0) (x .1 .0) (x .1 .1)) (λ g. g .answer) (λ g. (g .inode, (g .tables, g .opens))) (promised.MakeFilePromise s opens work p name carried) (λ a x. refl) (λ a x. refl) (tree-one.one-make-file s opens work p name carried)
-
-pub export-rename-file : (s : Tables) (opens work : List ℕ) (x p : ℕ) (name : List ℕ)
-    → OneExport {X = (Tables × List ℕ) × List ℕ} (λ a x. beside (tree.changeGives a (x .0 .0) (x .0 .1)) (x .1)) (promised.RenameFilePromise s opens work x p name)
-export-rename-file s opens work x p name =
-    one-beside (λ (a : Answer) (x : Tables × List ℕ). tree.changeGives a (x .0) (x .1)) (λ g. g .answer) (λ g. (g .tables, g .opens)) (promised.RenameFilePromise s opens work x p name) (λ a x. refl) (λ a x. refl) (tree-one.one-rename-file s opens work x p name)
-
-pub export-delete-file : (s : Tables) (opens work : List ℕ) (x : ℕ)
-    → OneExport {X = (Tables × List ℕ) × List ℕ} (λ a x. beside (tree.changeGives a (x .0 .0) (x .0 .1)) (x .1)) (promised.DeleteFilePromise s opens work x)
-export-delete-file s opens work x =
-    one-beside (λ (a : Answer) (x : Tables × List ℕ). tree.changeGives a (x .0) (x .1)) (λ g. g .answer) (λ g. (g .tables, g .opens)) (promised.DeleteFilePromise s opens work x) (λ a x. refl) (λ a x. refl) (tree-one.one-delete-file s opens work x)
-
-pub export-open-file : (s : Tables) (opens work : List ℕ) (x : ℕ)
-    → OneExport {X = List ℕ × List ℕ} (λ a x. beside (tree.openingGives a (x .0)) (x .1)) (promised.OpenFilePromise s opens work x)
-export-open-file s opens work x =
-    one-beside (λ (a : Answer) (x : List ℕ). tree.openingGives a x) (λ g. g .answer) (λ g. g .opens) (promised.OpenFilePromise s opens work x) (λ a x. refl) (λ a x. refl) (tree-one.one-open-file s opens work x)
-
-pub export-close-file : (s : Tables) (opens work : List ℕ) (x : ℕ)
-    → OneExport {X = List ℕ × List ℕ} (λ a x. beside (tree.openingGives a (x .0)) (x .1)) (promised.CloseFilePromise s opens work x)
-export-close-file s opens work x =
-    one-beside (λ (a : Answer) (x : List ℕ). tree.openingGives a x) (λ g. g .answer) (λ g. g .opens) (promised.CloseFilePromise s opens work x) (λ a x. refl) (λ a x. refl) (tree-one.one-close-file s opens work x)
+pub export-tree-close : (kind : Kind) (s : Tables) (opens work : List ℕ) (x : ℕ)
+    → OneExport {X = List ℕ × List ℕ} (λ a x. beside (tree.openingGives a (x .0)) (x .1)) (promised.ClosePromise kind s opens work x)
+export-tree-close kind s opens work x =
+    one-beside (λ (a : Answer) (x : List ℕ). tree.openingGives a x) (λ g. g .answer) (λ g. g .opens) (promised.ClosePromise kind s opens work x) (λ a x. refl) (λ a x. refl) (tree-one.one-close kind s work opens x)
 
 -- ---- the name, whose field is the place in the table that the kind selects
 
@@ -301,9 +264,9 @@ one-name s work kind x =
     tree-one.one-promised
     (entryGate
     (λ a w. beside (namedGives a 0) w)
-    (s .dirHash) (s .dirTable) (s .fileHash) (s .fileTable)
-    (Outside (s .dirHash) (s .dirTable) (s .fileHash) (s .fileTable) ⊎ (1 < kind))
-    (length work < rooms (s .dirTable) (s .fileTable))
+    s
+    (OutsideIn s ⊎ (1 < kind))
+    (length work < roomsIn s)
     work)
     (worked s work)
     (nameRows s kind x)

@@ -7,7 +7,7 @@ use Rattle.order.specs.declared.Answer.{Answer}
 use Rattle.order.proofs.One.{one}
 use Rattle.fat_node.specs.Entry.{Bytes}
 use Rattle.fat_promises.specs.Calls as fat
-use Rattle.tree_promises.specs.Tables.{Tables}
+use Rattle.tree_sound.specs.Tables.{Tables}
 use Rattle.tree_promises.specs.Calls as tree
 use Rattle.mukthiban.specs.Name.{Naming, namedGives}
 use Rattle.mukthiban.proofs.One.{OneExport, one-export}

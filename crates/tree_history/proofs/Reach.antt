@@ -55,7 +55,7 @@ module _ (s : Tables) (w : Whole s) (x p : ℕ) (name : List ℕ) (bn : AreBytes
   -- stays-reachable: a directory that may be renamed leaves every directory reaching the root
   pub stays-reachable : MayRename Directory s x p name → (y : ℕ) → LiveIn (dirs (renamed Directory s x p name)) y → Reaches (up (dirs (renamed Directory s x p name))) y
   stays-reachable m =
-      kept-rename-dir s (fine s w) (w .sound) x p name (are-bytes name bn) (m .subject) (m .not-root refl) (m .parent) (m .not-into-itself refl) (m .free-key) .reach
+      kept-rename-dir s (fine s w) (w .sound) x p name (are-bytes name bn) (m .subject) (m .not-root refl) (m .parent) (m .not-into-itself refl) (m .free-key) .dirs .reach
 
   module _ (lx : LiveIn (dirs s) x) (n1 : x ≡ 1 → ⊥) (lp : LiveIn (dirs s) p) where
     same : Agree (link (unlink (dirs s) x) x (nameKey p name)) (dirs (renamed Directory s x p name))
