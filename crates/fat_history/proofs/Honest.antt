@@ -13,15 +13,11 @@ use Rattle.fat_node.specs.Format.{formatted}
 use Rattle.fat_table.specs.Sound.{Sound, File}
 use Rattle.fat_table.specs.Chain.{total, freeAt}
 use Rattle.fat_table.specs.Layout.{Layout, layout, taken, left}
-use Rattle.fat_table.specs.Layout as layouts
 use Rattle.fat_table.specs.Steps.{created, resized, deleted}
 use Rattle.fat_table.specs.Holds.{Holds}
-use Rattle.fat_table.specs.Counts.{nodes}
 use Rattle.fat_table.specs.Agree.{Agree}
-use Rattle.fat_table.proofs.Layouts.{end-after, length-perm}
 use Rattle.fat_table.proofs.Stepped.{free-read, holds-format, holds-create, holds-delete, holds-order}
-use Rattle.fat_table.proofs.Sounds.{node-size, sound-holds, holds-sound, node-of, in-order}
-use Rattle.fat_table.proofs.Counting.{scan-read}
+use Rattle.fat_table.proofs.Sounds.{sound-holds, holds-sound}
 use Rattle.fat_table.proofs.Files.{
   Whole,
   Seen,
@@ -41,7 +37,7 @@ use Rattle.fat_promises.specs.Promise.{Beside}
 use Rattle.fat_promises.specs.Calls.{Create, Change}
 use Rattle.fat_history.specs.History as histories
 use Rattle.words.specs.Word.{AreBytes}
-use Rattle.fat_history.specs.History.{formats, creates, resizes, deletes, resizesIn}
+use Rattle.fat_history.specs.History.{formats, creates, resizes, deletes}
 use Rattle.fat_history.proofs.Passes.{are-bytes, Fits, Passed}
 use Rattle.fat_history.proofs.Means.{
   format-means,
@@ -108,11 +104,10 @@ run-sound t t′ k r a =
 
 -- every tiled layout is held by the end of a run ------------------------------------------------------------------
 
--- the end of a run of k calls, none of them resize, that holds a layout
+-- the end of a run of k calls that holds a layout
 record Made (n k : ℕ) (L : Layout) : Type 0 where
   end : Bytes
   run-to : histories.History k end
-  plain : resizesIn run-to ≡ 0
   bytes : words.Bytes end
   blocks-are : blocks end ≡ n
   holds : Holds n end L
@@ -145,7 +140,6 @@ module _ (n : ℕ) (some : 1 ≤ n) (small : n ≤ 1000000) where
         end = o .given .table;
         run-to = creates k t (m .run-to) (n * 512) 512 (replicate n 0) c o
             (create-done t (n * 512) 512 (replicate n 0) c (ready t L (m .bytes) e (m .holds)) (record { some = h; enough = omega (arith, fr, l) })) refl;
-        plain = m .plain;
         bytes = bytes-created (blocks t) t 0 c (m .bytes);
         blocks-are = blocks-of n (o .given .table) (s .room);
         holds = s;
@@ -167,7 +161,6 @@ module _ (n : ℕ) (some : 1 ≤ n) (small : n ≤ 1000000) where
         end = o .given .table;
         run-to = deletes k t (m .run-to) (n * 512) 512 (replicate n 0) b o
             (delete-done t (n * 512) 512 (replicate n 0) b (ready t L (m .bytes) e (m .holds)) (record { file = i })) refl;
-        plain = m .plain;
         bytes = bytes-deleted (blocks t) t b 0 (m .bytes);
         blocks-are = blocks-of n (o .given .table) (s .room);
         holds = s;
@@ -180,7 +173,6 @@ made-format t g f =
     record {
       end = formatted n t;
       run-to = formats t (formatted n t) (record { answer = Done }) g (format-done t f) refl;
-      plain = refl;
       bytes = bytes-formatted n t 0 0 (are-bytes t g);
       blocks-are = blocks-of n (formatted n t) (s .room);
       holds = s;
@@ -192,24 +184,13 @@ made t g f (reaches.create {k} {free} {files} c h l r) = made-create (blocks t) 
 made t g f (reaches.delete {k} {free} {f = c} {files} r) = made-delete (blocks t) (f .some) (f .few) free c files (made t g f r)
 made t g f (reaches.order {k} {free} {fs} {gs} r p) =
     let m : Made (blocks t) k (layout free fs) = made t g f r in
-    record { end = m .end; run-to = m .run-to; plain = m .plain; bytes = m .bytes; blocks-are = m .blocks-are; holds = holds-order p (m .holds) }
+    record { end = m .end; run-to = m .run-to; bytes = m .bytes; blocks-are = m .blocks-are; holds = holds-order p (m .holds) }
 
--- the nodes of a table are as many as the runs of its layout
-nodes-many : (n : ℕ) → n ≤ 1000000 → (t : Bytes) (L : Layout) → Holds n t L → length (nodes n t) ≡ length (layouts.runs L)
-nodes-many n small t L s =
-    let o = in-order n small t L s in
-    let nd = node-of n small t L s (o .0) (o .1) (o .2) in
-    ap {B = ℕ} length
-    (scan-read n t (o .0) n 0 (omega (arith, end-after 0 (o .0) n (o .2))) (o .2) (λ r m. node-size t n (r .start) (r .size) (nd r m)))
-    ∙ sym (length-perm (o .1))
-
--- a run of k creates and deletes after format whose end agrees with t
+-- a run of k calls after format whose end agrees with t
 pub record Reached (t : Bytes) : Type 0 where
   pub k : ℕ
   pub end : Bytes
   pub run-to : histories.History k end
-  pub few : k ≤ 3 * length (nodes (blocks t) t)
-  pub plain : resizesIn run-to ≡ 0
   pub agrees : Agree (blocks t) t end
 
 pub sound-run : (t : Bytes) → AreBytes t → Fits t → Sound t (blocks t) → Reached t
@@ -222,7 +203,5 @@ sound-run t g f s =
       k = v .0;
       end = m .end;
       run-to = m .run-to;
-      few = omega (arith, v .1, nodes-many n (f .few) t (w .0) (w .1));
-      plain = m .plain;
       agrees = holds-agree n (f .few) t (m .end) (w .0) (w .1) (m .holds);
     }

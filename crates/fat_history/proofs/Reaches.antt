@@ -38,24 +38,24 @@ more w h = (w .0, omega arith, w .2)
 
 -- stage 1: a file for each run ------------------------------------------------------------------
 
-abbrev singles : List Run → List (List Run)
+abbrev pub singles : List Run → List (List Run)
 singles [] = []
 singles (r ∷ l) = (r ∷ []) ∷ singles l
 
-singles-append : (a b : List Run) → singles (a ++ b) ≡ singles a ++ singles b
+pub singles-append : (a b : List Run) → singles (a ++ b) ≡ singles a ++ singles b
 singles-append [] b = refl
 singles-append (r ∷ a) b = ap {B = List (List Run)} (λ t. (r ∷ []) ∷ t) (singles-append a b)
 
-singles-perm : {a b : List Run} → List·Permᴰ a b → List·Permᴰ (singles a) (singles b)
+pub singles-perm : {a b : List Run} → List·Permᴰ a b → List·Permᴰ (singles a) (singles b)
 singles-perm List·Permᴰ·nil = List·Permᴰ·nil
 singles-perm (List·Permᴰ·cons e p) = List·Permᴰ·cons (ap {B = List Run} (λ r. r ∷ []) e) (singles-perm p)
 singles-perm (List·Permᴰ·swap e e′) = List·Permᴰ·swap (ap {B = List Run} (λ r. r ∷ []) e) (ap {B = List Run} (λ r. r ∷ []) e′)
 singles-perm (List·Permᴰ·trans p q) = List·Permᴰ·trans (singles-perm p) (singles-perm q)
 
-run-path : (r : Run) (b : ℕ) → r .start ≡ b → run b (r .size) ≡ r
+pub run-path : (r : Run) (b : ℕ) → r .start ≡ b → run b (r .size) ≡ r
 run-path r b e = ap (λ (y : ℕ). run y (r .size)) (sym e)
 
-cut-all : (f : List Run) (c : ℕ) → empties f ≡ 0 → c ≡ total f → (taken f c ≡ f) × (left f c ≡ [])
+pub cut-all : (f : List Run) (c : ℕ) → empties f ≡ 0 → c ≡ total f → (taken f c ≡ f) × (left f c ≡ [])
 cut-all [] c p q = (refl, refl)
 cut-all (r ∷ f) zero p q = let z : ⊥ = omega arith in absurd z
 cut-all (r ∷ f) (suc c) p q =
@@ -63,15 +63,15 @@ cut-all (r ∷ f) (suc c) p q =
     let w = cut-all f (suc c - r .size) (omega arith) (omega arith) in
     (taken-whole r f c h ∙ ap {B = List Run} (λ t. r ∷ t) (w .0), left-whole r f c h ∙ w .1)
 
-cut-part : (b m c : ℕ) → 1 ≤ c → c < m → (taken (run b m ∷ []) c ≡ run b c ∷ []) × (left (run b m ∷ []) c ≡ run (b + c) (m - c) ∷ [])
+pub cut-part : (b m c : ℕ) → 1 ≤ c → c < m → (taken (run b m ∷ []) c ≡ run b c ∷ []) × (left (run b m ∷ []) c ≡ run (b + c) (m - c) ∷ [])
 cut-part b m zero h k = let z : ⊥ = omega arith in absurd z
 cut-part b m (suc c) h k = (taken-part (run b m) [] c k, left-part (run b m) [] c k)
 
-end-some : (T : List Run) (n : ℕ) → 1 ≤ n → EndToEnd 0 T n → 1 ≤ length T
+pub end-some : (T : List Run) (n : ℕ) → 1 ≤ n → EndToEnd 0 T n → 1 ≤ length T
 end-some [] n h t = omega arith
 end-some (r ∷ T) n h t = omega arith
 
-total-positive : (f : List Run) → 1 ≤ length f → empties f ≡ 0 → 1 ≤ total f
+pub total-positive : (f : List Run) → 1 ≤ length f → empties f ≡ 0 → 1 ≤ total f
 total-positive [] h p = omega arith
 total-positive (r ∷ f) h p = omega arith
 

@@ -13,7 +13,6 @@ use Rattle.fat_node.specs.declared.Formatted.{Formatted}
 use Rattle.fat_node.specs.Node as nodes-of
 use Rattle.fat_table.specs.Sound.{Sound, File}
 use Rattle.fat_table.specs.Chain.{total, fileAt}
-use Rattle.fat_table.specs.Counts.{nodes}
 use Rattle.fat_table.specs.Steps.{created, resized, deleted}
 use Rattle.fat_table.specs.Agree.{Agree}
 use Rattle.fat_table.proofs.Files.{Whole, whole-formatted, whole-created, whole-resized, whole-deleted}
@@ -23,7 +22,7 @@ use Rattle.fat_promises.specs.Promise.{Beside}
 use Rattle.fat_promises.specs.Blocks.{blocksOf, placeOf, bytesAt, written}
 use Rattle.fat_promises.specs.Calls.{Create, CreatePromise, Change, ResizePromise, DeletePromise, Carry, MayCarry, ReadPromise, writeDone, WritePromise, sizeOf}
 use Rattle.words.specs.Word.{AreBytes}
-use Rattle.fat_history.specs.History.{History, resizesIn}
+use Rattle.fat_history.specs.History.{History}
 use Rattle.fat_history.specs.OneChain.{OneChain}
 use Rattle.fat_history.specs.Away.{Away, none, writes}
 use Rattle.fat_history.specs.KeptBy.{KeptBy}
@@ -44,14 +43,6 @@ honest t work o g m u h p =
       λ e. let r = sound-run t g f (test-means t work o (are-bytes t g) p e .1) in (r .k, r .end, r .run-to, r .agrees),
       λ k t′ r a. test-accepts t work o f h (run-sound t t′ k r a) p,
     )
-
--- within: an accepted table is reached from a formatted one by at most three calls a node, create and delete alone, each answered Done
-pub within : (t : Bytes) (work : List ℕ) (o : Tested × List ℕ) → AreBytes t → TestPromise t work o → o .0 .answer ≡ Done
-    → (k : ℕ) × (t′ : Bytes) × (r : History k t′) × (k ≤ 3 * length (nodes (blocks t) t)) × (resizesIn r ≡ 0) × Agree (blocks t) t t′
-within t work o g p e =
-    let w = test-means t work o (are-bytes t g) p e in
-    let r = sound-run t g (w .0) (w .1) in
-    (r .k, r .end, r .run-to, r .few, r .plain, r .agrees)
 
 -- one-chain: in an accepted table each block lies in exactly one chain, the free one or one file's
 pub one-chain : (t : Bytes) (work : List ℕ) (o : Tested × List ℕ) → AreBytes t → TestPromise t work o → o .0 .answer ≡ Done → (x : ℕ) → x < blocks t

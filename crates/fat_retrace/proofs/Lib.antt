@@ -1,0 +1,13 @@
+pub mod Goes
+pub mod Found
+pub mod Few
+pub mod Runs
+pub mod Puts
+pub mod Scans
+pub mod Gives
+pub mod Turns
+pub mod Joined
+pub mod Parts
+pub mod Promised
+pub mod Nodes
+pub mod Theorems
