@@ -3,7 +3,7 @@
 test:
 	tools/gate
 
-# The ground floor alone, with format, the first public call: layout, proofs and must-fail edits. A first look, in a few minutes.
+# Four crates alone, up to format of the block table, the first public call: layout, proofs and must-fail edits. A first look, in about a minute.
 .PHONY: house
 house:
 	rt fmt --check
