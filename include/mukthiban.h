@@ -5,10 +5,11 @@
  *  - It may be called with any bytes, lengths and numbers. What does not fit is
  *    refused by a number (see MUKTHIBAN_DONE and the rest); nothing else is
  *    required of the caller but what C itself asks (next paragraph).
- *  - It ends, and touches no memory but what it was lent.
+ *  - As it is proved it ends, and touches no memory but what it was lent.
  *  - A refusal changes no table, no data, no buffer, no list and no open count,
- *    and every other field of its answer is 0 (lookup's `compared` with
- *    MUKTHIBAN_NOT_FOUND, which is kept, is the one exception).
+ *    and every other field of its answer is 0: also the place that carried
+ *    bytes are read into, which is such a field. The one exception is lookup's
+ *    `compared` with MUKTHIBAN_NOT_FOUND, which is kept.
  *  - Once sizes and work list have passed (numbers 1, 2 for a size, 3), the
  *    work places that the call names are 0 on return, whatever the answer. The
  *    places behind them stay. Before that the work list is untouched.
@@ -228,7 +229,7 @@ mukthiban_stat mukthiban_tree_stat(const uint8_t *dir_hash, size_t dir_hash_len,
                                    uint32_t *work, size_t work_len);
 
 /* Where the 16 name bytes of a live inode begin, in dir_table (kind 0) or file_table (kind 1). Another kind is
- * 2, judged with the sizes, after them. Answers 1, 2, 3, 9, 10. */
+ * 2, judged with the sizes: after 1, before 3. Answers 1, 2, 3, 9, 10. */
 mukthiban_named mukthiban_tree_name(const uint8_t *dir_hash, size_t dir_hash_len,
                                     const uint8_t *dir_table, size_t dir_table_len,
                                     const uint8_t *file_hash, size_t file_hash_len,
