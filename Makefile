@@ -14,9 +14,9 @@ house:
 .PHONY: oracle bench
 oracle:
 	cd oracle && cargo run --offline --release --quiet -p compare -- long $(SEED)
-# The original, a careful test in plain Rust, and the library, measured in one run.
+# The library beside the original and plain Rust at its best, in one run, which rewrites its tables and drawing in docs/.
 bench:
-	cd oracle && cargo run --offline --release --quiet -p bench
+	tools/bench
 
 # The proved library with its manifest, in dist/: what cargo, the demo and C link.
 .PHONY: dist

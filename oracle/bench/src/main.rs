@@ -1,24 +1,39 @@
-//! `bench [quick] [blocks] [tree] [volume] [tests] [n=NUMBER]`: the original, a careful test in plain Rust, and the port, on the same inputs in one run; a part alone
-//! where it is named, only the tests of it, and the block table at one size. It prints tables in Markdown.
+//! `bench [write] [quick] [agree] [jobs] [growth] [blocks] [tree] [volume] [only=TEXT]`: the library beside its peers, on the same inputs in one run. It prints
+//! tables in Markdown; with `write` it rewrites the tables and the drawing in docs/. A part alone where it is named, of the jobs those with that text; `agree`
+//! is what every run begins with, that the peers answer as the library does; `quick` takes small sizes, to see that it runs.
 
-mod careful;
 mod measure;
+mod peers;
+mod report;
 mod shapes;
+mod svg;
 
-use measure::{blocks, said, tree, whole};
+use measure::{agree, blocks, growth, jobs, said, tree, whole};
+use report::{load, machine, Report};
 
 fn main() {
-    let quick = said("quick");
-    println!("Times in microseconds: the best of many runs, in which the sides take turns. `own` is the port's work behind its test: the time of its inner call.");
-    println!("`test` is at most 1.0 times `careful` and `own` at most 1.2 times `original` where the aim is met.");
+    let (quick, before) = (said("quick"), load());
+    println!("Times in microseconds: the best of many runs, in which the sides take turns.");
     if !original::PRESENT {
         println!("!!!! THE ORIGINAL'S SOURCE IS NOT HERE: IT IS NOT MEASURED. !!!!");
     }
-    let parts: [(&str, fn(bool)); 3] = [("blocks", blocks::run), ("tree", tree::run), ("volume", whole::run)];
-    let all = !parts.iter().any(|(name, _)| said(name));
+    agree::run(quick);
+    let mut report = Report::default();
+    let parts: [(&str, fn(&mut Report, bool)); 5] =
+        [("jobs", jobs::run), ("growth", growth::run), ("blocks", blocks::run), ("tree", tree::run), ("volume", whole::run)];
+    let all = !said("agree") && !parts.iter().any(|(name, _)| said(name));
     for (name, run) in parts {
         if all || said(name) {
-            run(quick);
+            run(&mut report, quick);
         }
+    }
+    let machine = machine(&before);
+    println!("\n{machine}");
+    if let Some(jobs) = report.jobs() {
+        println!("\n{jobs}");
+    }
+    if said("write") {
+        assert!(all && !quick, "only a whole run is written down");
+        report.write(&machine);
     }
 }

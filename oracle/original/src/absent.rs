@@ -33,6 +33,18 @@ absent! {
         fn delete(&mut self, first: usize) -> Result<(), u32>;
         fn read(&mut self, first: usize, pos: usize, buf: &mut [u8]) -> Result<(), u32>;
         fn write(&mut self, first: usize, pos: usize, buf: &[u8]) -> Result<(), u32>;
+        fn opened(&mut self, first: usize) -> Result<Opened<'_>, u32>;
+    }
+}
+
+pub struct Opened<'v>(&'v mut Volume);
+
+impl Opened<'_> {
+    pub fn read(&mut self, pos: usize, buf: &mut [u8]) -> Result<(), u32> {
+        self.0.read(0, pos, buf)
+    }
+    pub fn write(&mut self, pos: usize, buf: &[u8]) -> Result<(), u32> {
+        self.0.write(0, pos, buf)
     }
 }
 

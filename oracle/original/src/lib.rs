@@ -64,12 +64,12 @@ mod volume;
 #[cfg(original)]
 pub use tables::Tables;
 #[cfg(original)]
-pub use volume::Volume;
+pub use volume::{Opened, Volume};
 
 #[cfg(not(original))]
 mod absent;
 #[cfg(not(original))]
-pub use absent::{Tables, Volume};
+pub use absent::{Opened, Tables, Volume};
 
 /// Whether the original's source was there when this was built.
 pub const PRESENT: bool = cfg!(original);

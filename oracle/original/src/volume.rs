@@ -92,4 +92,20 @@ impl Volume {
     pub fn write(&mut self, first: usize, pos: usize, buf: &[u8]) -> Result<(), u32> {
         self.handle(first)?.write(pos, buf).map_err(number)
     }
+    /// The file that starts at that block, with its handle at hand.
+    pub fn opened(&mut self, first: usize) -> Result<Opened<'_>, u32> {
+        Ok(Opened(self.handle(first)?))
+    }
+}
+
+/// A file that is open.
+pub struct Opened<'v>(&'v mut FatFile);
+
+impl Opened<'_> {
+    pub fn read(&mut self, pos: usize, buf: &mut [u8]) -> Result<(), u32> {
+        self.0.read(pos, buf).map_err(number)
+    }
+    pub fn write(&mut self, pos: usize, buf: &[u8]) -> Result<(), u32> {
+        self.0.write(pos, buf).map_err(number)
+    }
 }

@@ -1,6 +1,11 @@
-//! Taking times.
+//! Taking times: the sides of a line on the same input, in turns.
 
+pub mod agree;
 pub mod blocks;
+pub mod growth;
+pub mod handles;
+pub mod jobs;
+pub mod sides;
 pub mod tree;
 pub mod whole;
 
@@ -11,43 +16,90 @@ pub fn said(word: &str) -> bool {
     std::env::args().any(|said| said == word)
 }
 
-/// One of the things that are measured beside each other. `ready` puts things back before each run and is not counted.
-pub struct Side<'a> {
-    ready: Box<dyn FnMut() + 'a>,
-    run: Box<dyn FnMut() + 'a>,
-}
+/// A number, and what a call answers beside it.
+pub type Answer = [u64; 3];
 
-pub fn side<'a>(ready: impl FnMut() + 'a, run: impl FnMut() + 'a) -> Option<Side<'a>> {
-    Some(Side { ready: Box::new(ready), run: Box::new(run) })
+/// One of the things that are measured beside each other.
+pub struct Side<'a> {
+    pub name: &'static str,
+    /// Writes over what the run must leave anew; only before the first run, which is compared.
+    pub spoil: Box<dyn FnMut() + 'a>,
+    /// Puts things back before each run; not counted.
+    pub ready: Box<dyn FnMut() + 'a>,
+    pub run: Box<dyn FnMut() -> Answer + 'a>,
+    /// What the run left, as a digest of the bytes that every side of the line must leave alike.
+    pub left: Box<dyn Fn() -> u64 + 'a>,
+    /// How often it is run within the clock: more than once only where it changes nothing.
+    pub times: usize,
+    /// Whether it does something else than the last side, so that nothing is compared.
+    pub apart: bool,
 }
 
 /// How long the sides of one line are run, and how often at least and at most.
-const SPAN: Duration = Duration::from_millis(800);
-const LEAST: usize = 15;
+#[derive(Clone, Copy)]
+pub struct Pace {
+    pub span: Duration,
+    pub least: usize,
+}
+
+/// For the jobs of the first table, for the long tables, and for the drawing.
+pub const JOB: Pace = Pace { span: Duration::from_millis(1_200), least: 9 };
+pub const LINE: Pace = Pace { span: Duration::from_millis(200), least: 3 };
+pub const POINT: Pace = Pace { span: Duration::from_millis(60), least: 3 };
 const MOST: usize = 400;
 
-/// The best time of each side in microseconds. The sides take turns, so that what else the machine does meets them alike.
-pub fn best<const N: usize>(mut sides: [Option<Side>; N]) -> [Option<f64>; N] {
-    let start = Instant::now();
-    let mut times = [None; N];
-    let mut rounds = 0;
-    while rounds < LEAST || (rounds < MOST && start.elapsed() < SPAN) {
-        for (side, time) in sides.iter_mut().zip(&mut times) {
-            let Some(side) = side else { continue };
+/// The best time of each side in microseconds. The sides take turns, so that what else the machine does meets them alike. Before that each is run once, and all
+/// must answer alike and leave alike bytes.
+pub fn race(line: &str, mut sides: Vec<Side>, pace: Pace) -> Vec<f64> {
+    let mut told = vec![];
+    for side in &mut sides {
+        (side.spoil)();
+        (side.ready)();
+        told.push(((side.run)(), (side.left)()));
+    }
+    for (side, one) in sides.iter().zip(&told).filter(|(side, _)| !side.apart) {
+        assert_eq!(*one, told[told.len() - 1], "{line}: {} differs from {}", side.name, sides[sides.len() - 1].name);
+    }
+    let mut least = vec![f64::INFINITY; sides.len()];
+    let (start, mut rounds) = (Instant::now(), 0);
+    while rounds < pace.least || (rounds < MOST && start.elapsed() < pace.span) {
+        for (side, least) in sides.iter_mut().zip(&mut least) {
             (side.ready)();
             let begin = Instant::now();
-            (side.run)();
-            let took = begin.elapsed();
-            *time = Some(time.map_or(took, |least: Duration| least.min(took)));
+            for _ in 0..side.times {
+                std::hint::black_box((side.run)());
+            }
+            let took = begin.elapsed().as_secs_f64() * 1e6 / side.times as f64;
+            *least = least.min(took);
         }
         rounds += 1;
     }
-    times.map(|time| time.map(|t| t.as_secs_f64() * 1e6))
+    least
+}
+
+/// A digest of bytes, to compare them by.
+pub fn digest(bytes: &[u8]) -> u64 {
+    let (words, rest) = bytes.as_chunks::<8>();
+    let step = |sum: u64, word: u64| (sum ^ word).wrapping_mul(0x9E37_79B9_7F4A_7C15).rotate_left(29);
+    let sum = words.iter().fold(bytes.len() as u64, |sum, word| step(sum, u64::from_le_bytes(*word)));
+    rest.iter().fold(sum, |sum, byte| step(sum, *byte as u64))
+}
+
+/// The same of a list of numbers.
+pub fn digest_list(list: &[u32]) -> u64 {
+    list.iter().fold(list.len() as u64, |sum, word| (sum ^ *word as u64).wrapping_mul(0x9E37_79B9_7F4A_7C15).rotate_left(29))
+}
+
+/// A number as it is read: 1,000,000.
+pub fn commas(number: usize) -> String {
+    let digits = number.to_string();
+    let parts: Vec<&str> = digits.as_bytes().rchunks(3).rev().map(|part| std::str::from_utf8(part).expect("digits")).collect();
+    parts.join(",")
 }
 
 /// A time, or a dash where there is none.
 pub fn shown(time: Option<f64>) -> String {
-    time.map_or("-".into(), |t| if t < 10.0 { format!("{t:.2}") } else { format!("{t:.0}") })
+    time.map_or("-".into(), |t| if t < 10.0 { format!("{t:.2}") } else { commas(t.round() as usize) })
 }
 
 pub fn ratio(a: Option<f64>, b: Option<f64>) -> String {

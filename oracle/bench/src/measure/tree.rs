@@ -1,151 +1,133 @@
-//! The entry tables' calls.
+//! The entry tables' calls, in long tables.
 
-use super::{best, ratio, shown, side, Side};
-use crate::careful;
-use crate::shapes::{self, Full};
+use super::sides::OnTree;
+use super::{digest, race, ratio, shown, Answer, Side, LINE};
+use crate::report::Report;
+use crate::shapes::tree::{self as shapes, Full};
 use original::Tables;
-use port::{Inner, Kind, Library, Port, Tree, TreeCall};
+use port::{Inner, Kind, Tree, TreeCall};
 use std::cell::RefCell;
-use std::hint::black_box;
-
-/// The library's call on the tables, or its inner call, or the careful test: all over the same bytes, put back before each run.
-fn on_bytes<'a>(state: &'a RefCell<Tree>, lent: &'a Tree, run: impl Fn(&mut Tree) + 'a) -> Option<Side<'a>> {
-    side(|| state.borrow_mut().clone_from(lent), move || run(&mut state.borrow_mut()))
-}
-
-fn library<'a>(state: &'a RefCell<Tree>, lent: &'a Tree, call: &'a TreeCall) -> Option<Side<'a>> {
-    on_bytes(state, lent, |s| {
-        black_box(Library.tree_call(call, s));
-    })
-}
-
-fn inner<'a>(state: &'a RefCell<Tree>, lent: &'a Tree, call: &'a TreeCall) -> Option<Side<'a>> {
-    on_bytes(state, lent, |s| {
-        black_box(Inner.tree_call(call, s));
-    })
-}
-
-fn careful<'a>(state: &'a RefCell<Tree>, lent: &'a Tree) -> Option<Side<'a>> {
-    on_bytes(state, lent, |s| {
-        let mut work = std::mem::take(&mut s.work);
-        assert!(black_box(careful::tree(s.four(), &mut work)));
-        s.work = work;
-    })
-}
 
 /// The original with one handle of the subject, opened before the clock starts.
-fn original<'a>(state: &'a RefCell<Option<Tables>>, lent: &'a Tree, call: &'a TreeCall) -> Option<Side<'a>> {
-    if !original::PRESENT {
-        return None;
-    }
-    *state.borrow_mut() = Some(Tables::open(lent.four()).unwrap());
+fn original<'a>(state: &'a RefCell<Tables>, lent: &'a Tree, call: &'a TreeCall) -> Side<'a> {
     let ready = || {
-        let mut state = state.borrow_mut();
-        let tables = state.as_mut().unwrap();
+        let mut tables = state.borrow_mut();
         tables.set(lent.four());
         tables.drop_handles();
         if let TreeCall::Rename { inode, .. } | TreeCall::Delete { inode, .. } = *call {
             tables.open_file(inode);
         }
     };
-    side(ready, || {
-        let mut state = state.borrow_mut();
-        let s = state.as_mut().unwrap();
-        match *call {
-            TreeCall::Make { parent, name, carried, .. } => drop(black_box(s.make_file(parent, name, carried))),
-            TreeCall::Rename { inode, parent, name, .. } => s.rename_file(inode, parent, name).unwrap(),
-            TreeCall::Delete { inode, .. } => s.delete_file(inode).unwrap(),
-            TreeCall::Lookup { parent, name, .. } => drop(black_box(s.lookup_file(parent, name))),
-            TreeCall::List { inode, .. } => drop(black_box(s.list_files(inode))),
-            _ => {}
-        }
-    })
+    let run = || -> Answer {
+        let s = &mut *state.borrow_mut();
+        let given = match *call {
+            TreeCall::Make { parent, name, carried, .. } => s.make_file(parent, name, carried).expect("room") as u64,
+            TreeCall::Rename { inode, parent, name, .. } => s.rename_file(inode, parent, name).map(|()| 0).expect("a file"),
+            TreeCall::Delete { inode, .. } => s.delete_file(inode).map(|()| 0).expect("a file"),
+            TreeCall::Lookup { parent, name, .. } => s.lookup_file(parent, name).expect("a file") as u64,
+            TreeCall::List { inode, .. } => s.list_files(inode).expect("a directory").len() as u64,
+            _ => unreachable!("not measured"),
+        };
+        [0, given, 0]
+    };
+    let left = || state.borrow().four().iter().fold(0u64, |sum, bytes| sum.rotate_left(1) ^ digest(bytes));
+    Side { name: "original, handle open", spoil: Box::new(|| {}), ready: Box::new(ready), run: Box::new(run), left: Box::new(left), times: 1, apart: false }
 }
 
-/// A thousand lookups, of each the time: the original's, and the port's own walks.
-fn lookups(at: &str, full: &Full) {
+/// What the original can't tell left out: how many keys lookup compared, and the work list.
+fn compared<'a>(on: &'a OnTree, side: Side<'a>) -> Side<'a> {
+    let Side { mut run, .. } = side;
+    let left = || on.state.borrow().four().iter().fold(0u64, |sum, bytes| sum.rotate_left(1) ^ digest(bytes));
+    Side {
+        run: Box::new(move || {
+            let [number, given, _] = run();
+            [number, given, 0]
+        }),
+        left: Box::new(left),
+        ..side
+    }
+}
+
+/// A thousand lookups, of each the time: the original's, and the library's own walks.
+fn lookups(report: &mut Report, at: &str, full: &Full) {
     let step = (full.keys.len() / 1_000).max(1);
     let keys: Vec<_> = full.keys.iter().step_by(step).cloned().collect();
-    let calls: Vec<TreeCall> = (0..keys.len()).map(|at| lookup(&keys, at)).collect();
-    let tables = original::PRESENT.then(|| RefCell::new(Tables::open(full.lent.four()).unwrap()));
+    let calls: Vec<TreeCall> = keys.iter().map(|key| lookup(*key)).collect();
+    let tables = original::PRESENT.then(|| Tables::open(full.lent.four()).expect("it opens"));
     let state = RefCell::new(full.lent.clone());
-    let theirs = tables.as_ref().and_then(|tables| {
-        side(
-            || {},
-            || {
-                for (parent, name) in &keys {
-                    let _ = black_box(tables.borrow_mut().lookup_file(*parent, *name));
-                }
-            },
-        )
-    });
-    let ours = side(
-        || {},
-        || {
-            for call in &calls {
-                black_box(Inner.tree_call(call, &mut state.borrow_mut()));
-            }
-        },
-    );
-    let each = |all: Option<f64>| all.map(|time| time / keys.len() as f64);
-    let [original, own] = best([theirs, ours]).map(each);
-    println!(
-        "| {at}: each of {} lookups | {} | - | - | {} | {} |",
-        keys.len(),
-        shown(original),
-        shown(own),
-        ratio(own, original)
-    );
+    let side = |name, run| Side { name, spoil: Box::new(|| {}), ready: Box::new(|| {}), run, left: Box::new(|| 0), times: 1, apart: false };
+    let mut sides = vec![];
+    if let Some(tables) = &tables {
+        let all = || [0, keys.iter().map(|(parent, name)| tables.lookup_file(*parent, *name).expect("a file") as u64).sum(), 0];
+        sides.push(side("original", Box::new(all) as Box<dyn FnMut() -> Answer>));
+    }
+    let all = || [0, calls.iter().map(|call| Inner.tree_call(call, &mut state.borrow_mut()).expect("an inner call").fields[0]).sum(), 0];
+    sides.push(side("inner", Box::new(all)));
+    let times: Vec<f64> = race(at, sides, LINE).iter().map(|time| time / keys.len() as f64).collect();
+    let (original, own) = (tables.is_some().then(|| times[0]), times.last().copied());
+    let name = format!("{at}: each of {} lookups", keys.len());
+    report.row(&[name, shown(original), "-".into(), shown(own), ratio(own, original)]);
 }
 
-fn lookup(keys: &[(u32, [u8; 16])], at: usize) -> TreeCall {
-    let (parent, name) = keys[at];
+fn lookup((parent, name): shapes::Key) -> TreeCall {
     TreeCall::Lookup { kind: Kind::File, parent, name }
 }
 
-fn shape(dirs: usize, files: usize, buckets: usize) {
+fn shape(report: &mut Report, dirs: usize, files: usize, buckets: usize) {
     let full = shapes::tree(dirs, files, buckets);
-    let lent = &full.lent;
-    let (state, tables) = (RefCell::new(lent.clone()), RefCell::new(None));
     let at = format!("{dirs} + {files} entries, {buckets} buckets");
-    let [careful, test] = best([careful(&state, lent), library(&state, lent, &TreeCall::Test)]);
-    println!("| {at}: test | - | {} | {} | - | {} |", shown(careful), shown(test), ratio(test, careful));
-    if super::said("tests") {
-        return;
-    }
+    let on = OnTree::new(full.lent.clone());
+    let tables = original::PRESENT.then(|| RefCell::new(Tables::open(full.lent.four()).expect("it opens")));
     let kind = Kind::File;
     let (parent, inode) = (full.keys[files / 2].0, files as u32 / 2);
     let name = shapes::name(usize::MAX / 3);
     let each = [
-        ("lookup", lookup(&full.keys, files / 3)),
+        ("lookup", lookup(full.keys[files / 3])),
         ("make", TreeCall::Make { kind, parent, name, carried: [1; 20] }),
         ("rename", TreeCall::Rename { kind, inode, parent, name }),
         ("delete", TreeCall::Delete { kind, inode }),
         ("list", TreeCall::List { kind, inode: parent }),
     ];
-    for (call_name, call) in each {
-        let sides = [original(&tables, lent, &call), library(&state, lent, &call), inner(&state, lent, &call)];
-        let [original, port, own] = best(sides);
-        println!(
-            "| {at}: {call_name} | {} | - | {} | {} | {} |",
-            shown(original),
-            shown(port),
-            shown(own),
-            ratio(own, original)
-        );
+    for (call_name, call) in &each {
+        let mut sides = vec![];
+        if let Some(tables) = &tables {
+            sides.push(original(tables, &full.lent, call));
+        }
+        sides.push(compared(&on, on.library(call)));
+        sides.push(compared(&on, on.inner(call)));
+        let times = race(&at, sides, LINE);
+        let (port, own) = (Some(times[times.len() - 2]), times.last().copied());
+        let original = tables.is_some().then(|| times[0]);
+        report.row(&[format!("{at}: {call_name}"), shown(original), shown(port), shown(own), ratio(own, original)]);
     }
-    lookups(&at, &full);
+    lookups(report, &at, &full);
 }
 
-pub fn run(quick: bool) {
-    println!("\n### Entry tables\n");
-    println!("| | original | careful | port | own | own / original, or port / careful for the test |\n|---|---|---|---|---|---|");
-    shape(64, 1_000, 128);
-    shape(64, 1_000, 1_024);
-    if !quick {
-        shape(1_000, 65_000, 1_024);
-        shape(1_000, 65_000, 8_192);
-        shape(1_000, 65_000, 65_536);
-        shape(30_000, 30_000, 65_536);
+fn tests(report: &mut Report, shapes: &[(usize, usize, usize)]) {
+    report.table("Entry tables: the test", "", &["entries", "buckets", "careful", "several walks, long buckets sorted", "library", "library / best"]);
+    for (dirs, files, buckets) in shapes {
+        let on = OnTree::new(shapes::tree(*dirs, *files, *buckets).lent);
+        let times = race("tree test", on.tests(true), LINE);
+        let best = times[0].min(times[1]);
+        let cells = [format!("{dirs} + {files}"), buckets.to_string(), shown(Some(times[0])), shown(Some(times[1])), shown(Some(times[2]))];
+        report.row(&[&cells[..], &[ratio(Some(times[2]), Some(best))]].concat());
+    }
+}
+
+pub fn run(report: &mut Report, quick: bool) {
+    let all = [
+        (64, 1_000, 128),
+        (64, 1_000, 1_024),
+        (1_000, 65_000, 1_024),
+        (1_000, 65_000, 8_192),
+        (1_000, 65_000, 65_536),
+        (30_000, 30_000, 65_536),
+    ];
+    let shapes = if quick { &all[..2] } else { &all[..] };
+    tests(report, shapes);
+    let about = "`own` is the library's work behind its test: the time of its inner call.";
+    report.table("Entry tables: the calls", about, &["call", "original, handle open", "library", "own", "own / original"]);
+    for (dirs, files, buckets) in shapes {
+        shape(report, *dirs, *files, *buckets);
     }
 }

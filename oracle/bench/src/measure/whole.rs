@@ -1,95 +1,167 @@
-//! The Rust side's `Volume`, which tests its tables once and then uses the inner calls, beside the original on a fresh volume.
+//! The Rust side's `Volume`, which tests its tables once and then uses the inner calls, beside the original and plain Rust with handles.
 
-use super::{best, ratio, shown, side, Side};
+use super::{digest, race, ratio, shown, Answer, Side, LINE};
+use crate::peers::files::{Files, Handle};
+use crate::report::Report;
 use mukthiban::{Shape, Volume};
 use std::cell::RefCell;
-use std::hint::black_box;
 
 /// One call, on the file that begins at a block.
 #[derive(Clone, Copy)]
-enum Step {
+pub enum Step {
     Create(usize),
     Resize(usize, usize),
     Delete(usize),
 }
 
-/// The block table is put back before each run, and tested; no step changes the data.
-fn volume<'a>(state: &'a RefCell<Option<Volume>>, start: &'a Volume, step: Step) -> Option<Side<'a>> {
-    let ready = move || {
-        let mut parts = state.take().expect("a volume").into_parts();
-        parts.fat.copy_from_slice(&start.parts().fat);
-        state.replace(Some(Volume::open(parts).expect("a sound volume")));
-    };
-    let run = move || {
-        let mut state = state.borrow_mut();
-        let volume = state.as_mut().expect("a volume");
-        match step {
-            Step::Create(count) => drop(black_box(volume.create(count))),
-            Step::Resize(first, count) => volume.resize(first, count).unwrap(),
-            Step::Delete(first) => volume.delete(first).unwrap(),
+impl Step {
+    fn file(self) -> Option<usize> {
+        match self {
+            Step::Resize(first, _) | Step::Delete(first) => Some(first),
+            Step::Create(_) => None,
         }
-    };
-    side(ready, run)
+    }
 }
 
-/// The original on the same bytes. It keeps handles: the file's is open before the clock starts.
-fn original<'a>(state: &'a RefCell<original::Volume>, start: &'a Volume, step: Step) -> Option<Side<'a>> {
-    let ready = move || {
-        let (mut volume, parts) = (state.borrow_mut(), start.parts());
-        volume.set_table(&parts.fat);
-        volume.reopen(parts.block_len).unwrap();
-        if let Step::Resize(first, _) | Step::Delete(first) = step {
-            volume.list(first).unwrap();
-        }
-    };
-    let run = move || {
-        let mut volume = state.borrow_mut();
-        match step {
-            Step::Create(count) => drop(black_box(volume.create(count))),
-            Step::Resize(first, count) => volume.resize(first, count).unwrap(),
-            Step::Delete(first) => volume.delete(first).unwrap(),
-        }
-    };
-    side(ready, run)
+fn done(first: Option<usize>) -> Answer {
+    [0, first.unwrap_or(0) as u64, 0]
 }
 
-fn line(name: &str, start: &Volume, step: Step) {
-    let parts = start.parts();
-    let open = || original::Volume::open(&parts.fat, &parts.data, parts.block_len).unwrap();
-    let theirs = original::PRESENT.then(|| RefCell::new(open()));
-    let ours = RefCell::new(Some(start.clone()));
-    let sides = [theirs.as_ref().and_then(|state| original(state, start, step)), volume(&ours, start, step)];
-    let [original, volume] = best(sides);
-    println!("| {name} | {} | {} | {} |", shown(original), shown(volume), ratio(volume, original));
+/// A volume, the original over the same bytes, and plain Rust over them.
+pub struct OnVolume {
+    start: Volume,
+    ours: RefCell<Option<Volume>>,
+    theirs: Option<RefCell<original::Volume>>,
+    plain: RefCell<(Files, Option<Handle>)>,
 }
 
-pub fn run(quick: bool) {
-    let n = if quick { 8_191 } else { 1_000_000 };
-    println!("\n### Rust's Volume on a fresh volume of {n} blocks\n");
-    println!("`Volume` is at most 1.5 times `original` where the aim is met; the original's handle is open before the clock starts.\n");
-    println!("| call | original | Volume | Volume / original |\n|---|---|---|---|");
+impl OnVolume {
+    pub fn new(start: Volume) -> OnVolume {
+        let parts = start.parts();
+        let open = || original::Volume::open(&parts.fat, &parts.data, parts.block_len).expect("it opens");
+        OnVolume {
+            theirs: original::PRESENT.then(|| RefCell::new(open())),
+            plain: RefCell::new((Files { table: parts.fat.clone(), free: 0 }, None)),
+            ours: RefCell::new(Some(start.clone())),
+            start,
+        }
+    }
+
+    /// The original, whose handle is open before the clock starts.
+    fn original(&self, step: Step) -> Option<Side<'_>> {
+        let theirs = self.theirs.as_ref()?;
+        let ready = move || {
+            let (mut volume, parts) = (theirs.borrow_mut(), self.start.parts());
+            volume.set_table(&parts.fat);
+            volume.reopen(parts.block_len).expect("it opens");
+            if let Some(first) = step.file() {
+                volume.list(first).expect("a file");
+            }
+        };
+        let run = move || {
+            let mut volume = theirs.borrow_mut();
+            done(match step {
+                Step::Create(count) => Some(volume.create(count).expect("room")),
+                Step::Resize(first, count) => volume.resize(first, count).map(|()| None).expect("room"),
+                Step::Delete(first) => volume.delete(first).map(|()| None).expect("a file"),
+            })
+        };
+        let left = move || digest(&theirs.borrow().table());
+        Some(Side { name: "original, handle open", spoil: Box::new(|| {}), ready: Box::new(ready), run: Box::new(run), left: Box::new(left), times: 1, apart: false })
+    }
+
+    /// Plain Rust, whose handle is open before the clock starts.
+    fn plain(&self, step: Step) -> Side<'_> {
+        let ready = move || {
+            let (files, handle) = &mut *self.plain.borrow_mut();
+            files.table.copy_from_slice(&self.start.parts().fat);
+            files.free = self.start.free() as u32;
+            *handle = step.file().map(|first| files.open(first));
+        };
+        let run = move || {
+            let (files, handle) = &mut *self.plain.borrow_mut();
+            done(match step {
+                Step::Create(count) => {
+                    *handle = files.create(count as u32);
+                    handle.as_ref().map(Handle::first)
+                }
+                Step::Resize(_, count) => {
+                    files.resize(handle.as_mut().expect("open"), count as u32).expect("room");
+                    None
+                }
+                Step::Delete(_) => {
+                    files.delete(handle.take().expect("open"));
+                    None
+                }
+            })
+        };
+        let left = || digest(&self.plain.borrow().0.table);
+        Side { name: "plain Rust, handle open", spoil: Box::new(|| {}), ready: Box::new(ready), run: Box::new(run), left: Box::new(left), times: 1, apart: false }
+    }
+
+    /// The block table is put back before each run, and tested; no step changes the data.
+    fn volume(&self, step: Step) -> Side<'_> {
+        let ready = move || {
+            let mut parts = self.ours.take().expect("a volume").into_parts();
+            parts.fat.copy_from_slice(&self.start.parts().fat);
+            self.ours.replace(Some(Volume::open(parts).expect("a sound volume")));
+        };
+        let run = move || {
+            let mut ours = self.ours.borrow_mut();
+            let volume = ours.as_mut().expect("a volume");
+            done(match step {
+                Step::Create(count) => Some(volume.create(count).expect("room")),
+                Step::Resize(first, count) => volume.resize(first, count).map(|()| None).expect("room"),
+                Step::Delete(first) => volume.delete(first).map(|()| None).expect("a file"),
+            })
+        };
+        let left = || digest(&self.ours.borrow().as_ref().expect("a volume").parts().fat);
+        Side { name: "Volume", spoil: Box::new(|| {}), ready: Box::new(ready), run: Box::new(run), left: Box::new(left), times: 1, apart: false }
+    }
+
+    /// The original where it is here, plain Rust, and `Volume`.
+    pub fn sides(&self, step: Step) -> Vec<Side<'_>> {
+        let mut sides: Vec<Side> = self.original(step).into_iter().collect();
+        sides.extend([self.plain(step), self.volume(step)]);
+        sides
+    }
+}
+
+/// A fresh volume with so many files of so many blocks.
+pub fn with(n: usize, files: usize, blocks: usize) -> OnVolume {
     let shape = Shape { blocks: n, block_len: 512, dir_max: 2, file_max: 1, buckets: 1 };
-    let with = |files: usize, blocks: usize| {
-        let mut volume = Volume::new(shape).unwrap();
-        for _ in 0..files {
-            volume.create(blocks).unwrap();
-        }
-        volume
-    };
-    let (empty, one, quarter) = (with(0, 0), with(1, 1), with(1, n / 4));
-    line("create 1", &empty, Step::Create(1));
-    line("create n / 4", &empty, Step::Create(n / 4));
-    line("grow 1 to 2", &one, Step::Resize(0, 2));
-    line("grow 1 to n / 4", &one, Step::Resize(0, n / 4));
-    line("shrink n / 4 to half", &quarter, Step::Resize(0, n / 8));
-    line("delete 1", &one, Step::Delete(0));
-    line("delete n / 4", &quarter, Step::Delete(0));
-    // Half of it taken by files of 64 blocks, and the one in their middle.
-    let files = n / 128;
-    let many = with(files, 64);
-    let middle = files / 2 * 64;
-    line("of files of 64: create 64", &many, Step::Create(64));
-    line("of files of 64: grow 64 to 128", &many, Step::Resize(middle, 128));
-    line("of files of 64: shrink 64 to 32", &many, Step::Resize(middle, 32));
-    line("of files of 64: delete 64", &many, Step::Delete(middle));
+    let mut volume = Volume::new(shape).expect("a volume");
+    for _ in 0..files {
+        volume.create(blocks).expect("room");
+    }
+    OnVolume::new(volume)
+}
+
+fn line(report: &mut Report, name: &str, on: &OnVolume, step: Step) {
+    let times = race(name, on.sides(step), LINE);
+    let (original, rest) = if original::PRESENT { (Some(times[0]), &times[1..]) } else { (None, &times[..]) };
+    let (plain, ours) = (Some(rest[0]), Some(rest[1]));
+    report.row(&[name.into(), shown(original), shown(plain), shown(ours), ratio(ours, original), ratio(ours, plain)]);
+}
+
+pub fn run(report: &mut Report, quick: bool) {
+    let n = if quick { 8_191 } else { 1_000_000 };
+    let columns = ["call", "original, handle open", "plain Rust, handle open", "Volume", "Volume / original", "Volume / plain Rust"];
+    report.table(&format!("Rust's Volume on a fresh volume of {n} blocks"), "", &columns);
+    let empty = with(n, 0, 0);
+    line(report, "create 1", &empty, Step::Create(1));
+    line(report, "create n / 4", &empty, Step::Create(n / 4));
+    drop(empty);
+    let one = with(n, 1, 1);
+    line(report, "grow 1 to 2", &one, Step::Resize(0, 2));
+    line(report, "grow 1 to n / 4", &one, Step::Resize(0, n / 4));
+    line(report, "delete 1", &one, Step::Delete(0));
+    drop(one);
+    let quarter = with(n, 1, n / 4);
+    line(report, "shrink n / 4 to half", &quarter, Step::Resize(0, n / 8));
+    line(report, "delete n / 4", &quarter, Step::Delete(0));
+    drop(quarter);
+    // Half of it taken by files of 64 blocks.
+    let many = with(n, n / 128, 64);
+    line(report, "of files of 64: create 64", &many, Step::Create(64));
 }

@@ -1,0 +1,149 @@
+//! The jobs of the first table, each beside every peer that does the same.
+
+use super::handles::{self, OpenFile};
+use super::sides::{OnBlocks, OnTree};
+use super::whole::{with, Step};
+use super::{commas, race, Side, JOB};
+use crate::report::Report;
+use crate::shapes::blocks::{ring, singly, volume, Order, Shape, SHAPES};
+use crate::shapes::tree::{planned, Names, Order as Buckets, Plan};
+use port::{BlockCall, Blocks};
+
+fn job(report: &mut Report, what: &str, sides: Vec<Side>) {
+    if left_out(what) {
+        return;
+    }
+    let names: Vec<&'static str> = sides.iter().map(|side| side.name).collect();
+    let times = race(what, sides, JOB);
+    report.job(what, &names, &times);
+}
+
+fn block_test(report: &mut Report, what: &str, lent: Blocks) {
+    let on = OnBlocks::new(lent);
+    job(report, &format!("block test, {what}"), on.tests());
+}
+
+fn block_tests(report: &mut Report, n: usize) {
+    block_test(report, "1,024 blocks, fresh", volume(Shape::Fresh, 1_024, 1).lent);
+    for shape in SHAPES {
+        block_test(report, &format!("{} blocks, {}", commas(n), shape.said()), volume(shape, n, 1).lent);
+    }
+    for (order, said) in [(Order::Rising, "rising"), (Order::Falling, "falling"), (Order::Any, "in any order")] {
+        block_test(report, &format!("one chain of {} single blocks, {said}", commas(n)), singly(n, n, order, 1).0);
+    }
+    for (order, said) in [(Order::Rising, "rising"), (Order::Any, "in any order")] {
+        block_test(report, &format!("one ring of {} single blocks, {said} (refused)", commas(n)), ring(n, 0, order));
+    }
+    let what = format!("one ring of {} single blocks in any order beside one file (refused)", commas(n - 1));
+    block_test(report, &what, ring(n, 1, Order::Any));
+}
+
+/// Calls on one file of all blocks but one, single and in any order: beside plain Rust, and beside the library's test alone.
+fn long_file(report: &mut Report, n: usize) {
+    let (mut lent, first) = singly(n, n - 1, Order::Any, 512);
+    let pos = (n - 1) * 512 - 1;
+    lent.buf = vec![0x77];
+    // The last byte of the file, to be told from any other.
+    let last = (0..n).find(|b| lent.table[(b + 1) * 8 + 4..][..4] == [0; 4] && lent.table[4..8] != (*b as u32 + 1).to_le_bytes()).expect("an end");
+    lent.data[last * 512 + 511] = 0x5A;
+    let on = OnBlocks::new(lent);
+    let calls = [
+        ("open list", BlockCall::OpenList { first }),
+        ("read its last byte", BlockCall::Read { first, pos }),
+        ("shrink to half", BlockCall::Resize { first, count: n / 2 }),
+        ("delete", BlockCall::Delete { first }),
+        // Last, since it is compared on data that are written over.
+        ("write its last byte", BlockCall::Write { first, pos }),
+    ];
+    for (name, call) in &calls {
+        let what = format!("a file of {} single blocks in any order: {name}", commas(n - 1));
+        if left_out(&what) {
+            continue;
+        }
+        let alone = Side { apart: true, ..on.library(&BlockCall::Test) };
+        let [walks, ends] = on.peers(call);
+        let names = [walks.name, ends.name, "library"];
+        let times = race(&what, vec![alone, walks, ends, on.library(call)], JOB);
+        report.job(&what, &names, &times[1..]);
+        report.beside(&format!("{what}, against its test alone"), "the library's test", times[0], times[3]);
+    }
+}
+
+/// Whether the command line has a word `only=..` that is no part of this.
+fn left_out(what: &str) -> bool {
+    std::env::args().any(|word| word.strip_prefix("only=").is_some_and(|only| !what.contains(only)))
+}
+
+fn tree_test(report: &mut Report, what: &str, plan: Plan) {
+    let on = OnTree::new(planned(plan).lent);
+    // The careful test compares every pair of a bucket: seconds for a long one.
+    let careful = plan.file_buckets > 1 || plan.files < 5_000;
+    job(report, &format!("tree test, {what}"), on.tests(careful));
+}
+
+fn tree_tests(report: &mut Report, entries: usize) {
+    let plan = |buckets: usize, names, order| Plan {
+        dirs: entries,
+        files: entries,
+        dir_buckets: buckets,
+        file_buckets: buckets,
+        names,
+        dir_order: order,
+        file_order: order,
+        spare: 0,
+    };
+    let each = format!("{} entries each", commas(entries));
+    let (numbered, random, made, any) = (Names::Numbered, Names::Random, Buckets::Made, Buckets::Any);
+    tree_test(report, &format!("{each}: one bucket, in order"), plan(1, numbered, made));
+    tree_test(report, &format!("{each}: one bucket, in any order"), plan(1, numbered, any));
+    tree_test(report, &format!("{each}: 256 buckets, random names"), plan(256, random, made));
+    tree_test(report, &format!("{each}: 1,024 buckets, names like file00017.dat"), plan(1_024, numbered, made));
+    tree_test(report, &format!("{each}: as many buckets, names like file00017.dat"), plan(entries, numbered, made));
+    tree_test(report, &format!("{each}: as many buckets, random names"), plan(entries, random, made));
+    let ring = Plan { dirs: 64, dir_order: Buckets::Made, ..plan(1, numbered, Buckets::Ring) };
+    tree_test(report, &format!("one bucket that is a ring of {} files (refused)", commas(entries)), ring);
+}
+
+/// A file of 64 blocks behind many others.
+fn volumes(report: &mut Report, n: usize) {
+    let before = n / 128;
+    let many = with(n, before + 1, 64);
+    let first = before * 64;
+    let steps = [
+        ("grow 64 blocks to 128", Step::Resize(first, 128)),
+        ("shrink 64 blocks to 32", Step::Resize(first, 32)),
+        ("delete 64 blocks", Step::Delete(first)),
+    ];
+    for (name, step) in steps {
+        job(report, &format!("Volume, a file behind {} others: {name}", commas(before)), many.sides(step));
+    }
+}
+
+/// Files that are open: the original's handle, plain Rust with the block list, and `File` or `FileMut`.
+fn open_files(report: &mut Report, quick: bool) {
+    let many = if quick { 2_000 } else { 200_000 };
+    let (lent, first) = singly(many + 1, many, Order::Any, 512);
+    let mut on = OpenFile::new(lent, first, many);
+    job(report, &format!("a file of {} single blocks, open: read a byte at 1,000 places", commas(many)), handles::sides(&mut on, 1, 1_000, false));
+    let n = if quick { 8_191 } else { 65_536 };
+    for block_len in [512, 4_096] {
+        let made = volume(Shape::WornRandom, n, block_len);
+        let mut on = OpenFile::new(made.lent, made.large, made.large_blocks);
+        let whole = made.large_blocks * block_len;
+        for (write, said) in [(false, "read"), (true, "write")] {
+            let what = format!("a file of {} single blocks of {block_len} bytes, open: {said} it whole", commas(made.large_blocks));
+            job(report, &what, handles::sides(&mut on, whole, 1, write));
+        }
+    }
+}
+
+pub fn run(report: &mut Report, quick: bool) {
+    let columns = ["job", "peer", "its time", "library", "ratio"];
+    report.table("The jobs, with every peer", "", &columns);
+    let (n, entries) = if quick { (8_191, 2_000) } else { (1_000_000, 65_535) };
+    tree_tests(report, entries);
+    block_tests(report, n);
+    long_file(report, n);
+    volumes(report, n);
+    open_files(report, quick);
+}
