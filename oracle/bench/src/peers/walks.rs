@@ -7,8 +7,8 @@ use super::{FLAG, INDEX};
 
 /// How many walks take turns.
 const SLOTS: usize = 12;
-/// Every so many nodes with a previous, one more walk begins.
-const EVERY: u32 = 1_024;
+/// Every so many nodes, a power of 2, one more walk begins.
+const EVERY: usize = 1_024;
 
 /// What the test answers, and whether a file begins at the block that was asked about.
 pub struct Tested {
@@ -32,7 +32,7 @@ pub fn tested(table: &[u8], work: &mut [u32], first: usize) -> Option<Tested> {
     tested_every(table, work, first, EVERY)
 }
 
-fn tested_every(table: &[u8], work: &mut [u32], first: usize, every: u32) -> Option<Tested> {
+fn tested_every(table: &[u8], work: &mut [u32], first: usize, every: usize) -> Option<Tested> {
     let n = table.len() / 8 - 1;
     let answer = match n {
         1 => judged(table, n, &mut [0; 3], first, every),
@@ -77,38 +77,33 @@ struct Found<'a> {
     besides: Vec<u32>,
 }
 
-fn found<'a>(entries: &[[u8; 8]], n: usize, work: &'a mut [u32], every: u32) -> Option<Found<'a>> {
+fn found<'a>(entries: &[[u8; 8]], n: usize, work: &'a mut [u32], every: usize) -> Option<Found<'a>> {
     let words = n.div_ceil(32);
     let (bits, room) = work.split_at_mut(2 * words);
     bits.fill(0);
     let (starts, splits) = bits.split_at_mut(words);
     let mut firsts = Firsts { room, count: 0, more: vec![] };
-    let (mut nodes, mut since, mut besides) = (0, 0, vec![]);
-    let (mut word, mut held) = (0, 0u32);
+    let (mut nodes, mut besides) = (0, vec![]);
     let mut b = 0;
     while b < n {
-        let (u, v) = (prev(&entries[b + 1]), next(&entries[b + 1]));
-        if b / 32 != word {
-            starts[word] = held;
-            (word, held) = (b / 32, 0);
-        }
-        held |= 1 << (b % 32);
-        nodes += 1;
-        if u == FLAG {
-            firsts.push(b as u32 + 1);
-        } else if u == 0 || u > FLAG {
-            return None;
-        } else {
-            since += 1;
-            if since == every {
-                since = 0;
-                splits[b / 32] |= 1 << (b % 32);
+        let word = b / 32;
+        let (mut held, end) = (0u32, n.min(32 * word + 32));
+        while b < end {
+            let (u, v) = (prev(&entries[b + 1]), next(&entries[b + 1]));
+            held |= 1 << (b % 32);
+            nodes += 1;
+            if u == FLAG {
+                firsts.push(b as u32 + 1);
+            } else if u == 0 || u > FLAG {
+                return None;
+            } else if nodes & (every - 1) == 0 {
+                splits[word] |= 1 << (b % 32);
                 besides.push(b as u32 + 1);
             }
+            b += if v & FLAG == 0 { 1 } else { long(entries, n, b)? };
         }
-        b += if v & FLAG == 0 { 1 } else { long(entries, n, b)? };
+        starts[word] = held;
     }
-    starts[word] = held;
     Some(Found { nodes, starts, splits, firsts, besides })
 }
 
@@ -139,7 +134,75 @@ struct Part {
     to: u32,
 }
 
-fn judged(table: &[u8], n: usize, work: &mut [u32], first: usize, every: u32) -> Option<Tested> {
+/// What a walk's next step is.
+enum Step {
+    On,
+    Ended(Part),
+    Broken,
+}
+
+impl Walk {
+    #[inline]
+    fn from(entries: &[[u8; 8]], index: u32) -> Walk {
+        let v = next(&entries[index as usize]);
+        Walk { source: index, at: index, v, blocks: size(entries, index, v) }
+    }
+
+    #[inline]
+    fn step(&mut self, entries: &[[u8; 8]], found: &Found) -> Step {
+        let to = self.v & INDEX;
+        if to != 0 {
+            let Some(entry) = entries.get(to as usize) else { return Step::Broken };
+            if prev(entry) != self.at || !bit(found.starts, to as usize - 1) {
+                return Step::Broken;
+            }
+            if !bit(found.splits, to as usize - 1) {
+                (self.at, self.v) = (to, next(entry));
+                self.blocks += size(entries, to, self.v);
+                return Step::On;
+            }
+        }
+        Step::Ended(Part { blocks: self.blocks, to })
+    }
+}
+
+/// The walks that ended: by the place of their beginning among those besides, or those from a first node that are parts of a chain; and the free blocks.
+struct Ended {
+    parts: Vec<Part>,
+    joined: Vec<(u32, Part)>,
+    free: u32,
+}
+
+impl Ended {
+    fn push(&mut self, found: &Found, head: u32, begin: u32, part: Part) -> Option<()> {
+        if bit(found.splits, begin as usize - 1) {
+            self.parts[found.besides.binary_search(&begin).ok()?] = part;
+        } else if part.to != 0 {
+            self.joined.push((begin, part));
+        } else if begin == head {
+            self.free = part.blocks;
+        }
+        Some(())
+    }
+
+    /// The free blocks, once chains that were walked in parts are put together; none if a part is left, which is in a ring then.
+    fn free(self, found: &Found, head: u32) -> Option<u32> {
+        let (mut met, mut free) = (0, self.free);
+        for (begin, part) in self.joined {
+            let (mut blocks, mut to) = (part.blocks, part.to);
+            while to != 0 {
+                let part = self.parts[found.besides.binary_search(&to).ok()?];
+                (blocks, to, met) = (blocks + part.blocks, part.to, met + 1);
+            }
+            if begin == head {
+                free = blocks;
+            }
+        }
+        (met == self.parts.len()).then_some(free)
+    }
+}
+
+fn judged(table: &[u8], n: usize, work: &mut [u32], first: usize, every: usize) -> Option<Tested> {
     let entries = &entries(table)[..n + 1];
     let (zero, head) = (prev(&entries[0]), next(&entries[0]));
     if zero != 0 || head as usize > n {
@@ -161,67 +224,34 @@ fn judged(table: &[u8], n: usize, work: &mut [u32], first: usize, every: u32) ->
 
 /// All walks: the blocks of the chain that begins at `head`, if every node was reached and nothing is a ring.
 fn walked(entries: &[[u8; 8]], found: &Found, head: u32) -> Option<u32> {
-    let sources = found.firsts.count + found.besides.len();
-    let source = |at: usize| if at < found.firsts.count { found.firsts.get(at) } else { found.besides[at - found.firsts.count] };
-    let begun = |index: u32| {
-        let v = next(&entries[index as usize]);
-        Walk { source: index, at: index, v, blocks: size(entries, index, v) }
-    };
-    let mut parts = vec![Part::default(); found.besides.len()];
-    let mut joined = vec![];
-    let (mut slots, mut busy, mut given, mut reached, mut free) = ([Walk::default(); SLOTS], 0, 0, sources, 0);
-    while busy < SLOTS && given < sources {
-        slots[busy] = begun(source(given));
-        (busy, given) = (busy + 1, given + 1);
+    let firsts = found.firsts.count;
+    let sources = firsts + found.besides.len();
+    let begun = |at: usize| Walk::from(entries, if at < firsts { found.firsts.get(at) } else { found.besides[at - firsts] });
+    let mut ended = Ended { parts: vec![Part::default(); found.besides.len()], joined: vec![], free: 0 };
+    let (mut slots, mut busy, mut reached) = ([Walk::default(); SLOTS], sources.min(SLOTS), sources);
+    for (at, slot) in slots[..busy].iter_mut().enumerate() {
+        *slot = begun(at);
     }
+    let mut given = busy;
     while busy > 0 {
         let mut i = 0;
         while i < busy {
-            let walk = &mut slots[i];
-            let to = walk.v & INDEX;
-            if to != 0 {
-                let entry = entries.get(to as usize)?;
-                if prev(entry) != walk.at || !bit(found.starts, to as usize - 1) {
-                    return None;
+            match slots[i].step(entries, found) {
+                Step::On => reached += 1,
+                Step::Broken => return None,
+                Step::Ended(part) => {
+                    ended.push(found, head, slots[i].source, part)?;
+                    if given == sources {
+                        busy -= 1;
+                        slots[i] = slots[busy];
+                        continue;
+                    }
+                    slots[i] = begun(given);
+                    given += 1;
                 }
-                if !bit(found.splits, to as usize - 1) {
-                    (walk.at, walk.v) = (to, next(entry));
-                    walk.blocks += size(entries, to, walk.v);
-                    reached += 1;
-                    i += 1;
-                    continue;
-                }
             }
-            let part = Part { blocks: walk.blocks, to };
-            let begin = walk.source;
-            if bit(found.splits, begin as usize - 1) {
-                parts[found.besides.binary_search(&begin).ok()?] = part;
-            } else if to != 0 {
-                joined.push((begin, part));
-            } else if begin == head {
-                free = part.blocks;
-            }
-            if given < sources {
-                slots[i] = begun(source(given));
-                given += 1;
-                i += 1;
-            } else {
-                busy -= 1;
-                slots[i] = slots[busy];
-            }
+            i += 1;
         }
     }
-    // What is left of the chains that were walked in parts. A ring has no first node.
-    let mut met = 0;
-    for (begin, part) in joined {
-        let (mut blocks, mut to) = (part.blocks, part.to);
-        while to != 0 {
-            let part = parts[found.besides.binary_search(&to).ok()?];
-            (blocks, to, met) = (blocks + part.blocks, part.to, met + 1);
-        }
-        if begin == head {
-            free = blocks;
-        }
-    }
-    (reached == found.nodes && met == parts.len()).then_some(free)
+    if reached == found.nodes { ended.free(found, head) } else { None }
 }
