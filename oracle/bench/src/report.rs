@@ -142,14 +142,16 @@ pub fn machine(load_before: &str) -> String {
         "x86_64" => "The library is the proved archive in dist/.",
         _ => "The library is the proved LLVM module compiled for this processor (tools/native), not the x86-64 archive of dist/.",
     };
+    let busy = load_before.parse().is_ok_and(|load: f64| load > 1.0);
     format!(
-        "{}, {} processors ({processor}; {}), Linux {}, {}. Load {load_before} at the beginning of the run and {} at its end, of which the run itself is 1. {library}{}",
+        "{}, {} processors ({processor}; {}), Linux {}, {}. Load {load_before} at the beginning of the run and {} at its end, of which the run itself is 1{}. {library}{}",
         std::env::consts::ARCH,
         std::thread::available_parallelism().map_or(0, |n| n.get()),
         caches.join(", "),
         told("uname", &["-r"]),
         told("rustc", &["--version"]),
         load(),
+        if busy { ": other work kept the machine busy" } else { "" },
         if original::PRESENT { "" } else { " **The original's source was not there: it is not measured.**" },
     )
 }

@@ -52,10 +52,11 @@ fn time(micros: f64) -> String {
     }
 }
 
+/// A size in short: 65,536 is 65k.
 fn count(value: f64) -> String {
     match value {
-        v if v >= 1e6 => format!("{:.0}M", v / 1e6),
-        v if v >= 1e3 => format!("{:.0}k", v / 1e3),
+        v if v >= 1e6 => format!("{:.0}M", (v / 1e6).floor()),
+        v if v >= 1e3 => format!("{:.0}k", (v / 1e3).floor()),
         v => format!("{v:.0}"),
     }
 }

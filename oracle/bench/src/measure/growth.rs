@@ -1,4 +1,4 @@
-//! How times grow with the size, for the drawing: every public call on the shape that is worst for it.
+//! How times grow with the size, for the drawing: every public call on a shape that is as bad for it as any that was tried.
 
 use super::sides::{OnBlocks, OnTree};
 use super::{race, shown, POINT};
@@ -11,7 +11,7 @@ use port::{BlockCall, Kind, TreeCall};
 /// Times of calls at a size.
 type Column = (usize, Vec<(&'static str, f64)>);
 
-/// Every block call at n: one file of all blocks but one, or one free chain of them, single blocks in any order. Read and write move the whole file.
+/// Every block call at n: one file of all blocks but one, or one free chain of them, single blocks in any order. Read and write move the last byte.
 fn block_column(n: usize) -> Column {
     let (mut lent, first) = singly(n, n - 1, Order::Any, 512);
     lent.buf = vec![0x5A; 1];
