@@ -1,7 +1,7 @@
 //! The block table's calls, in long tables.
 
 use super::sides::{OnBlocks, OnOriginal};
-use super::{race, ratio, shown, LINE};
+use super::{pattern, race, ratio, shown, LINE};
 use crate::report::Report;
 use crate::shapes::blocks::{volume, Shape, SHAPES};
 use port::{BlockCall, Blocks};
@@ -76,7 +76,7 @@ fn copies(report: &mut Report, n: usize, shape: Shape, block_len: usize) {
     for (i, word) in lent.data.as_chunks_mut::<8>().0.iter_mut().enumerate() {
         *word = (i as u64).wrapping_mul(0x9E37_79B9_7F4A_7C15).to_le_bytes();
     }
-    lent.buf = vec![0x5A; volume.large_blocks * block_len];
+    lent.buf = pattern(volume.large_blocks * block_len);
     let table = lent.table.clone();
     let theirs = OnOriginal::new(&table, &lent.data, block_len);
     let on = OnBlocks::new(lent);

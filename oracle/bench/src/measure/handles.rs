@@ -1,6 +1,6 @@
 //! Reading and writing with a file open: what it costs once the blocks are known.
 
-use super::{digest, Side};
+use super::{digest, pattern, Side};
 use crate::peers::files;
 use compare::chance::Chance;
 use mukthiban::{name, FileMut, Parts, Record, Shape, Volume, ROOT};
@@ -85,7 +85,7 @@ impl OpenFile {
 /// At each of some places a part of the file, read or written. What was written is read back, over zeros that were written before.
 fn side<'a>(name: &'static str, open: impl Open + 'a, len: usize, places: &[usize], write: bool) -> Side<'a> {
     let (open, places) = (std::rc::Rc::new(RefCell::new(open)), places.to_vec());
-    let buf = std::rc::Rc::new(RefCell::new(vec![0x5A; len]));
+    let buf = std::rc::Rc::new(RefCell::new(pattern(len)));
     let (spoiled, left) = ((open.clone(), buf.clone(), places.clone()), (open.clone(), buf.clone(), places.clone()));
     let run = move || {
         let (mut open, mut buf, mut sum) = (open.borrow_mut(), buf.borrow_mut(), 0);

@@ -90,6 +90,11 @@ pub fn digest_list(list: &[u32]) -> u64 {
     list.iter().fold(list.len() as u64, |sum, word| (sum ^ *word as u64).wrapping_mul(0x9E37_79B9_7F4A_7C15).rotate_left(29))
 }
 
+/// Bytes to be written, no two blocks of them alike.
+pub fn pattern(len: usize) -> Vec<u8> {
+    (0..len as u64).map(|i| (i.wrapping_mul(0x9E37_79B9_7F4A_7C15) >> 56) as u8).collect()
+}
+
 /// A number as it is read: 1,000,000.
 pub fn commas(number: usize) -> String {
     let digits = number.to_string();
