@@ -1,176 +1,219 @@
-// Each call on the blocks of a volume with the line that it writes, and all of them on a volume that is refused.
+// The block calls that the input asks.
+use crate::line;
+use crate::line::Line;
 use crate::tell;
+use ask_blocks::Lent;
+use ask_blocks::Said;
+ghost use Prim.Native.Nat.{_≤_};
+ghost use lib.ListN.{length};
 
-// The line shows the first block.
-pub fn create(
-    what: &[u8],
-    table: &mut [u8],
-    data: &[u8],
+// What a line lends from there on: bytes of table and data, the block length, places of the work list.
+struct Volume {
+    table: usize,
+    data: usize,
     block_len: usize,
-    work: &mut [u32],
-    count: usize,
-) {
-    let r = fat::create(table, data, block_len, work, count);
-    let answer = r.answer;
-    let fields = [r.first as u64];
-    tell::line(what, answer, &fields);
+    work: usize,
 }
 
-pub fn resize(
-    what: &[u8],
-    table: &mut [u8],
-    data: &[u8],
-    block_len: usize,
-    work: &mut [u32],
-    first: usize,
-    count: usize,
-) {
-    let r = fat::resize(table, data, block_len, work, first, count);
-    let answer = r.answer;
-    tell::answer(what, answer);
+fn lends(l: Line, volume: Volume) -> Volume {
+    if l.which != 0 {
+        return volume;
+    }
+    Volume {
+        table: l.a,
+        data: l.b,
+        block_len: l.c,
+        work: l.d,
+    }
 }
 
-pub fn delete(
-    what: &[u8],
-    table: &mut [u8],
-    data: &[u8],
-    block_len: usize,
-    work: &mut [u32],
-    first: usize,
-) {
-    let r = fat::delete(table, data, block_len, work, first);
-    let answer = r.answer;
-    tell::answer(what, answer);
+// Zeros in a table, and 7 in each place of a work list.
+fn clear(table: &mut [u8], work: &mut [u32]) {
+    tell::zero(table);
+    tell::fill(work, 7);
 }
 
-// The line shows the count.
-pub fn open_list(
-    what: &[u8],
-    table: &[u8],
-    data: &[u8],
-    block_len: usize,
+// Writes an entry of a table.
+fn entry(table: &mut [u8], e: usize, u: usize, v: usize) {
+    if 8 < e {
+        return;
+    }
+    if table.len() < 72 {
+        return;
+    }
+    words::put_u32(table, e * 8, tell::word(u));
+    words::put_u32(table, e * 8 + 4, tell::word(v));
+}
+
+// Writes a place of a list.
+fn place(list: &mut [u32], i: usize, x: usize) {
+    if i < list.len() {
+        list[i] = tell::word(x);
+    }
+}
+
+// A call; the list has as many places as the third number of the line says, the buffer as many bytes as the fourth.
+fn ask(
+    which: u32,
+    l: Line,
+    volume: Volume,
+    table: &mut [u8],
+    data: &mut [u8],
     work: &mut [u32],
-    first: usize,
     list: &mut [u32],
-) {
-    let r = fat::open_list(table, data, block_len, work, first, list);
-    let answer = r.answer;
-    let fields = [r.count as u64];
-    tell::line(what, answer, &fields);
+    buf: &mut [u8],
+) -> Said {
+    let lent = Lent {
+        table: volume.table,
+        data: volume.data,
+        work: volume.work,
+        list: l.c,
+        buf: l.d,
+    };
+    let block_len = volume.block_len;
+    let first = l.a;
+    let count = l.b;
+    ask_blocks::ask(
+        which,
+        lent,
+        table,
+        data,
+        block_len,
+        work,
+        list,
+        buf,
+        first,
+        count,
+    )
 }
 
-pub fn read(
-    what: &[u8],
-    table: &[u8],
-    data: &[u8],
-    block_len: usize,
+// The fields of an answer: two of test, with its work list, and one of open list and create.
+fn fields(which: u32, said: Said, volume: Volume, work: &[u32]) {
+    match which {
+        1 => {
+            tell::fields(2, said.one, said.two);
+            tell::places(work, volume.work);
+        }
+        2..=3 => tell::fields(1, said.one, 0),
+        _ => {}
+    }
+    tell::end();
+}
+
+// A call with its line; none where nothing stands before the colon.
+fn one(
+    text: &[u8],
+    l: Line,
+    volume: Volume,
+    table: &mut [u8],
+    data: &mut [u8],
     work: &mut [u32],
-    first: usize,
-    pos: usize,
+    list: &mut [u32],
     buf: &mut [u8],
 ) {
-    let r = fat::read(table, data, block_len, work, first, pos, buf);
-    let answer = r.answer;
-    tell::answer(what, answer);
+    let which = std::num::wrapping_sub_u32(l.which, 4);
+    let said = ask(which, l, volume, table, data, work, list, buf);
+    let colon = line::colon(text);
+    if colon == 0 {
+        return;
+    }
+    tell::answer(&text[0..colon], said.number);
+    fields(which, said, volume, work);
 }
 
-pub fn write(
-    what: &[u8],
-    table: &[u8],
+// The line of a call among many.
+fn tells(names: &[u8], which: u32, said: Said, volume: Volume, work: &[u32]) {
+    let name = std::num::wrapping_add_u32(which, 4);
+    tell::answer_of(names, name, said.number);
+    fields(which, said, volume, work);
+}
+
+// The calls from one number to another, each of block 0 with the count or position 1, eight places and a byte.
+fn every(
+    names: &[u8],
+    l: Line,
+    volume: Volume,
+    table: &mut [u8],
     data: &mut [u8],
-    block_len: usize,
     work: &mut [u32],
-    first: usize,
-    pos: usize,
-    buf: &[u8],
+    list: &mut [u32],
+    buf: &mut [u8],
 ) {
-    let r = fat::write(table, data, block_len, work, first, pos, buf);
-    let answer = r.answer;
-    tell::answer(what, answer);
+    let mut which = l.a;
+    while which < l.b {
+        let next = which + 1;
+        let number = tell::word(which);
+        let plain = line::plain(0, 1, 8, 1);
+        let said = ask(number, plain, volume, table, data, work, list, buf);
+        tells(names, number, said, volume, work);
+        which = next;
+    }
 }
 
-// The calls that would change a table.
-fn changes(table: &mut [u8], data: &[u8], block_len: usize, work: &mut [u32]) {
-    create(b"  create", table, data, block_len, work, 1);
-    resize(b"  resize", table, data, block_len, work, 0, 2);
-    delete(b"  delete", table, data, block_len, work, 0);
+// What a line asks.
+fn run(
+    names: &[u8],
+    text: &[u8],
+    l: Line,
+    volume: Volume,
+    table: &mut [u8],
+    data: &mut [u8],
+    work: &mut [u32],
+    list: &mut [u32],
+    buf: &mut [u8],
+) {
+    let which = l.which;
+    match which {
+        0 => clear(table, work),
+        1 => entry(table, l.a, l.b, l.c),
+        2 => place(list, l.a, l.b),
+        3 => every(names, l, volume, table, data, work, list, buf),
+        255 => tell::title(text),
+        _ => one(text, l, volume, table, data, work, list, buf),
+    }
 }
 
-// The calls that leave it as it is.
-fn carries(table: &[u8], data: &mut [u8], block_len: usize, work: &mut [u32]) {
-    let mut list = [0u32; 6];
-    let mut buf = [0u8; 1];
-    open_list(b"  open list", table, data, block_len, work, 0, &mut list);
-    read(b"  read", table, data, block_len, work, 0, 0, &mut buf);
-    write(b"  write", table, data, block_len, work, 0, 0, &buf);
+// The lines behind the names, one after the other.
+fn lines(
+    names: &[u8],
+    script: &[u8],
+    table: &mut [u8],
+    data: &mut [u8],
+    work: &mut [u32],
+    list: &mut [u32],
+    buf: &mut [u8],
+) {
+    let mut volume = Volume {
+        table: 0,
+        data: 0,
+        block_len: 0,
+        work: 0,
+    };
+    let mut at: usize = 0;
+    while at < script.len() {
+        let end = line::find(script, at, b'\n');
+        let next = end + 1;
+        let text = &script[at..end];
+        let l = line::read(names, text);
+        volume = lends(l, volume);
+        run(names, text, l, volume, table, data, work, list, buf);
+        at = next;
+    }
 }
 
-// Every call on a volume that sizes, work list or soundness refuse, so that none changes it for the next.
-fn refuse(what: &[u8], table: &mut [u8], data: &mut [u8], block_len: usize, work: &mut [u32]) {
-    tell::title(what);
-    changes(table, data, block_len, work);
-    carries(table, data, block_len, work);
-}
-
-// Tables and data that do not fit: row 1.
-fn misfits() {
-    let mut odd = [0u8; 55];
-    let mut table = [0u8; 56];
-    let mut data = [0u8; 3072];
-    let mut work = [0u32; 6];
-    refuse(b"no table", &mut [0u8; 0], &mut data, 512, &mut work);
-    refuse(b"a table of 55 bytes", &mut odd, &mut data, 512, &mut work);
-    refuse(
-        b"data of another length",
-        &mut table,
-        &mut data,
-        4096,
-        &mut work,
-    );
-}
-
-// A product that wraps to the data's length: row 1; no block, and block length 0: row 2.
-fn sizes() {
-    let mut head = [0u8; 8];
-    let mut table = [0u8; 24];
-    let mut none = [0u8; 0];
-    let mut work = [0u32; 6];
-    refuse(
-        b"a product that wraps",
-        &mut table,
-        &mut none,
-        9223372036854775808,
-        &mut work,
-    );
-    refuse(b"no block", &mut head, &mut none, 512, &mut work);
-    refuse(b"block length 0", &mut table, &mut none, 0, &mut work);
-}
-
-// A block length above the sizes: row 2.
-fn too_long(table: &mut [u8], work: &mut [u32]) {
+pub fn all(names: &[u8], script: &[u8]) {
+    let mut table = [0u8; 72];
     let mut data = [0u8; 65537];
-    refuse(b"block length 65,537", table, &mut data, 65537, work);
-}
-
-// A work list that is too short, and a table that is not sound: rows 3 and 4.
-fn unsound() {
-    let mut table = [0u8; 56];
-    let mut data = [0u8; 3072];
-    let mut short = [0u32; 5];
-    let mut work = [0u32; 6];
-    refuse(
-        b"a work list of 5 places",
+    let mut work = [0u32; 8];
+    let mut list = [0u32; 8];
+    let mut buf = [0u8; 4];
+    lines(
+        names,
+        script,
         &mut table,
         &mut data,
-        512,
-        &mut short,
+        &mut work,
+        &mut list,
+        &mut buf,
     );
-    refuse(b"a table of zeros", &mut table, &mut data, 512, &mut work);
-}
-
-pub fn all() {
-    misfits();
-    sizes();
-    too_long(&mut [0u8; 16], &mut [0u32; 6]);
-    unsound();
 }

@@ -1,14 +1,14 @@
 // What the program writes.
-use order::Answer;
+use crate::line;
 
 // A word behind a space.
-fn word(what: &[u8]) {
+fn spell(what: &[u8]) {
     io::write_all(1, b" ");
     io::write_all(1, what);
 }
 
 // A number behind a space.
-fn number(x: u64) {
+pub fn number(x: u64) {
     io::write_all(1, b" ");
     io::print_decimal(1, x);
 }
@@ -16,67 +16,107 @@ fn number(x: u64) {
 // The name of an answer's number.
 fn name(number: u32) {
     match number {
-        0 => word(b"Done"),
-        1 => word(b"SizeMismatch"),
-        2 => word(b"InvalidValue"),
-        3 => word(b"WorkTooShort"),
-        4 => word(b"BrokenFat"),
-        5 => word(b"NotAFile"),
-        6 => word(b"NoSpace"),
-        7 => word(b"OutOfBound"),
-        8 => word(b"ListTooShort"),
-        9 => word(b"BrokenTree"),
-        10 => word(b"NotFound"),
-        11 => word(b"AlreadyExist"),
-        12 => word(b"Busy"),
-        13 => word(b"DeletingRoot"),
-        14 => word(b"NotEmpty"),
-        15 => word(b"IntoItself"),
-        16 => word(b"NotOpen"),
-        17 => word(b"TooManyOpens"),
-        _ => word(b"of no call"),
+        0 => spell(b"Done"),
+        1 => spell(b"SizeMismatch"),
+        2 => spell(b"InvalidValue"),
+        3 => spell(b"WorkTooShort"),
+        4 => spell(b"BrokenFat"),
+        5 => spell(b"NotAFile"),
+        6 => spell(b"NoSpace"),
+        7 => spell(b"OutOfBound"),
+        8 => spell(b"ListTooShort"),
+        9 => spell(b"BrokenTree"),
+        10 => spell(b"NotFound"),
+        11 => spell(b"AlreadyExist"),
+        12 => spell(b"Busy"),
+        13 => spell(b"DeletingRoot"),
+        14 => spell(b"NotEmpty"),
+        15 => spell(b"IntoItself"),
+        16 => spell(b"NotOpen"),
+        17 => spell(b"TooManyOpens"),
+        _ => spell(b"of no call"),
     }
 }
 
-// The fields of an answer.
-fn numbers(fields: &[u64]) {
-    let mut i: usize = 0;
-    while i < fields.len() {
-        number(fields[i]);
-        i += 1;
-    }
-}
-
-// A line: what was asked, the answer's number and name, and its other fields.
-pub fn line(what: &[u8], answer: Answer, fields: &[u64]) {
-    let x = order::number(answer);
+// What was asked, with the answer's number and name.
+pub fn answer(what: &[u8], x: u32) {
     io::write_all(1, what);
     io::write_all(1, b":");
     number(x as u64);
     name(x);
-    numbers(fields);
+}
+
+// The first fields of an answer.
+pub fn fields(count: u32, one: u64, two: u64) {
+    if 0 < count {
+        number(one);
+    }
+    if 1 < count {
+        number(two);
+    }
+}
+
+// The first places of a work list.
+pub fn places(work: &[u32], count: usize) {
+    let mut i: usize = 0;
+    while i < work.len() && i < count {
+        number(wide(work[i]));
+        i += 1;
+    }
+}
+
+// The name with a number, as what was asked, with the answer's number and name.
+pub fn answer_of(names: &[u8], number: u32, x: u32) {
+    let at = line::name_at(names, number);
+    let end = line::find(names, at, b' ');
+    io::write_all(1, b"  ");
+    answer(&names[at..end], x);
+}
+
+// The end of a line.
+pub fn end() {
     io::write_all(1, b"\n");
 }
 
-// The line of an answer that has no other field.
-pub fn answer(what: &[u8], answer: Answer) {
-    line(what, answer, &[0u64; 0]);
-}
-
-// A line that says what the next ones are about.
-pub fn title(what: &[u8]) {
-    io::write_all(1, what);
-    io::write_all(1, b"\n");
+// A line of the input that asks nothing, as it stands; none that is empty or begins with `#`.
+pub fn title(text: &[u8]) {
+    if text.len() == 0 {
+        return;
+    }
+    if text[0] == b'#' {
+        return;
+    }
+    io::write_all(1, text);
+    end();
 }
 
 // A place of a work list, as a field.
-pub fn wide(place: u32) -> u64 {
+fn wide(place: u32) -> u64 {
     place as u64
 }
 
-// A name of one letter.
-pub fn named(letter: u8) -> [u8; 16] {
-    let mut name = [0u8; 16];
-    name[0] = letter;
-    name
+// A number of the input as a word.
+pub fn word(x: usize) -> u32 {
+    (x % 4294967296) as u32
+}
+
+pub fn zero(bytes: &mut [u8]) {
+    let mut i: usize = 0;
+    while i < bytes.len() {
+        bytes[i] = 0;
+        i += 1;
+    }
+}
+
+pub fn fill(list: &mut [u32], x: u32) {
+    let mut i: usize = 0;
+    while i < list.len() {
+        list[i] = x;
+        i += 1;
+    }
+}
+
+// A number of the input as a byte.
+pub fn byte(x: usize) -> u8 {
+    (x % 256) as u8
 }

@@ -1,0 +1,95 @@
+// The tree calls that change tables or open counts.
+use crate::Said;
+use crate::says;
+
+// The four bytes that a directory takes.
+fn padding(carried: [u8; 20]) -> [u8; 4] {
+    [carried[0], carried[1], carried[2], carried[3]]
+}
+
+// Of directories.
+pub fn dirs(
+    which: u32,
+    dh: &mut [u8],
+    d: &mut [u8],
+    fh: &[u8],
+    f: &[u8],
+    work: &mut [u32],
+    opens: &mut [u32],
+    inode: u32,
+    parent: u32,
+    name: [u8; 16],
+    carried: [u8; 20],
+) -> Said {
+    let four = padding(carried);
+    match which {
+        3 => {
+            let r = tree::change::make_dir(dh, d, fh, f, work, opens, parent, &name, &four);
+            let answer = r.answer;
+            says(answer, r.inode as u64, 0)
+        }
+        4 => {
+            let answer = tree::change::rename_dir(dh, d, fh, f, work, opens, inode, parent, &name);
+            says(answer, 0, 0)
+        }
+        5 => {
+            let answer = tree::change::delete_dir(dh, d, fh, f, work, opens, inode);
+            says(answer, 0, 0)
+        }
+        11 => {
+            let answer = tree::carry::set_carried_dir(dh, d, fh, f, work, inode, four);
+            says(answer, 0, 0)
+        }
+        12 => {
+            let answer = tree::opens::open_dir(dh, d, fh, f, work, opens, inode);
+            says(answer, 0, 0)
+        }
+        _ => {
+            let answer = tree::opens::close_dir(dh, d, fh, f, work, opens, inode);
+            says(answer, 0, 0)
+        }
+    }
+}
+
+// Of files.
+pub fn files(
+    which: u32,
+    dh: &[u8],
+    d: &mut [u8],
+    fh: &mut [u8],
+    f: &mut [u8],
+    work: &mut [u32],
+    opens: &mut [u32],
+    inode: u32,
+    parent: u32,
+    name: [u8; 16],
+    carried: [u8; 20],
+) -> Said {
+    match which {
+        3 => {
+            let r = tree::change::make_file(dh, d, fh, f, work, opens, parent, &name, &carried);
+            let answer = r.answer;
+            says(answer, r.inode as u64, 0)
+        }
+        4 => {
+            let answer = tree::change::rename_file(dh, d, fh, f, work, opens, inode, parent, &name);
+            says(answer, 0, 0)
+        }
+        5 => {
+            let answer = tree::change::delete_file(dh, d, fh, f, work, opens, inode);
+            says(answer, 0, 0)
+        }
+        11 => {
+            let answer = tree::carry::set_carried_file(dh, d, fh, f, work, inode, carried);
+            says(answer, 0, 0)
+        }
+        12 => {
+            let answer = tree::opens::open_file(dh, d, fh, f, work, opens, inode);
+            says(answer, 0, 0)
+        }
+        _ => {
+            let answer = tree::opens::close_file(dh, d, fh, f, work, opens, inode);
+            says(answer, 0, 0)
+        }
+    }
+}
