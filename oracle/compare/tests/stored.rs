@@ -1,7 +1,7 @@
 //! The stored answers, replayed on the statement of the rules and on the proved library.
 
 use compare::stored::bytes::Reader;
-use compare::stored::{self, block_bytes, block_record, first, tree_bytes, tree_record};
+use compare::stored::{self, block_bytes, block_record, tree_bytes, tree_record};
 use compare::stored::{BlockRecord, TreeRecord};
 use port::{Library, Port, Stated};
 use std::path::Path;
@@ -11,8 +11,8 @@ fn file(name: &str) -> Vec<u8> {
 }
 
 /// How many records follow, by the header of a part.
-fn count(r: &mut Reader, mark: u32, version: u32, width: usize) -> usize {
-    assert_eq!((r.word(), r.word()), (mark, version));
+fn count(r: &mut Reader, mark: u32, width: usize) -> usize {
+    assert_eq!((r.word(), r.word()), (mark, stored::VERSION));
     let count = r.word() as usize;
     assert_eq!(r.word() as usize, width);
     assert!(count > 200, "{count} records");
@@ -37,39 +37,19 @@ fn replay_tree(record: &TreeRecord) {
 
 #[test]
 fn both_parts() {
-    let bytes = file("oracle/stored/answers");
+    let bytes = file("crates/stored/stdin");
     let r = &mut Reader { bytes: &bytes };
-    for _ in 0..count(r, stored::BLOCK_MARK, stored::VERSION, stored::BLOCK_RECORD) {
+    for _ in 0..count(r, stored::BLOCK_MARK, stored::BLOCK_RECORD) {
         let before = r.bytes;
         let record = block_record(r);
         assert_eq!(block_bytes(&record), before[..before.len() - r.bytes.len()]);
         replay_block(&record);
     }
-    for _ in 0..count(r, stored::TREE_MARK, stored::VERSION, stored::TREE_RECORD) {
+    for _ in 0..count(r, stored::TREE_MARK, stored::TREE_RECORD) {
         let bytes = r.take(stored::TREE_RECORD);
         let record = tree_record(bytes);
         assert_eq!(tree_bytes(&record), bytes);
         replay_tree(&record);
-    }
-    assert!(r.bytes.is_empty());
-}
-
-#[test]
-fn version_1_blocks() {
-    let bytes = file("crates/stored_blocks/stdin");
-    let r = &mut Reader { bytes: &bytes };
-    for _ in 0..count(r, stored::BLOCK_MARK, 1, first::BLOCK_RECORD) {
-        replay_block(&first::block_record(r.take(first::BLOCK_RECORD)));
-    }
-    assert!(r.bytes.is_empty());
-}
-
-#[test]
-fn version_1_tree() {
-    let bytes = file("crates/stored_tree/stdin");
-    let r = &mut Reader { bytes: &bytes };
-    for _ in 0..count(r, stored::TREE_MARK, 1, stored::TREE_RECORD) {
-        replay_tree(&tree_record(r.take(stored::TREE_RECORD)));
     }
     assert!(r.bytes.is_empty());
 }

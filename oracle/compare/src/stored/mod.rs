@@ -2,7 +2,6 @@
 
 mod blocks;
 pub mod bytes;
-pub mod first;
 mod tree;
 
 pub use blocks::{block_bytes, block_record, BLOCK_RECORD};

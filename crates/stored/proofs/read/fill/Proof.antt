@@ -3,8 +3,8 @@ use mathlib.Core.Path.{_≡_}
 use Prim.Native.Nat.{_-_}
 use borrow.Author.Needs.{needs}
 use lib.ListN.{length}
-use Rattle.stored.proofs.fill.Statement.{statement}
-use Rattle.stored.proofs.fill.Tie as tie
+use Rattle.stored.proofs.read.fill.Statement.{statement}
+use Rattle.stored.proofs.read.fill.Tie as tie
 
 abbrev Inv-loop : tie.InvT-loop
 Inv-loop buf₀ stored i₀ buf i = length buf ≡ length buf₀

@@ -3,8 +3,8 @@ use Prim.Native.Nat.{_-_, _≤_}
 use native.Mathlib.Omega.{arith}
 use borrow.Author.Needs.{needs}
 use lib.ListN.{length}
-use Rattle.stored.proofs.holds_list.Statement.{statement}
-use Rattle.stored.proofs.holds_list.Tie as tie
+use Rattle.stored.proofs.read.holds_list.Statement.{statement}
+use Rattle.stored.proofs.read.holds_list.Tie as tie
 
 abbrev Inv-loop : tie.InvT-loop
 Inv-loop list stored end i₀ i = i ≤ length list

@@ -2,8 +2,8 @@
 use Prim.Native.Nat.{_-_, _≤_}
 use borrow.Author.Needs.{needs}
 use lib.ListN.{length}
-use Rattle.stored.proofs.holds.Statement.{statement}
-use Rattle.stored.proofs.holds.Tie as tie
+use Rattle.stored.proofs.read.holds.Statement.{statement}
+use Rattle.stored.proofs.read.holds.Tie as tie
 
 abbrev Inv-loop : tie.InvT-loop
 Inv-loop buf stored i₀ i = i ≤ length buf

@@ -1,13 +1,13 @@
 -- `count` meets its contract.
 use borrow.Author.Needs.{needs}
-use Rattle.stored_blocks.proofs.count.Statement.{statement}
-use Rattle.stored_blocks.proofs.count.Tie as tie
+use Rattle.stored.proofs.count.Statement.{statement}
+use Rattle.stored.proofs.count.Tie as tie
 
 abbrev Inv-loop : tie.InvT-loop
-Inv-loop records left₀ same₀ left same = Unit {0}
+Inv-loop mark records left₀ same₀ left same = Unit {0}
 
 abbrev μ-loop : tie.MeasureT-loop
-μ-loop records left₀ same₀ left same = left
+μ-loop mark records left₀ same₀ left same = left
 
 loop-holds : tie.Need-loop-holds Inv-loop μ-loop
 loop-holds c = search needs

@@ -4,8 +4,8 @@ use Prim.Native.Nat.{_-_}
 use native.Mathlib.Omega.{arith}
 use borrow.Author.Needs.{needs}
 use lib.ListN.{length}
-use Rattle.stored.proofs.fill_list.Statement.{statement}
-use Rattle.stored.proofs.fill_list.Tie as tie
+use Rattle.stored.proofs.read.fill_list.Statement.{statement}
+use Rattle.stored.proofs.read.fill_list.Tie as tie
 
 abbrev Inv-loop : tie.InvT-loop
 Inv-loop list₀ stored end i₀ list i = length list ≡ length list₀
