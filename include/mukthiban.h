@@ -166,7 +166,8 @@ mukthiban_made mukthiban_tree_make_file(const uint8_t *dir_hash, size_t dir_hash
                                         uint32_t parent, const uint8_t name[16], const uint8_t carried[20]);
 
 /* Gives an open directory another parent and name; inode, carried bytes, children and open count stay.
- * opens: the directories'. Answers 1, 2, 3, 9, 10 (subject), 16, 13, 10 (parent), 15, 11, 6. */
+ * opens: the directories'. Answers 1, 2, 3, 9, 10 (subject), 16, 13, 10 (parent), 15, 11:
+ * never 6, since the entry keeps its place in the table. */
 mukthiban_plain mukthiban_tree_rename_dir(uint8_t *dir_hash, size_t dir_hash_len,
                                           uint8_t *dir_table, size_t dir_table_len,
                                           const uint8_t *file_hash, size_t file_hash_len,
@@ -176,7 +177,7 @@ mukthiban_plain mukthiban_tree_rename_dir(uint8_t *dir_hash, size_t dir_hash_len
                                           uint32_t inode, uint32_t parent, const uint8_t name[16]);
 
 /* Gives an open file another parent and name; inode, carried bytes and open count stay. opens: the files'.
- * Answers 1, 2, 3, 9, 10 (subject), 16, 10 (parent), 11, 6. */
+ * Answers 1, 2, 3, 9, 10 (subject), 16, 10 (parent), 11: never 6. */
 mukthiban_plain mukthiban_tree_rename_file(const uint8_t *dir_hash, size_t dir_hash_len,
                                            uint8_t *dir_table, size_t dir_table_len,
                                            uint8_t *file_hash, size_t file_hash_len,

@@ -54,11 +54,11 @@ Refusals [] = true
 Refusals (r ∷ rs) = refuses (r .gives) && Refusals rs
 
 -- a test that holds of two, holds of each
-both-left : (a b : Bool) → a && b ≡ true → a ≡ true
+pub both-left : (a b : Bool) → a && b ≡ true → a ≡ true
 both-left true b e = refl
 both-left false b e = e
 
-both-right : (a b : Bool) → a && b ≡ true → b ≡ true
+pub both-right : (a b : Bool) → a && b ≡ true → b ≡ true
 both-right true b e = e
 both-right false b e = absurd (false≢true e)
 

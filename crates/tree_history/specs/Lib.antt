@@ -2,3 +2,4 @@ pub mod Whole
 pub mod Call
 pub mod Run
 pub mod May
+pub mod Room

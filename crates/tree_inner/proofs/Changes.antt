@@ -130,9 +130,6 @@ module _ (s : Tables) (R : Ready s) where
 
 -- ---- the tests of rename and make
 
-never : (n : ℕ) → n + 1 ≡ 0 → ⊥
-never n e = omega arith
-
 module _ (s : Tables) (opens : List ℕ) (x p : ℕ) (name : List ℕ) where
   module _ (held : None (heldTests (files s) opens x)) where
     pub file-parent : {r : Bool} → Tells (LiveIn (dirs s) p) r → r ≡ false → Given (renameTests File s opens x p name) NotFound
@@ -144,7 +141,7 @@ module _ (s : Tables) (opens : List ℕ) (x p : ℕ) (name : List ℕ) where
 
     pub file-go : {r q : Bool} → Tells (LiveIn (dirs s) p) r → r ≡ true → Tells (HasOther (files s) x (nameKey p name)) q → q ≡ false
         → None (renameTests File s opens x p name)
-    file-go T e O f = (held .0, (held .1 .0, (λ n. n (T .yes e), (tells-not O f, (never (freeOf (files s)), tt)))))
+    file-go T e O f = (held .0, (held .1 .0, (λ n. n (T .yes e), (tells-not O f, tt))))
 
   module _ (held : None (heldTests (dirs s) opens x)) where
     pub dir-first : x ≡ 1 → Given (renameTests Directory s opens x p name) DeletingRoot
@@ -178,7 +175,7 @@ module _ (s : Tables) (opens : List ℕ) (x p : ℕ) (name : List ℕ) where
         dir-exists f O g = inr (held .0, inr (held .1 .0, inr (n1, inr (λ n. n (T .yes e), inr (apart f, inl (O .yes g, refl))))))
 
         pub dir-free : {q : Bool} → m ≡ false → Tells (HasOther (dirs s) x (nameKey p name)) q → q ≡ false → None (renameTests Directory s opens x p name)
-        dir-free f O g = (held .0, (held .1 .0, (n1, (λ n. n (T .yes e), (apart f, (tells-not O g, (never (freeOf (dirs s)), tt)))))))
+        dir-free f O g = (held .0, (held .1 .0, (n1, (λ n. n (T .yes e), (apart f, (tells-not O g, tt))))))
 
 module _ (s : Tables) (v : View) (p : ℕ) (k : List ℕ) {r : Bool} (T : Tells (LiveIn (dirs s) p) r) where
   pub make-parent : r ≡ false → Given (makeTests s v p k) NotFound

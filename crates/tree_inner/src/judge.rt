@@ -112,7 +112,7 @@ pub fn full(table: &[u8], w: usize) -> bool
     tree_table::link_of(table, w, 4, 0) <= tree_table::link_of(table, w, 0, 0)
 }
 
-// Whether file x can be renamed: as judge_held, then NotFound of the new parent, AlreadyExist. There is always space, since the file's own entry is given up.
+// Whether file x can be renamed: as judge_held, then NotFound of the new parent, AlreadyExist.
 pub fn judge_rename_file(
     dir_hash: &[u8],
     dirs: &[u8],

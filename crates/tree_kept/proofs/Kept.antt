@@ -1,18 +1,19 @@
 -- Every tree call that is answered Done leaves sound tables: where the rows of RULES 2.2 let a step pass, the step keeps Sound. The hypotheses are the
 -- rows' own conditions, not met.
-use mathlib.Core.Path.{_≡_, refl, sym, ap, subst}
+use mathlib.Core.Path.{_≡_, refl, sym, ap, _∙_, subst}
 use mathlib.Core.List.{List, [], _∷_}
 use mathlib.Core.Logic.{_⊎_, inl, inr, ⊎-elim, _≢_}
 use Prim.Native.Nat.{ℕ, zero, suc, _+_, _-_, _<_}
 use native.Mathlib.Omega.{arith}
 use lib.ListN.{length}
+use borrow.Author.Tests.{ne-eqb}
 use Rattle.words.proofs.Laws.{Bytes}
 use Rattle.links.specs.Links.{_∈_, Links}
-use Rattle.links.specs.Change.{walk}
+use Rattle.links.specs.Change.{walk, pick}
 use Rattle.links.proofs.Held.{same-or}
 use Rattle.tree_key.specs.Key.{nameKey}
 use Rattle.tree_table.specs.View.{View, removedOf, LiveIn}
-use Rattle.tree_table.specs.Steps.{freeOf}
+use Rattle.tree_table.specs.Steps.{taken, freeOf}
 use Rattle.tree_table.proofs.Table.{Space, rest}
 use Rattle.tree_sound.specs.Sound.{up}
 use Rattle.tree_sound.proofs.Tree.{Tree}
@@ -44,6 +45,21 @@ space v n =
 
 one-more : (v v′ : View) (x : ℕ) → v′ .count ≡ v .count → v′ .maximum ≡ v .maximum → removedOf v′ ≡ x ∷ removedOf v → freeOf v′ ≡ freeOf v + 1
 one-more v v′ x c m r = let l : length (removedOf v′) ≡ suc (length (removedOf v)) = ap length r in omega arith
+
+-- the first removed entry is the one that make uses
+abbrev front : List ℕ → ℕ
+front [] = 0
+front (a ∷ xs) = a
+
+walk-front : (next : ℕ → ℕ) (k h x : ℕ) → 0 < x → front (walk next k h) ≡ x → h ≡ x
+walk-front next zero h x p e = absurd (omega arith)
+walk-front next (suc k) zero x p e = e
+walk-front next (suc k) (suc h) x p e = e
+
+own-next : (v : View) (x : ℕ) (xs : List ℕ) → 0 < x → removedOf v ≡ x ∷ xs → taken v ≡ x
+own-next v x xs p e =
+    let q : v .coll 0 ≡ x = walk-front (v .coll) (v .count) (v .coll 0) x p (ap front e) in
+    ap (λ t. pick t (v .count) (v .coll 0)) (ne-eqb (v .coll 0) 0 (λ (z : v .coll 0 ≡ 0). omega arith)) ∙ q
 
 module _ (s : Tables) (Q : Fine (s .dirHash) (s .dirTable) (s .fileHash) (s .fileTable)) (S : SoundIn s) where
   T : Tree (dirs s) (files s) (removedOf (dirs s)) (removedOf (files s))
@@ -113,4 +129,15 @@ module _ (s : Tables) (Q : Fine (s .dirHash) (s .dirTable) (s .fileHash) (s .fil
   given-file-free x lx =
       one-more (files s) (files (deleted File s x)) x (deleted-file-count (s .dirHash) (s .dirTable) (s .fileHash) (s .fileTable) Q (removedOf (dirs s)) (removedOf (files s)) T x lx)
       (deleted-file-maximum (s .dirHash) (s .dirTable) (s .fileHash) (s .fileTable) Q (removedOf (dirs s)) (removedOf (files s)) T x lx)
+      (deleted-file-removed (s .dirHash) (s .dirTable) (s .fileHash) (s .fileTable) Q (removedOf (dirs s)) (removedOf (files s)) T x lx)
+
+  -- and it is the one that make uses next
+  pub given-dir-next : (x : ℕ) → LiveIn (dirs s) x → (x ≡ 1 → ⊥) → taken (dirs (deleted Directory s x)) ≡ x
+  given-dir-next x lx n1 =
+      own-next (dirs (deleted Directory s x)) x (removedOf (dirs s)) (lx .0)
+      (deleted-dir-removed (s .dirHash) (s .dirTable) (s .fileHash) (s .fileTable) Q (removedOf (dirs s)) (removedOf (files s)) T x lx n1)
+
+  pub given-file-next : (x : ℕ) → LiveIn (files s) x → taken (files (deleted File s x)) ≡ x
+  given-file-next x lx =
+      own-next (files (deleted File s x)) x (removedOf (files s)) (lx .0)
       (deleted-file-removed (s .dirHash) (s .dirTable) (s .fileHash) (s .fileTable) Q (removedOf (dirs s)) (removedOf (files s)) T x lx)

@@ -55,6 +55,7 @@ fn main() {
     histories("border", block_history::borders, seed, run.histories);
     histories("list", by_list::run, seed, run.histories);
     histories("tree", tree_history::run, seed, run.histories);
+    histories("full tree", tree_history::full, seed, run.histories / 10);
     closure::run(&mut Chance::new(seed), run.depth, run.states);
     damage::run(&mut Chance::new(seed), run.whole, run.damaged);
     println!("every byte of {} small volumes and tables, {} times three damaged tables", run.whole, run.damaged);

@@ -269,3 +269,52 @@ pub fn run(chance: &mut Chance) {
     }
     session.compare_all();
 }
+
+/// A name that a new entry may have: a letter and a number.
+fn numbered(letter: char, number: u32) -> [u8; 16] {
+    let mut name = [0; 16];
+    let text = format!("{letter}{number}");
+    name[..text.len()].copy_from_slice(text.as_bytes());
+    name
+}
+
+fn live_of(lent: &Tree, kind: Kind) -> Vec<u32> {
+    tree(seen(lent)).expect("every step keeps the tables sound").held(kind).inodes().collect()
+}
+
+/// Makes entries in any directories until none is free: how many were made.
+fn fill(chance: &mut Chance, session: &mut Session, kind: Kind) -> u32 {
+    let mut made = 0;
+    loop {
+        let parent = chance.pick(&live_of(&session.lent, Kind::Dir));
+        let carried = chance.bytes(20).try_into().unwrap();
+        match session.run(&TreeCall::Make { kind, parent, name: numbered('m', made), carried }).number {
+            0 => made += 1,
+            number => {
+                assert_eq!(number, 6, "make in a full table");
+                return made;
+            }
+        }
+    }
+}
+
+/// Rename in full tables: make is NoSpace before and after, and a rename of any entry to a key that is free is Done, of a directory with children too.
+pub fn full(chance: &mut Chance) {
+    let mut session = Session::new(trees::formatted(chance));
+    for kind in [Kind::Dir, Kind::File] {
+        fill(chance, &mut session, kind);
+    }
+    for kind in [Kind::Dir, Kind::File] {
+        let mut inodes = live_of(&session.lent, kind);
+        inodes.retain(|x| kind == Kind::File || *x != 1);
+        chance.shuffle(&mut inodes);
+        for inode in inodes {
+            let own = seen(&session.lent).view(kind).parent(inode);
+            let parent = chance.pick(&[own, 1]);
+            let renamed = session.run(&TreeCall::Rename { kind, inode, parent, name: numbered('r', inode) });
+            assert_eq!(renamed.number, 0, "rename in a full table");
+        }
+        assert_eq!(fill(chance, &mut session, kind), 0, "a rename gave an entry back");
+    }
+    session.compare_all();
+}

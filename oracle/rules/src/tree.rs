@@ -168,7 +168,7 @@ fn at_or_below(four: Four, dir: u32, other: u32) -> bool {
     y == other
 }
 
-/// "Rename removes and adds again, keeping the inode, carried bytes, children and open count." The entry given up is the one taken, so room never lacks and entry 0 ends as it was.
+/// "Rename removes and adds again, keeping the inode, carried bytes, children and open count." The entry given up is the one taken: there is always room, and entry 0 ends as it was.
 pub fn rename(
     four: &mut FourMut,
     work: &mut [u32],
