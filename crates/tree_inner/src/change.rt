@@ -16,6 +16,7 @@ use crate::step::unlink_file;
 use order::Answer;
 use tree_key::SaveExtDirEntry;
 use tree_key::SaveExtFileEntry;
+use tree_key::SaveExtKey;
 
 // Deletes file x.
 pub fn delete_file(
@@ -69,7 +70,7 @@ pub fn delete_dir(
     }
 }
 
-// Gives file x another parent and name.
+// Gives file x another parent and name. The key is made once, and is judged and linked by.
 pub fn rename_file(
     dir_hash: &[u8],
     dirs: &mut [u8],
@@ -86,18 +87,19 @@ pub fn rename_file(
         (renameDone File s (now (opens .entry)) x parent (now (name .entry)))
         (changeGives r (tables (now («dir_hash» .entry)) (now (dirs .exit)) (now (hash .exit)) (now (files .exit))) (now (opens .entry)))) ⌝ }
 {
-    let judged = judge_rename_file(dir_hash, dirs, hash, files, opens, x, parent, name);
+    let key = SaveExtKey::new(parent, name);
+    let judged = judge_rename_file(dir_hash, dirs, hash, files, opens, x, parent, name, key);
     match judged {
         Judged::Refused { answer } => answer,
         Judged::Go => {
             unlink_file(dirs, hash, files, x);
-            link_file(dirs, hash, files, x, parent, name);
+            link_file(dirs, hash, files, x, parent, key);
             Answer::Done
         }
     }
 }
 
-// Gives directory x another parent and name.
+// Gives directory x another parent and name. The key is made once, and is judged and linked by.
 pub fn rename_dir(
     hash: &mut [u8],
     dirs: &mut [u8],
@@ -114,12 +116,13 @@ pub fn rename_dir(
         (renameDone Directory s (now (opens .entry)) x parent (now (name .entry)))
         (changeGives r (tables (now (hash .exit)) (now (dirs .exit)) (now («file_hash» .entry)) (now (files .entry))) (now (opens .entry)))) ⌝ }
 {
-    let judged = judge_rename_dir(hash, dirs, file_hash, files, opens, x, parent, name);
+    let key = SaveExtKey::new(parent, name);
+    let judged = judge_rename_dir(hash, dirs, file_hash, files, opens, x, parent, name, key);
     match judged {
         Judged::Refused { answer } => answer,
         Judged::Go => {
             unlink_dir(hash, dirs, x);
-            link_dir(hash, dirs, x, parent, name);
+            link_dir(hash, dirs, x, parent, key);
             Answer::Done
         }
     }

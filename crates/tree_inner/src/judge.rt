@@ -112,7 +112,7 @@ pub fn full(table: &[u8], w: usize) -> bool
     tree_table::link_of(table, w, 4, 0) <= tree_table::link_of(table, w, 0, 0)
 }
 
-// Whether file x can be renamed: as judge_held, then NotFound of the new parent, AlreadyExist.
+// Whether file x can be renamed, where key is that of the new parent and name: as judge_held, then NotFound of the new parent, AlreadyExist.
 pub fn judge_rename_file(
     dir_hash: &[u8],
     dirs: &[u8],
@@ -122,8 +122,9 @@ pub fn judge_rename_file(
     x: u32,
     parent: u32,
     name: &[u8; 16],
+    key: SaveExtKey,
 ) -> Judged
-    requires { ⌜ ReadyOpens File (tables (now «dir_hash») (now dirs) (now hash) (now files)) (now opens) ⌝ }
+    requires { ⌜ ReadyOpens File (tables (now «dir_hash») (now dirs) (now hash) (now files)) (now opens) × (keyWords key ≡ nameKey parent (now name)) ⌝ }
     ensures { λ r. ⌜ (let s : Tables = tables (now («dir_hash» .entry)) (now (dirs .entry)) (now (hash .entry)) (now (files .entry)) in
         JudgedBy (renameTests File s (now (opens .entry)) x parent (now (name .entry))) r) ⌝ }
 {
@@ -136,13 +137,7 @@ pub fn judge_rename_file(
             answer: Answer::NotFound,
         };
     }
-    if has_other(
-        hash,
-        files,
-        SaveExtFileEntry::WIDTH,
-        x,
-        SaveExtKey::new(parent, name),
-    ) {
+    if has_other(hash, files, SaveExtFileEntry::WIDTH, x, key) {
         return Judged::Refused {
             answer: Answer::AlreadyExist,
         };
@@ -150,7 +145,8 @@ pub fn judge_rename_file(
     Judged::Go
 }
 
-// Whether directory x can be renamed: as judge_held, then DeletingRoot, NotFound of the new parent, IntoItself, AlreadyExist.
+// Whether directory x can be renamed, where key is that of the new parent and name: as judge_held, then DeletingRoot, NotFound of the new parent,
+// IntoItself, AlreadyExist.
 pub fn judge_rename_dir(
     hash: &[u8],
     dirs: &[u8],
@@ -160,8 +156,9 @@ pub fn judge_rename_dir(
     x: u32,
     parent: u32,
     name: &[u8; 16],
+    key: SaveExtKey,
 ) -> Judged
-    requires { ⌜ ReadyOpens Directory (tables (now hash) (now dirs) (now «file_hash») (now files)) (now opens) ⌝ }
+    requires { ⌜ ReadyOpens Directory (tables (now hash) (now dirs) (now «file_hash») (now files)) (now opens) × (keyWords key ≡ nameKey parent (now name)) ⌝ }
     ensures { λ r. ⌜ (let s : Tables = tables (now (hash .entry)) (now (dirs .entry)) (now («file_hash» .entry)) (now (files .entry)) in
         JudgedBy (renameTests Directory s (now (opens .entry)) x parent (now (name .entry))) r) ⌝ }
 {
@@ -184,13 +181,7 @@ pub fn judge_rename_dir(
             answer: Answer::IntoItself,
         };
     }
-    if has_other(
-        hash,
-        dirs,
-        SaveExtDirEntry::WIDTH,
-        x,
-        SaveExtKey::new(parent, name),
-    ) {
+    if has_other(hash, dirs, SaveExtDirEntry::WIDTH, x, key) {
         return Judged::Refused {
             answer: Answer::AlreadyExist,
         };

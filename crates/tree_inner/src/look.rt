@@ -72,7 +72,9 @@ pub struct Looked {
     pub compared: u32,
 }
 
-// The entry with a key.
+// The entry with a key. Its words are read once and mixed in, and never laid out as twenty bytes. To see it: `rt staticlib mukthiban`, then
+// `llvm-objdump -d --disassemble-symbols=mukthiban_tested_tree_lookup_dir target/staticlib/libmukthiban.a`; for make and rename the symbols
+// `tree_inner::make::make_dir`, `tree_inner::judge::judge_make` and `tree_inner::change::rename_file`. A hash is where the number 0x91A2B3C stands.
 pub fn lookup(hash: &[u8], table: &[u8], w: usize, key: SaveExtKey) -> Looked
     requires { ⌜ Single (now hash) (now table) w ⌝ }
     ensures { λ r. ⌜ First (lookupRows (hashed w (now (hash .entry)) (now (table .entry))) (keyWords key)) (lookupDone (hashed w (now (hash .entry)) (now (table .entry))) (keyWords key)) (lookupGives (r .answer) (r .inode) (r .compared)) ⌝ }

@@ -23,6 +23,7 @@ use crate::step::link_file;
 use order::Answer;
 use tree_key::SaveExtDirEntry;
 use tree_key::SaveExtFileEntry;
+use tree_key::SaveExtKey;
 
 // A make's answer: the new entry's inode.
 pub struct Made {
@@ -46,7 +47,7 @@ fn new_file(
         × (now (files .exit) ≡ made File s parent (now (name .entry)) (now (carried .entry)) .fileTable)) ⌝ }
 {
     let x = tree_table::take(files, SaveExtFileEntry::WIDTH);
-    link_file(dirs, hash, files, x, parent, name);
+    link_file(dirs, hash, files, x, parent, SaveExtKey::new(parent, name));
     put_carried_file(files, x, carried);
     x
 }
@@ -75,7 +76,7 @@ fn new_dir(hash: &mut [u8], dirs: &mut [u8], parent: u32, name: &[u8; 16], paddi
 {
     let x = tree_table::take(dirs, SaveExtDirEntry::WIDTH);
     put_childless(dirs, x);
-    link_dir(hash, dirs, x, parent, name);
+    link_dir(hash, dirs, x, parent, SaveExtKey::new(parent, name));
     put_carried_dir(dirs, x, padding);
     x
 }

@@ -1,9 +1,10 @@
 // The steps on the four tables: an entry leaves its bucket and its parent's list, or enters them. Each asks for what soundness gives, and tests nothing.
 // A directory's entry and its parent's stand in one table, which can't be lent twice: so the steps of directories take it once, those of files take both.
 ghost use mathlib.Core.Path.{_≡_};
-ghost use mathlib.Core.List.{[], _++_};
-ghost use Prim.Native.Nat.{_+_, _*_, _/_, _≤_, _<_};
+ghost use mathlib.Core.List.{List, [], _++_};
+ghost use Prim.Native.Nat.{ℕ, _+_, _*_, _/_, _≤_, _<_};
 ghost use lib.ListN.{length};
+ghost use Rattle.tree_key.specs.Key.{keyWords, nameKey};
 ghost use Rattle.tree_sound.specs.Tables.{tables};
 ghost use Rattle.tree_promises.specs.declared.Kind.the-variants.{Directory, File};
 ghost use Rattle.tree_promises.specs.Steps.{linkedTo, unlinkedFrom};
@@ -161,13 +162,13 @@ pub fn unlink_file(dirs: &mut [u8], hash: &mut [u8], files: &mut [u8], x: u32)
     leave_file(dirs, files, l.up, l.before, l.after);
 }
 
-// Entry x gets its key, and is the first directory of its parent and of its bucket.
-pub fn link_dir(hash: &mut [u8], dirs: &mut [u8], x: u32, parent: u32, name: &[u8; 16])
+// Entry x gets its key, that of the parent and a name, and is the first directory of its parent and of its bucket.
+pub fn link_dir(hash: &mut [u8], dirs: &mut [u8], x: u32, parent: u32, key: SaveExtKey)
     requires { ⌜ (x * 40 + 40 ≤ length (now dirs)) × (parent * 40 + 40 ≤ length (now dirs)) × (0 < length (now hash) / 4) ⌝ }
-    ensures { λ _. ⌜ (now (hash .exit) ≡ linkedTo Directory (tables (now (hash .entry)) (now (dirs .entry)) [] []) x parent (now (name .entry)) .dirHash)
-        × (now (dirs .exit) ≡ linkedTo Directory (tables (now (hash .entry)) (now (dirs .entry)) [] []) x parent (now (name .entry)) .dirTable) ⌝ }
+    ensures { λ _. ⌜ ((name : List ℕ) → keyWords key ≡ nameKey parent name
+        → (now (hash .exit) ≡ linkedTo Directory (tables (now (hash .entry)) (now (dirs .entry)) [] []) x parent name .dirHash)
+        × (now (dirs .exit) ≡ linkedTo Directory (tables (now (hash .entry)) (now (dirs .entry)) [] []) x parent name .dirTable)) ⌝ }
 {
-    let key = SaveExtKey::new(parent, name);
     let b = tree_key::hash(key, hash.len() / 4);
     let first = tree_table::get_hash(hash, b);
     let next = tree_table::link_of(
@@ -187,21 +188,21 @@ pub fn link_dir(hash: &mut [u8], dirs: &mut [u8], x: u32, parent: u32, name: &[u
     );
 }
 
-// Entry x gets its key, and is the first file of its parent and of its bucket.
+// Entry x gets its key, that of the parent and a name, and is the first file of its parent and of its bucket.
 pub fn link_file(
     dirs: &mut [u8],
     hash: &mut [u8],
     files: &mut [u8],
     x: u32,
     parent: u32,
-    name: &[u8; 16],
+    key: SaveExtKey,
 )
     requires { ⌜ (x * 48 + 48 ≤ length (now files)) × (parent * 40 + 40 ≤ length (now dirs)) × (0 < length (now hash) / 4) ⌝ }
-    ensures { λ _. ⌜ (now (dirs .exit) ≡ linkedTo File (tables [] (now (dirs .entry)) (now (hash .entry)) (now (files .entry))) x parent (now (name .entry)) .dirTable)
-        × (now (hash .exit) ≡ linkedTo File (tables [] (now (dirs .entry)) (now (hash .entry)) (now (files .entry))) x parent (now (name .entry)) .fileHash)
-        × (now (files .exit) ≡ linkedTo File (tables [] (now (dirs .entry)) (now (hash .entry)) (now (files .entry))) x parent (now (name .entry)) .fileTable) ⌝ }
+    ensures { λ _. ⌜ ((name : List ℕ) → keyWords key ≡ nameKey parent name
+        → (now (dirs .exit) ≡ linkedTo File (tables [] (now (dirs .entry)) (now (hash .entry)) (now (files .entry))) x parent name .dirTable)
+        × (now (hash .exit) ≡ linkedTo File (tables [] (now (dirs .entry)) (now (hash .entry)) (now (files .entry))) x parent name .fileHash)
+        × (now (files .exit) ≡ linkedTo File (tables [] (now (dirs .entry)) (now (hash .entry)) (now (files .entry))) x parent name .fileTable)) ⌝ }
 {
-    let key = SaveExtKey::new(parent, name);
     let b = tree_key::hash(key, hash.len() / 4);
     let first = tree_table::get_hash(hash, b);
     let next = tree_table::link_of(

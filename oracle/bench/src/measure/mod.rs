@@ -5,6 +5,7 @@ pub mod blocks;
 pub mod growth;
 pub mod handles;
 pub mod jobs;
+pub mod keys;
 pub mod sides;
 pub mod tree;
 pub mod whole;

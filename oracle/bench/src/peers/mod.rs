@@ -5,6 +5,7 @@ pub mod calls;
 pub mod careful;
 pub mod ends;
 pub mod files;
+pub mod lookup;
 pub mod nodes;
 pub mod sorted;
 pub mod walks;

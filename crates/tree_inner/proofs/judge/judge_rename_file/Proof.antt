@@ -30,27 +30,24 @@ returns-2 c =
     let at-judge-held = c .before .before .before .before .judge-held in
     file-parent (tables (args .dir-hash .now) (args .dirs .now) (args .hash .now) (args .files .now)) (args .opens .now) (args .x) (args .parent) (args .name .now) (passed (heldTests (files (tables (args .dir-hash .now) (args .dirs .now) (args .hash .now) (args .files .now))) (args .opens .now) (args .x)) _ (at-judge-held .ensures) (c .before .before .enum-told .given .1)) (c .before .live .ensures) (not-true _ (c .if1 .taken))
 
-new-requires : tie.Need-new-requires
-new-requires c κs = search needs
-
 has-other-requires : tie.Need-has-other-requires
 has-other-requires c κs = search needs
 
 returns-3 : tie.Need-returns-3
 returns-3 c =
-    let args = c .before .before .before .before .before .before .before .before .before .before .before .before .before .args in
-    let at-judge-held = c .before .before .before .before .before .before .before .judge-held in
-    let at-enum-told = c .before .before .before .before .before .enum-told in
-    let at-live = c .before .before .before .before .live in
-    file-exists (tables (args .dir-hash .now) (args .dirs .now) (args .hash .now) (args .files .now)) (args .opens .now) (args .x) (args .parent) (args .name .now) (passed (heldTests (files (tables (args .dir-hash .now) (args .dirs .now) (args .hash .now) (args .files .now))) (args .opens .now) (args .x)) _ (at-judge-held .ensures) (at-enum-told .given .1)) (at-live .ensures) (not-false _ (c .before .before .before .if1 .left)) (other-key (files (tables (args .dir-hash .now) (args .dirs .now) (args .hash .now) (args .files .now))) (args .x) (c .before .before .new .ensures) (c .before .has-other .ensures)) (c .if2 .taken)
+    let args = c .before .before .before .before .before .before .before .before .before .before .before .before .args in
+    let at-judge-held = c .before .before .before .before .before .before .judge-held in
+    let at-enum-told = c .before .before .before .before .enum-told in
+    let at-live = c .before .before .before .live in
+    file-exists (tables (args .dir-hash .now) (args .dirs .now) (args .hash .now) (args .files .now)) (args .opens .now) (args .x) (args .parent) (args .name .now) (passed (heldTests (files (tables (args .dir-hash .now) (args .dirs .now) (args .hash .now) (args .files .now))) (args .opens .now) (args .x)) _ (at-judge-held .ensures) (at-enum-told .given .1)) (at-live .ensures) (not-false _ (c .before .before .if1 .left)) (other-key (files (tables (args .dir-hash .now) (args .dirs .now) (args .hash .now) (args .files .now))) (args .x) (c .before .before .before .before .before .before .before .before .before .before .before .before .pre .1) (c .before .has-other .ensures)) (c .if2 .taken)
 
 returns-4 : tie.Need-returns-4
 returns-4 c =
-    let args = c .before .before .before .before .before .before .before .before .before .before .before .before .before .args in
-    let at-judge-held = c .before .before .before .before .before .before .before .judge-held in
-    let at-enum-told = c .before .before .before .before .before .enum-told in
-    let at-live = c .before .before .before .before .live in
-    file-go (tables (args .dir-hash .now) (args .dirs .now) (args .hash .now) (args .files .now)) (args .opens .now) (args .x) (args .parent) (args .name .now) (passed (heldTests (files (tables (args .dir-hash .now) (args .dirs .now) (args .hash .now) (args .files .now))) (args .opens .now) (args .x)) _ (at-judge-held .ensures) (at-enum-told .given .1)) (at-live .ensures) (not-false _ (c .before .before .before .if1 .left)) (other-key (files (tables (args .dir-hash .now) (args .dirs .now) (args .hash .now) (args .files .now))) (args .x) (c .before .before .new .ensures) (c .before .has-other .ensures)) (c .if2 .left)
+    let args = c .before .before .before .before .before .before .before .before .before .before .before .before .args in
+    let at-judge-held = c .before .before .before .before .before .before .judge-held in
+    let at-enum-told = c .before .before .before .before .enum-told in
+    let at-live = c .before .before .before .live in
+    file-go (tables (args .dir-hash .now) (args .dirs .now) (args .hash .now) (args .files .now)) (args .opens .now) (args .x) (args .parent) (args .name .now) (passed (heldTests (files (tables (args .dir-hash .now) (args .dirs .now) (args .hash .now) (args .files .now))) (args .opens .now) (args .x)) _ (at-judge-held .ensures) (at-enum-told .given .1)) (at-live .ensures) (not-false _ (c .before .before .if1 .left)) (other-key (files (tables (args .dir-hash .now) (args .dirs .now) (args .hash .now) (args .files .now))) (args .x) (c .before .before .before .before .before .before .before .before .before .before .before .before .pre .1) (c .before .has-other .ensures)) (c .if2 .left)
 
 pub judge-rename-file-spec : {M : Type 1} → statement M
 judge-rename-file-spec =
@@ -62,7 +59,6 @@ judge-rename-file-spec =
     returns
     live-requires
     returns-2
-    new-requires
     has-other-requires
     returns-3
     returns-4)
