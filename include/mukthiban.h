@@ -8,8 +8,9 @@
  *  - As it is proved it ends, and touches no memory but what it was lent.
  *  - A refusal changes no table, no data, no buffer, no list and no open count,
  *    and every other field of its answer is 0: also the place that carried
- *    bytes are read into, which is such a field. The one exception is lookup's
- *    `compared` with MUKTHIBAN_NOT_FOUND, which is kept.
+ *    bytes are read into, which is such a field. There are two exceptions:
+ *    lookup's `compared` with MUKTHIBAN_NOT_FOUND is kept, and `entry` and
+ *    `rule` with MUKTHIBAN_BROKEN_FAT say where the block table is broken.
  *  - Once sizes and work list have passed (numbers 1, 2 for a size, 3), the
  *    work places that the call names are 0 on return, whatever the answer. The
  *    places behind them stay. Before that the work list is untouched.
@@ -103,13 +104,13 @@ mukthiban_answered mukthiban_fat_write(const uint8_t *table, size_t table_len,
  * list[k / block_len] has byte k. Takes no table and no work list; of the list's blocks only those that the bytes lie in are
  * looked at, so that a read costs nothing of the file's length. n is data_len / block_len here. Answers 1, 2, 7 (the list's
  * end), 2 (a block that the bytes lie in is n or more). */
-mukthiban_answered mukthiban_fat_read_blocks(const uint8_t *data, size_t data_len, size_t block_len,
+mukthiban_plain mukthiban_fat_read_blocks(const uint8_t *data, size_t data_len, size_t block_len,
                                              const uint32_t *list, size_t list_len, size_t pos,
                                              uint8_t *buf, size_t buf_len);
 
 /* Writes buf's bytes from position pos on into what a block list names, byte after byte: where the list names a block
  * twice, the later byte stays. Answers as mukthiban_fat_read_blocks. */
-mukthiban_answered mukthiban_fat_write_blocks(uint8_t *data, size_t data_len, size_t block_len,
+mukthiban_plain mukthiban_fat_write_blocks(uint8_t *data, size_t data_len, size_t block_len,
                                               const uint32_t *list, size_t list_len, size_t pos,
                                               const uint8_t *buf, size_t buf_len);
 

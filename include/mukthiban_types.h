@@ -51,10 +51,26 @@ enum {
 /* The kinds of mukthiban_tree_name. */
 enum { MUKTHIBAN_DIRECTORY = 0, MUKTHIBAN_FILE = 1 };
 
-/* Answers: the number first, then the call's own fields. Those of block calls
- * and those of tree calls are separate types. */
+/* The rules that a broken block table breaks, in the order in which they are
+ * looked for, and the entry that is blamed (entry 0 is the head, entry b + 1
+ * belongs to block b). The nodes are walked from block 0 on, and the first that
+ * can't be read is answered, by the first of 1 to 5; then 6; then 7. */
+enum {
+    MUKTHIBAN_START_FLAGS = 1,    /* a node's first entry: flag and index of its previous, or neither */
+    MUKTHIBAN_NO_SECOND = 2,      /* its first entry: it says several blocks, and there is one */
+    MUKTHIBAN_SECOND_FORM = 3,    /* its second entry has not its form */
+    MUKTHIBAN_END_OVER = 4,       /* its second entry: the end is past the table's */
+    MUKTHIBAN_END_DIFFERS = 5,    /* its last entry does not hold what the second holds */
+    MUKTHIBAN_HEAD = 6,           /* entry 0: its form, or it names no node, or one with a previous */
+    MUKTHIBAN_LINKS = 7           /* the first entry of the lowest node that a link of it does not name back, or in a ring */
+};
 
-/* Format, and every tree call that gives nothing else. */
+/* Answers: the number first, then the call's own fields; those of the block
+ * calls that judge a table end with entry and rule, which are 0 unless the number
+ * is MUKTHIBAN_BROKEN_FAT and then say where it is broken. Those of block calls and
+ * those of tree calls are separate types. */
+
+/* Format, read and write by a list, and every tree call that gives nothing else. */
 typedef struct {
     uint32_t answer;
 } mukthiban_plain;
@@ -62,6 +78,8 @@ typedef struct {
 /* A block call that gives nothing else. */
 typedef struct {
     uint32_t answer;
+    size_t entry;
+    uint32_t rule;
 } mukthiban_answered;
 
 /* The test of the block table: its free blocks, and its files (chains other than the free one). */
@@ -69,18 +87,24 @@ typedef struct {
     uint32_t answer;
     size_t free;
     size_t files;
+    size_t entry;
+    uint32_t rule;
 } mukthiban_tested;
 
 /* Create: the new file's first block. */
 typedef struct {
     uint32_t answer;
     size_t first_block;
+    size_t entry;
+    uint32_t rule;
 } mukthiban_created;
 
 /* Open list: how many places of the lent list hold the file's blocks. */
 typedef struct {
     uint32_t answer;
     size_t count;
+    size_t entry;
+    uint32_t rule;
 } mukthiban_opened;
 
 /* Listing: how many places of the lent list hold the directory's children. */

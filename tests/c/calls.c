@@ -101,8 +101,59 @@ static void blocks(void)
     EXPECT(mukthiban_fat_delete(FAT, DATA, WORK, 0).answer == MUKTHIBAN_DONE);
     tested = mukthiban_fat_test(FAT, WORK);
     EXPECT(tested.answer == MUKTHIBAN_DONE && tested.free == 3 && tested.files == 1);
-    table[0] = 1;
-    EXPECT(mukthiban_fat_delete(FAT, DATA, WORK, 2).answer == MUKTHIBAN_BROKEN_FAT);
+}
+
+/* A table is broken at that entry, by that rule, in every call that judges it; and no other number has them. */
+static void broken_at(size_t entry, uint32_t rule)
+{
+    uint8_t buf[1] = {0};
+    mukthiban_tested tested = mukthiban_fat_test(FAT, WORK);
+    mukthiban_created created = mukthiban_fat_create(FAT, DATA, WORK, 1);
+    mukthiban_opened opened = mukthiban_fat_open_list(FAT, DATA, WORK, 0, LIST);
+    mukthiban_answered each[4];
+    int i;
+
+    each[0] = mukthiban_fat_resize(FAT, DATA, WORK, 0, 1);
+    each[1] = mukthiban_fat_delete(FAT, DATA, WORK, 0);
+    each[2] = mukthiban_fat_read(FAT, DATA, WORK, 0, 0, buf, 1);
+    each[3] = mukthiban_fat_write(FAT, DATA, WORK, 0, 0, buf, 1);
+    EXPECT(tested.answer == MUKTHIBAN_BROKEN_FAT && tested.entry == entry && tested.rule == rule);
+    EXPECT(tested.free == 0 && tested.files == 0);
+    EXPECT(created.answer == MUKTHIBAN_BROKEN_FAT && created.entry == entry && created.rule == rule);
+    EXPECT(created.first_block == 0);
+    EXPECT(opened.answer == MUKTHIBAN_BROKEN_FAT && opened.entry == entry && opened.rule == rule);
+    EXPECT(opened.count == 0);
+    for (i = 0; i < 4; i++)
+        EXPECT(each[i].answer == MUKTHIBAN_BROKEN_FAT && each[i].entry == entry && each[i].rule == rule);
+    tested = mukthiban_fat_test(FAT, work, 3);
+    EXPECT(tested.answer == MUKTHIBAN_WORK_TOO_SHORT && tested.entry == 0 && tested.rule == 0);
+}
+
+/* The table of one free node of four blocks, with one byte in another way. */
+static void broken_by(size_t at, uint8_t byte, size_t entry, uint32_t rule)
+{
+    mukthiban_tested tested;
+
+    EXPECT(mukthiban_fat_format(FAT).answer == MUKTHIBAN_DONE);
+    tested = mukthiban_fat_test(FAT, WORK);
+    EXPECT(tested.answer == MUKTHIBAN_DONE && tested.entry == 0 && tested.rule == 0);
+    table[at] = byte;
+    broken_at(entry, rule);
+}
+
+static void broken(void)
+{
+    broken_by(8 + 3, 0, 1, MUKTHIBAN_START_FLAGS);
+    broken_by(2 * 8, 2, 2, MUKTHIBAN_SECOND_FORM);
+    broken_by(2 * 8 + 4, 5, 2, MUKTHIBAN_END_OVER);
+    broken_by(4 * 8 + 4, 3, 4, MUKTHIBAN_END_DIFFERS);
+    broken_by(0, 1, 0, MUKTHIBAN_HEAD);
+    broken_by(8 + 4, 1, 1, MUKTHIBAN_LINKS);
+    /* one block that says it is several */
+    EXPECT(mukthiban_fat_format(table, 16).answer == MUKTHIBAN_DONE);
+    table[8 + 7] = 0x80;
+    EXPECT(mukthiban_fat_test(table, 16, WORK).entry == 1);
+    EXPECT(mukthiban_fat_test(table, 16, WORK).rule == MUKTHIBAN_NO_SECOND);
 }
 
 static void tree(void)
@@ -197,6 +248,7 @@ int main(void)
     EXPECT(mukthiban_version() == MUKTHIBAN_VERSION_NUMBER);
     texts();
     blocks();
+    broken();
     tree();
     return failures == 0 ? 0 : 1;
 }

@@ -6,3 +6,4 @@ pub mod Blocks
 pub mod Fresh
 pub mod Tree
 pub mod All
+pub mod Faults

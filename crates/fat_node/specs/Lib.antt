@@ -2,4 +2,5 @@ pub mod Entry
 pub mod Node
 pub mod Sizes
 pub mod Format
+pub mod Fault
 pub mod inner

@@ -1,3 +1,2 @@
 -- What functions inside the crates answer. No promise needs it.
 pub mod Reads
-pub mod Ends

@@ -2,6 +2,7 @@
 //
 // Every word of the table is read by words::get_u32 and written by words::put_u32, which compile to 32-bit loads and stores: after `rt staticlib mukthiban`
 // look at mukthiban_fat_format in `objdump -d target/staticlib/libmukthiban.a`.
+use order::Fault;
 ghost use mathlib.Core.Path.{_≡_};
 ghost use mathlib.Core.Bool.{true};
 ghost use Prim.Native.Nat.{ℕ, _+_, _*_, _≤_, _<_};
@@ -11,7 +12,7 @@ ghost use Rattle.fat_node.specs.Node.{run, prevAt, nextAt, NodeAt, prevH
 ghost use Rattle.fat_node.specs.Sizes.{blocks, Misfit, Outside};
 ghost use Rattle.fat_node.specs.Format.{FormatPromise};
 ghost use Rattle.fat_node.specs.inner.Reads.{Reads, HeadReads};
-ghost use Rattle.fat_node.specs.inner.Ends.{Ends};
+ghost use Rattle.fat_node.specs.Fault.{badStart, badSecond, differs, spanFault};
 
 // A run of size blocks, with the indexes of the previous node and of the next: block numbers plus 1, or 0 for none.
 pub struct Node {
@@ -20,10 +21,10 @@ pub struct Node {
     pub next: usize,
 }
 
-// What stands at a block: a node, or something that can't be read as one.
+// What stands at a block: a node, or something that can't be read as one, with the entry and the rule that say why.
 pub enum NodeRead {
     Found(Node),
-    Broken,
+    Broken(Fault),
 }
 
 // The index of the first free node, 0 for none; or the head has not its form.
@@ -87,46 +88,75 @@ pub fn size_of(table: &[u8], n: usize, b: usize) -> u32
     v_of(table, b + 2) - (b as u32)
 }
 
-// Whether a start entry's u has the flag alone or an index alone.
-fn prev_fits(u: u32) -> bool
-    ensures { λ r. ⌜ (r ≡ true → (0 < u) × (u ≤ top)) × ((0 < u) × (u ≤ top) → r ≡ true) ⌝ }
+// Whether u of a start entry has its flag and an index, or neither.
+fn bad_start(u: u32) -> bool
+    ensures { λ r. ⌜ r ≡ badStart u ⌝ }
 {
     if u == 0 {
-        return false;
+        return true;
     }
-    u <= FLAG
+    FLAG < u
 }
 
-// The end of the node of several blocks at block b, or 0 where its second entry and its last don't hold it.
-fn end_of(table: &[u8], n: usize, b: usize) -> usize
+// Whether u and v are not what the second entry of a node of several blocks at block b holds.
+fn bad_second(u: u32, v: u32, b: usize) -> bool
+    requires { ⌜ b ≤ 1000000 ⌝ }
+    ensures { λ r. ⌜ r ≡ badSecond u v b ⌝ }
+{
+    if wide(u) != 2147483648 + (b + 1) {
+        return true;
+    }
+    if FLAG <= v {
+        return true;
+    }
+    wide(v) < b + 2
+}
+
+// Whether entry e does not hold u and v.
+fn differs(table: &[u8], e: usize, u: u32, v: u32) -> bool
+    requires { ⌜ 8 * e + 8 ≤ length (now table) ⌝ }
+    ensures { λ r. ⌜ r ≡ differs (now (table .entry)) e u v ⌝ }
+{
+    if u_of(table, e) != u {
+        return true;
+    }
+    v_of(table, e) != v
+}
+
+// The first of rules 2 to 5 that is broken at block b, whose start entry says several blocks.
+fn span_fault(table: &[u8], n: usize, b: usize) -> Fault
     requires { ⌜ length (now table) ≡ 8 * (n + 1) ⌝ }
     requires { ⌜ (b < n) × (n ≤ 1000000) ⌝ }
-    ensures { λ r. ⌜ Ends (now (table .entry)) n b r ⌝ }
+    ensures { λ r. ⌜ r ≡ spanFault n (now (table .entry)) b ⌝ }
 {
     if n < b + 2 {
-        return 0;
+        return Fault {
+            entry: b + 1,
+            rule: 2,
+        };
     }
-    let end = wide(v_of(table, b + 2));
-    if end < b + 2 {
-        return 0;
+    let u = u_of(table, b + 2);
+    let v = v_of(table, b + 2);
+    if bad_second(u, v, b) {
+        return Fault {
+            entry: b + 2,
+            rule: 3,
+        };
     }
-    if n < end {
-        return 0;
+    let e = wide(v);
+    if n < e {
+        return Fault {
+            entry: b + 2,
+            rule: 4,
+        };
     }
-    let held = 2147483648 + (b + 1);
-    if wide(u_of(table, b + 2)) != held {
-        return 0;
+    if differs(table, e, u, v) {
+        return Fault { entry: e, rule: 5 };
     }
-    if wide(u_of(table, end)) != held {
-        return 0;
-    }
-    if wide(v_of(table, end)) != end {
-        return 0;
-    }
-    end
+    Fault { entry: 0, rule: 0 }
 }
 
-// The node that stands at block b of n.
+// The node that stands at block b of n, or where it can't be read, and by which rule.
 pub fn get_node(table: &[u8], n: usize, b: usize) -> NodeRead
     requires { ⌜ length (now table) ≡ 8 * (n + 1) ⌝ }
     requires { ⌜ (b < n) × (n ≤ 1000000) ⌝ }
@@ -134,8 +164,11 @@ pub fn get_node(table: &[u8], n: usize, b: usize) -> NodeRead
 {
     let u = u_of(table, b + 1);
     let v = v_of(table, b + 1);
-    if !prev_fits(u) {
-        return NodeRead::Broken;
+    if bad_start(u) {
+        return NodeRead::Broken(Fault {
+            entry: b + 1,
+            rule: 1,
+        });
     }
     let prev = wide(u % FLAG);
     let next = wide(v % FLAG);
@@ -146,10 +179,11 @@ pub fn get_node(table: &[u8], n: usize, b: usize) -> NodeRead
             next,
         });
     }
-    let end = end_of(table, n, b);
-    if end == 0 {
-        return NodeRead::Broken;
+    let f = span_fault(table, n, b);
+    if f.rule != 0 {
+        return NodeRead::Broken(f);
     }
+    let end = wide(v_of(table, b + 2));
     NodeRead::Found(Node {
         size: end - b,
         prev,

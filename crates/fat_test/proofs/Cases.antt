@@ -1,5 +1,5 @@
 -- Each way out of the test and of the gate, as a fact about the rows.
-use mathlib.Core.Path.{_≡_, refl, sym, ap, _∙_}
+use mathlib.Core.Path.{_≡_, refl, sym, ap, subst, _∙_}
 use mathlib.Core.List.{List}
 use mathlib.Core.Bool.{true, false}
 use mathlib.Core.Logic.{_⊎_, inl, inr, ⊎-elim}
@@ -10,7 +10,8 @@ use lib.ListN.{length}
 use Rattle.order.specs.First.{First}
 use Rattle.order.specs.Gate.{cleared, Refusal, refusal}
 use Rattle.order.specs.Given.{Given, None}
-use Rattle.order.specs.declared.Answer.the-variants.{Done, SizeMismatch, InvalidValue, WorkTooShort, BrokenFat}
+use Rattle.order.specs.declared.Answer.{Answer}
+use Rattle.order.specs.declared.Answer.the-variants.{Done, SizeMismatch, InvalidValue, WorkTooShort}
 use Rattle.fat_node.specs.Entry.{Bytes}
 use Rattle.fat_node.specs.Sizes.{blocks, Misfit, Outside}
 use Rattle.fat_table.specs.Sound.{Sound}
@@ -18,7 +19,10 @@ use Rattle.fat_table.specs.Counts.{freeBlocks, otherChains}
 use Rattle.fat_node.proofs.Cases.{untrue}
 use Rattle.fat_test.specs.Gate.{testGate, blockGate}
 use Rattle.fat_test.specs.Promise.{tested, testRefused, testDone}
+use Rattle.fat_test.specs.inner.Gated.{Ruled, GateOf}
 use Rattle.fat_test.specs.declared.Tested.{Tested}
+use Rattle.fat_test.specs.declared.Gated.{Gated}
+use Rattle.fat_test.specs.declared.Gated.the-variants.{Open, Refused}
 
 -- true is not false
 pub unfalse : {A : Type 0} → true ≡ false → A
@@ -55,11 +59,14 @@ module _ (t : Bytes) (work : List ℕ) where
       test-short s e = inr (m, inr (o, inl (s, ap (λ (x : Tested). (x, work)) e)))
 
       module _ {w : List ℕ} (s : length work < blocks t → ⊥) (c : w ≡ cleared (blocks t) work) where
-        pub test-broken : {r : Tested} → (Sound t (blocks t) → ⊥) → r ≡ tested BrokenFat 0 0 → Says r w
-        test-broken u e = inr (m, inr (o, inr (s, inl (u, λ i. (e i, c i)))))
+        pub test-broken : {g : Gated} {a : Answer} {r : Tested} → Ruled t (blocks t) g → g ≡ Refused a → r ≡ tested a 0 0 → Says r w
+        test-broken p q e =
+            let u = subst (Ruled t (blocks t)) q p in
+            inr (m, inr (o, inr (s, inl (u .0, ap (λ (x : Tested). (x, w)) e ∙ (λ i. (tested (u .1 i) 0 0, c i))))))
 
-        pub test-sound : {free files : ℕ} {r : Tested} → Sound t (blocks t) × (free ≡ freeBlocks (blocks t) t) × (files ≡ otherChains (blocks t) t) → r ≡ tested Done free files → Says r w
-        test-sound v e =
+        pub test-sound : {g : Gated} {free files : ℕ} {r : Tested} → Ruled t (blocks t) g → g ≡ Open free files → r ≡ tested Done free files → Says r w
+        test-sound p q e =
+            let v = subst (Ruled t (blocks t)) q p in
             inr (m, inr (o, inr (s, inr ((λ u. u (v .0)), ap (λ (x : Tested). (x, w)) e ∙ (λ i. (record { answer = Done; free = v .1 i; files = v .2 i }, c i))))))
 
 -- ---- the gate
@@ -91,8 +98,13 @@ module _ (t : Bytes) (d l : ℕ) (work : List ℕ) where
       gate-short s = inr (sized, inr (valid, inl (s, refl)))
 
       module _ (s : length work < blocks t → ⊥) where
-        pub gate-broken : {w : List ℕ} → w ≡ cleared (blocks t) work → (Sound t (blocks t) → ⊥) → Refuses (refusal BrokenFat w)
-        gate-broken c u = inr (sized, inr (valid, inr (s, inl (u, ap (λ (x : List ℕ). refusal BrokenFat x) c))))
-
-        pub gate-open : Sound t (blocks t) → None (blockGate refusal t d l work)
-        gate-open v = (sized, (valid, (s, ((λ u. u v), tt))))
+        -- what is told of a table whose sizes fit is the gate's answer
+        pub gate-ruled : {w : List ℕ} → w ≡ cleared (blocks t) work → (g : Gated) → Ruled t (blocks t) g → GateOf t d l work w g
+        gate-ruled c (Refused a) u = inr (sized, inr (valid, inr (s, inl (u .0, λ i. refusal (u .1 i) (c i)))))
+        gate-ruled c (Open free files) v = record {
+          none = (sized, (valid, (s, ((λ u. u (v .0)), tt))));
+          sound = v .0;
+          clear = c;
+          count = v .1;
+          others = v .2;
+        }

@@ -10,11 +10,12 @@ use Rattle.order.specs.declared.Answer.{Answer}
 use Rattle.order.specs.declared.Answer.the-variants.{BrokenFat}
 use Rattle.fat_node.specs.Entry.{Bytes}
 use Rattle.fat_table.specs.Sound.{Sound}
+use Rattle.fat_fault.specs.Fault.{faultOf}
 use Rattle.fat_node.specs.Sizes.{blocks, Misfit, Outside}
 
--- the row of soundness
+-- the row of soundness: BrokenFat says where the table is broken (RULES 3.6)
 abbrev pub unsound : (t : Bytes) → List (Row Answer)
-unsound t = row (Sound t (blocks t) → ⊥) BrokenFat ∷ []
+unsound t = row (Sound t (blocks t) → ⊥) (BrokenFat (faultOf (blocks t) t)) ∷ []
 
 -- of the test, which takes the table alone; refuse a w is what the call gives with the answer a and the work list w
 abbrev pub testGate : {A : Type 0} (refuse : Answer → List ℕ → A) (t : Bytes) (work : List ℕ) → List (Row A)

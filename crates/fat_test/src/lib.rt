@@ -4,16 +4,15 @@ use order::Answer;
 ghost use mathlib.Core.Path.{_≡_};
 ghost use mathlib.Core.Bool.{true, false};
 ghost use mathlib.Core.Logic.{_⊎_};
-ghost use Prim.Native.Nat.{_*_, _≤_, _<_};
-ghost use lib.ListN.{length};
+ghost use Prim.Native.Nat.{_+_, _*_, _≤_, _<_};
+ghost use lib.ListN.{length, replicate};
 ghost use Rattle.order.specs.Gate.{cleared};
 ghost use Rattle.order.specs.declared.Answer.the-variants.{Done};
 ghost use Rattle.fat_node.specs.Sizes.{blocks, Misfit, Outside};
-ghost use Rattle.fat_ends.specs.Promise.{Judged};
 ghost use Rattle.fat_test.specs.Promise.{tested, TestPromise};
-ghost use Rattle.fat_test.specs.inner.Gated.{GateOf};
+ghost use Rattle.fat_test.specs.inner.Gated.{Ruled, GateOf};
 
-// The test's answer: of a sound table its free blocks and the number of its other chains, of any other table 0 and 0.
+// The test's answer: of a sound table its free blocks and the number of its other chains, of any other table 0 and 0. The answer BrokenFat says where.
 pub struct Tested {
     pub answer: Answer,
     pub free: usize,
@@ -80,15 +79,35 @@ fn uneven(d: usize, n: usize, l: usize) -> bool
     false
 }
 
-// The verdict on a table whose sizes fit, in the first places of the work list, one a block, which are 0 after it.
-fn verdict(table: &[u8], work: &mut [u32]) -> Verdict
+// What is told of a table of as many blocks as the work list has places, which are 0 after it. The passes that find the place run after a refusal alone.
+fn ruling(table: &[u8], work: &mut [u32]) -> Gated
+    requires { ⌜ length (now table) ≡ 8 * (length (now work) + 1) ⌝ }
+    requires { ⌜ (0 < length (now work)) × (length (now work) ≤ 1000000) ⌝ }
+    ensures { λ r. ⌜ Ruled (now (table .entry)) (length (now (work .entry))) r × (now (work .exit) ≡ replicate (length (now (work .entry))) 0) ⌝ }
+{
+    let r = fat_ends::run(table, work);
+    let Verdict::Good { free, files } = r else {
+        let n = work.len();
+        let found = fat_fault::locate(table, n, work);
+        return Gated::Refused {
+            answer: Answer::BrokenFat(found),
+        };
+    };
+    Gated::Open {
+        free: free as usize,
+        files: files as usize,
+    }
+}
+
+// The same of a table whose sizes fit, in the first places of the work list, one a block, which are 0 after it.
+fn verdict(table: &[u8], work: &mut [u32]) -> Gated
     requires { ⌜ (Misfit (now table) → ⊥) ⌝ }
     requires { ⌜ (Outside (now table) → ⊥) ⌝ }
     requires { ⌜ blocks (now table) ≤ length (now work) ⌝ }
-    ensures { λ r. ⌜ Judged (now (table .entry)) (blocks (now (table .entry))) r × (now (work .exit) ≡ cleared (blocks (now (table .entry))) (now (work .entry))) ⌝ }
+    ensures { λ r. ⌜ Ruled (now (table .entry)) (blocks (now (table .entry))) r × (now (work .exit) ≡ cleared (blocks (now (table .entry))) (now (work .entry))) ⌝ }
 {
     let n = table.len() / 8 - 1;
-    fat_ends::run(table, &mut work[..n])
+    ruling(table, &mut work[..n])
 }
 
 // The test of the block table. Done: the table is sound, and these are its free blocks and the number of its other chains.
@@ -106,10 +125,10 @@ pub fn test(table: &[u8], work: &mut [u32]) -> Tested
         return refused(Answer::WorkTooShort);
     }
     let r = verdict(table, work);
-    let Verdict::Good { free, files } = r else {
-        return refused(Answer::BrokenFat);
-    };
-    done(free as usize, files as usize)
+    match r {
+        Gated::Refused { answer } => refused(answer),
+        Gated::Open { free, files } => done(free, files),
+    }
 }
 
 // The gate of a call with data of length data_len. Open: the sizes fit and the table is sound, and the counts are the test's.
@@ -142,14 +161,5 @@ pub fn gate(table: &[u8], data_len: usize, block_len: usize, work: &mut [u32]) -
             answer: Answer::WorkTooShort,
         };
     }
-    let r = verdict(table, work);
-    let Verdict::Good { free, files } = r else {
-        return Gated::Refused {
-            answer: Answer::BrokenFat,
-        };
-    };
-    Gated::Open {
-        free: free as usize,
-        files: files as usize,
-    }
+    verdict(table, work)
 }

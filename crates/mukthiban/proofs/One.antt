@@ -5,8 +5,9 @@ use mathlib.Core.Logic.{_⊎_}
 use Prim.Native.Nat.{ℕ, _<_}
 use lib.ListN.{getD, length}
 use Rattle.order.specs.Beside.{Beside, beside}
-use Rattle.order.specs.Answer.{numberOf}
+use Rattle.order.specs.Answer.{numberOf, fault, faultIn}
 use Rattle.order.specs.declared.Answer.{Answer}
+use Rattle.order.specs.declared.Fault.{Fault}
 use Rattle.order.specs.declared.Answer.the-variants.{
   Done,
   SizeMismatch,
@@ -49,17 +50,17 @@ use Rattle.tree_promises.specs.Promise.{worked}
 use Rattle.tree_promises.specs.Public as promised
 use Rattle.tree_promises.proofs.Unique as tree-one
 use Rattle.tree_promises.proofs.Unique.{One}
-use Rattle.mukthiban.specs.Export.{Exported}
+use Rattle.mukthiban.specs.Export.{Exported, Located}
 use Rattle.mukthiban.specs.Name.{namedGives, nameRows, nameDone, NamePromise}
 
--- the answers by their numbers
-abbrev answers : List Answer
-answers =
+-- the answers by their numbers, BrokenFat with what it says
+abbrev answers : Fault → List Answer
+answers f =
     Done
     ∷ SizeMismatch
     ∷ InvalidValue
     ∷ WorkTooShort
-    ∷ BrokenFat
+    ∷ BrokenFat f
     ∷ NotAFile
     ∷ NoSpace
     ∷ OutOfBound
@@ -75,12 +76,12 @@ answers =
     ∷ TooManyOpens
     ∷ []
 
-answer-of : (a : Answer) → getD answers (numberOf a) Done ≡ a
+answer-of : (a : Answer) → getD (answers (faultIn a)) (numberOf a) Done ≡ a
 answer-of Done = refl
 answer-of SizeMismatch = refl
 answer-of InvalidValue = refl
 answer-of WorkTooShort = refl
-answer-of BrokenFat = refl
+answer-of (BrokenFat f) = refl
 answer-of NotAFile = refl
 answer-of NoSpace = refl
 answer-of OutOfBound = refl
@@ -95,9 +96,9 @@ answer-of IntoItself = refl
 answer-of NotOpen = refl
 answer-of TooManyOpens = refl
 
--- a number tells which answer it stands for
-pub told-apart : (a b : Answer) → numberOf a ≡ numberOf b → a ≡ b
-told-apart a b e = sym (answer-of a) ∙ ap (λ (n : ℕ). getD answers n Done) e ∙ answer-of b
+-- a number, with entry and rule, tells which answer it stands for
+pub told-apart : (a b : Answer) → numberOf a ≡ numberOf b → faultIn a ≡ faultIn b → a ≡ b
+told-apart a b e f = sym (answer-of a) ∙ (λ i. getD (answers (f i)) (e i) Done) ∙ answer-of b
 
 -- whatever the promise P: out a x is what a call gives with the answer a, and x is everything else of it, the other fields and the lent buffers
 abbrev pub OneExport : {A X : Type 0} → (Answer → X → A) → (A → Type 0) → Type 0
@@ -113,6 +114,21 @@ module _ {A X : Type 0} (out : Answer → X → A) (answer : A → Answer) (rest
         sym (left a x) ∙ ap rest z ∙ left b x′,
       )
 
+-- the same of a block call, whose answer has entry and rule
+abbrev pub OneLocated : {A X : Type 0} → (Answer → X → A) → (A → Type 0) → Type 0
+OneLocated {A} {X} out P =
+    (n n′ e e′ r r′ : ℕ) (x x′ : X) → Located n e r (λ a. P (out a x)) → Located n′ e′ r′ (λ a. P (out a x′))
+    → (n ≡ n′) × (e ≡ e′) × (r ≡ r′) × (x ≡ x′)
+
+module _ {A X : Type 0} (out : Answer → X → A) (answer : A → Answer) (rest : A → X) (P : A → Type 0) (same : (a : Answer) (x : X) → answer (out a x) ≡ a)
+    (left : (a : Answer) (x : X) → rest (out a x) ≡ x) where
+  pub one-located : One P → OneLocated out P
+  one-located u n n′ e e′ r r′ x x′ (a, en, ef, p) (b, fn, ff, q) =
+      let z : out a x ≡ out b x′ = u (out a x) (out b x′) p q in
+      let w : a ≡ b = sym (same a x) ∙ ap answer z ∙ same b x′ in
+      let f : fault e r ≡ fault e′ r′ = ef ∙ ap faultIn w ∙ sym ff in
+      (en ∙ ap numberOf w ∙ sym fn, ap (λ (y : Fault). y .entry) f, ap (λ (y : Fault). y .rule) f, sym (left a x) ∙ ap rest z ∙ left b x′)
+
 -- a call with a work list: x is what it gives besides the answer, and the work list
 module _ {G X : Type 0} (out : Answer → X → G) (answer : G → Answer) (rest : G → X) (P : Beside G → Type 0) (same : (a : Answer) (x : X) → answer (out a x) ≡ a)
     (left : (a : Answer) (x : X) → rest (out a x) ≡ x) where
@@ -127,6 +143,20 @@ module _ {G X : Type 0} (out : Answer → X → G) (answer : G → Answer) (rest
       (λ a x. ap (λ (y : X). (y, x .1)) (left a (x .0)))
       u n n′ x x′ p q
 
+-- and a block call with a work list
+module _ {G X : Type 0} (out : Answer → X → G) (answer : G → Answer) (rest : G → X) (P : Beside G → Type 0) (same : (a : Answer) (x : X) → answer (out a x) ≡ a)
+    (left : (a : Answer) (x : X) → rest (out a x) ≡ x) where
+  pub one-located-beside : One P → OneLocated {X = X × List ℕ} (λ a x. beside (out a (x .0)) (x .1)) P
+  one-located-beside u =
+      one-located
+      (λ (a : Answer) (x : X × List ℕ). beside (out a (x .0)) (x .1))
+      (λ o. answer (o .given))
+      (λ o. (rest (o .given), o .work))
+      P
+      (λ a x. same a (x .0))
+      (λ a x. ap (λ (y : X). (y, x .1)) (left a (x .0)))
+      u
+
 -- ---- the block table
 
 pub export-format : (t : Bytes) (n n′ : ℕ) (table table′ : Bytes)
@@ -138,9 +168,9 @@ export-format t n n′ table table′ (r, e, p) (r′, e′, p′) =
     (e ∙ ap (λ (o : Formatted × Bytes). numberOf (o .0 .answer)) z ∙ sym e′, ap (λ (o : Formatted × Bytes). o .1) z)
 
 pub export-test : (t : Bytes) (work : List ℕ)
-    → OneExport {X = (ℕ × ℕ) × List ℕ} (λ a x. (test.tested a (x .0 .0) (x .0 .1), x .1)) (test.TestPromise t work)
+    → OneLocated {X = (ℕ × ℕ) × List ℕ} (λ a x. (test.tested a (x .0 .0) (x .0 .1), x .1)) (test.TestPromise t work)
 export-test t work =
-    one-export
+    one-located
     (λ (a : Answer) (x : (ℕ × ℕ) × List ℕ). (test.tested a (x .0 .0) (x .0 .1), x .1))
     (λ o. o .0 .answer)
     (λ o. ((o .0 .free, o .0 .files), o .1))
@@ -150,34 +180,34 @@ export-test t work =
     (one-answer t work)
 
 pub export-create : (t : Bytes) (d l : ℕ) (work : List ℕ) (count : ℕ)
-    → OneExport {X = (ℕ × Bytes) × List ℕ} (λ a x. beside (fat.createGives a (x .0 .0) (x .0 .1)) (x .1)) (fat.CreatePromise t d l work count)
+    → OneLocated {X = (ℕ × Bytes) × List ℕ} (λ a x. beside (fat.createGives a (x .0 .0) (x .0 .1)) (x .1)) (fat.CreatePromise t d l work count)
 export-create t d l work count =
-    one-beside (λ (a : Answer) (x : ℕ × Bytes). fat.createGives a (x .0) (x .1)) (λ g. g .answer) (λ g. (g .first, g .table)) (fat.CreatePromise t d l work count) (λ a x. refl) (λ a x. refl) (fat-one.one-create t d l work count)
+    one-located-beside (λ (a : Answer) (x : ℕ × Bytes). fat.createGives a (x .0) (x .1)) (λ g. g .answer) (λ g. (g .first, g .table)) (fat.CreatePromise t d l work count) (λ a x. refl) (λ a x. refl) (fat-one.one-create t d l work count)
 
 pub export-resize : (t : Bytes) (d l : ℕ) (work : List ℕ) (b count : ℕ)
-    → OneExport {X = Bytes × List ℕ} (λ a x. beside (fat.changeGives a (x .0)) (x .1)) (fat.ResizePromise t d l work b count)
+    → OneLocated {X = Bytes × List ℕ} (λ a x. beside (fat.changeGives a (x .0)) (x .1)) (fat.ResizePromise t d l work b count)
 export-resize t d l work b count =
-    one-beside (λ (a : Answer) (x : Bytes). fat.changeGives a x) (λ g. g .answer) (λ g. g .table) (fat.ResizePromise t d l work b count) (λ a x. refl) (λ a x. refl) (fat-one.one-resize t d l work b count)
+    one-located-beside (λ (a : Answer) (x : Bytes). fat.changeGives a x) (λ g. g .answer) (λ g. g .table) (fat.ResizePromise t d l work b count) (λ a x. refl) (λ a x. refl) (fat-one.one-resize t d l work b count)
 
 pub export-delete : (t : Bytes) (d l : ℕ) (work : List ℕ) (b : ℕ)
-    → OneExport {X = Bytes × List ℕ} (λ a x. beside (fat.changeGives a (x .0)) (x .1)) (fat.DeletePromise t d l work b)
+    → OneLocated {X = Bytes × List ℕ} (λ a x. beside (fat.changeGives a (x .0)) (x .1)) (fat.DeletePromise t d l work b)
 export-delete t d l work b =
-    one-beside (λ (a : Answer) (x : Bytes). fat.changeGives a x) (λ g. g .answer) (λ g. g .table) (fat.DeletePromise t d l work b) (λ a x. refl) (λ a x. refl) (fat-one.one-delete t d l work b)
+    one-located-beside (λ (a : Answer) (x : Bytes). fat.changeGives a x) (λ g. g .answer) (λ g. g .table) (fat.DeletePromise t d l work b) (λ a x. refl) (λ a x. refl) (fat-one.one-delete t d l work b)
 
 pub export-open-list : (t : Bytes) (d l : ℕ) (work : List ℕ) (b : ℕ) (list : List ℕ)
-    → OneExport {X = (ℕ × List ℕ) × List ℕ} (λ a x. beside (fat.listGives a (x .0 .0) (x .0 .1)) (x .1)) (fat.ListPromise t d l work b list)
+    → OneLocated {X = (ℕ × List ℕ) × List ℕ} (λ a x. beside (fat.listGives a (x .0 .0) (x .0 .1)) (x .1)) (fat.ListPromise t d l work b list)
 export-open-list t d l work b list =
-    one-beside (λ (a : Answer) (x : ℕ × List ℕ). fat.listGives a (x .0) (x .1)) (λ g. g .answer) (λ g. (g .count, g .list)) (fat.ListPromise t d l work b list) (λ a x. refl) (λ a x. refl) (fat-one.one-list t d l work b list)
+    one-located-beside (λ (a : Answer) (x : ℕ × List ℕ). fat.listGives a (x .0) (x .1)) (λ g. g .answer) (λ g. (g .count, g .list)) (fat.ListPromise t d l work b list) (λ a x. refl) (λ a x. refl) (fat-one.one-list t d l work b list)
 
 pub export-read : (t d : Bytes) (l : ℕ) (work : List ℕ) (b pos : ℕ) (buf : Bytes)
-    → OneExport {X = Bytes × List ℕ} (λ a x. beside (fat.carryGives a (x .0)) (x .1)) (fat.ReadPromise t d l work b pos buf)
+    → OneLocated {X = Bytes × List ℕ} (λ a x. beside (fat.carryGives a (x .0)) (x .1)) (fat.ReadPromise t d l work b pos buf)
 export-read t d l work b pos buf =
-    one-beside (λ (a : Answer) (x : Bytes). fat.carryGives a x) (λ g. g .answer) (λ g. g .bytes) (fat.ReadPromise t d l work b pos buf) (λ a x. refl) (λ a x. refl) (fat-one.one-read t d l work b pos buf)
+    one-located-beside (λ (a : Answer) (x : Bytes). fat.carryGives a x) (λ g. g .answer) (λ g. g .bytes) (fat.ReadPromise t d l work b pos buf) (λ a x. refl) (λ a x. refl) (fat-one.one-read t d l work b pos buf)
 
 pub export-write : (t d : Bytes) (l : ℕ) (work : List ℕ) (b pos : ℕ) (buf : Bytes)
-    → OneExport {X = Bytes × List ℕ} (λ a x. beside (fat.carryGives a (x .0)) (x .1)) (fat.WritePromise t d l work b pos buf)
+    → OneLocated {X = Bytes × List ℕ} (λ a x. beside (fat.carryGives a (x .0)) (x .1)) (fat.WritePromise t d l work b pos buf)
 export-write t d l work b pos buf =
-    one-beside (λ (a : Answer) (x : Bytes). fat.carryGives a x) (λ g. g .answer) (λ g. g .bytes) (fat.WritePromise t d l work b pos buf) (λ a x. refl) (λ a x. refl) (fat-one.one-write t d l work b pos buf)
+    one-located-beside (λ (a : Answer) (x : Bytes). fat.carryGives a x) (λ g. g .answer) (λ g. g .bytes) (fat.WritePromise t d l work b pos buf) (λ a x. refl) (λ a x. refl) (fat-one.one-write t d l work b pos buf)
 
 pub export-read-blocks : (d : Bytes) (l : ℕ) (list : List ℕ) (pos : ℕ) (buf : Bytes)
     → OneExport {X = Bytes} (λ a x. fat.carryGives a x) (ReadBlocksPromise d l list pos buf)

@@ -10,23 +10,23 @@ use Rattle.fat_promises.specs.Calls as fat
 use Rattle.tree_sound.specs.Tables.{Tables}
 use Rattle.tree_promises.specs.Calls as tree
 use Rattle.mukthiban.specs.Name.{Naming, namedGives}
-use Rattle.mukthiban.proofs.One.{OneExport, one-export}
+use Rattle.mukthiban.proofs.One.{OneExport, one-export, OneLocated, one-located}
 
 -- create
-pub inner-create : (rs : List (Row fat.Create)) (d : fat.Create) → OneExport {X = ℕ × Bytes} (λ a x. fat.createGives a (x .0) (x .1)) (First rs d)
-inner-create rs d = one-export (λ (a : Answer) (x : ℕ × Bytes). fat.createGives a (x .0) (x .1)) (λ g. g .answer) (λ g. (g .first, g .table)) (First rs d) (λ a x. refl) (λ a x. refl) (one rs d)
+pub inner-create : (rs : List (Row fat.Create)) (d : fat.Create) → OneLocated {X = ℕ × Bytes} (λ a x. fat.createGives a (x .0) (x .1)) (First rs d)
+inner-create rs d = one-located (λ (a : Answer) (x : ℕ × Bytes). fat.createGives a (x .0) (x .1)) (λ g. g .answer) (λ g. (g .first, g .table)) (First rs d) (λ a x. refl) (λ a x. refl) (one rs d)
 
 -- resize and delete
-pub inner-change : (rs : List (Row fat.Change)) (d : fat.Change) → OneExport {X = Bytes} (λ a x. fat.changeGives a x) (First rs d)
-inner-change rs d = one-export (λ (a : Answer) (x : Bytes). fat.changeGives a x) (λ g. g .answer) (λ g. g .table) (First rs d) (λ a x. refl) (λ a x. refl) (one rs d)
+pub inner-change : (rs : List (Row fat.Change)) (d : fat.Change) → OneLocated {X = Bytes} (λ a x. fat.changeGives a x) (First rs d)
+inner-change rs d = one-located (λ (a : Answer) (x : Bytes). fat.changeGives a x) (λ g. g .answer) (λ g. g .table) (First rs d) (λ a x. refl) (λ a x. refl) (one rs d)
 
 -- open list
-pub inner-open-list : (rs : List (Row fat.Listing)) (d : fat.Listing) → OneExport {X = ℕ × List ℕ} (λ a x. fat.listGives a (x .0) (x .1)) (First rs d)
-inner-open-list rs d = one-export (λ (a : Answer) (x : ℕ × List ℕ). fat.listGives a (x .0) (x .1)) (λ g. g .answer) (λ g. (g .count, g .list)) (First rs d) (λ a x. refl) (λ a x. refl) (one rs d)
+pub inner-open-list : (rs : List (Row fat.Listing)) (d : fat.Listing) → OneLocated {X = ℕ × List ℕ} (λ a x. fat.listGives a (x .0) (x .1)) (First rs d)
+inner-open-list rs d = one-located (λ (a : Answer) (x : ℕ × List ℕ). fat.listGives a (x .0) (x .1)) (λ g. g .answer) (λ g. (g .count, g .list)) (First rs d) (λ a x. refl) (λ a x. refl) (one rs d)
 
 -- read and write
-pub inner-carry : (rs : List (Row fat.Carry)) (d : fat.Carry) → OneExport {X = Bytes} (λ a x. fat.carryGives a x) (First rs d)
-inner-carry rs d = one-export (λ (a : Answer) (x : Bytes). fat.carryGives a x) (λ g. g .answer) (λ g. g .bytes) (First rs d) (λ a x. refl) (λ a x. refl) (one rs d)
+pub inner-carry : (rs : List (Row fat.Carry)) (d : fat.Carry) → OneLocated {X = Bytes} (λ a x. fat.carryGives a x) (First rs d)
+inner-carry rs d = one-located (λ (a : Answer) (x : Bytes). fat.carryGives a x) (λ g. g .answer) (λ g. g .bytes) (First rs d) (λ a x. refl) (λ a x. refl) (one rs d)
 
 -- lookup
 pub inner-lookup : (rs : List (Row tree.Lookup)) (d : tree.Lookup) → OneExport {X = ℕ × ℕ} (λ a x. tree.lookupGives a (x .0) (x .1)) (First rs d)

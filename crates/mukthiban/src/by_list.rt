@@ -2,7 +2,7 @@
 ghost use Rattle.fat_promises.specs.Calls.{carryGives};
 ghost use Rattle.fat_listed.specs.Listed.{ReadBlocksPromise, WriteBlocksPromise};
 ghost use Rattle.mukthiban.specs.Export.{Exported};
-use crate::Answered;
+use crate::Plain;
 
 #[no_mangle]
 pub extern "C" fn mukthiban_fat_read_blocks(
@@ -11,12 +11,12 @@ pub extern "C" fn mukthiban_fat_read_blocks(
     list: &[u32],
     pos: usize,
     buf: &mut [u8],
-) -> Answered
+) -> Plain
     ensures { λ p. ⌜ Exported (p .answer) (λ a. ReadBlocksPromise (now («data» .entry)) «block_len» (now (list .entry)) pos (now (buf .entry)) (carryGives a (now (buf .exit)))) ⌝ }
 {
     let r = fat_listed::read_blocks(data, block_len, list, pos, buf);
     let answer = r.answer;
-    Answered {
+    Plain {
         answer: order::number(answer),
     }
 }
@@ -28,12 +28,12 @@ pub extern "C" fn mukthiban_fat_write_blocks(
     list: &[u32],
     pos: usize,
     buf: &[u8],
-) -> Answered
+) -> Plain
     ensures { λ p. ⌜ Exported (p .answer) (λ a. WriteBlocksPromise (now («data» .entry)) «block_len» (now (list .entry)) pos (now (buf .entry)) (carryGives a (now («data» .exit)))) ⌝ }
 {
     let r = fat_listed::write_blocks(data, block_len, list, pos, buf);
     let answer = r.answer;
-    Answered {
+    Plain {
         answer: order::number(answer),
     }
 }

@@ -13,16 +13,19 @@ mod tested_opens;
 mod trees;
 mod version;
 
-// The answer of both formats, and of a tree call that gives nothing else.
+// The answer of both formats, of read and write by a list, and of a tree call that gives nothing else.
 #[repr(C)]
 pub struct Plain {
     pub answer: u32,
 }
 
-// The answer of a block call that gives nothing else.
+// The answer of a block call that gives nothing else. Here and in the next three, entry and rule say where the block table is broken (RULES 3.6), and are
+// 0 with every other number than 4.
 #[repr(C)]
 pub struct Answered {
     pub answer: u32,
+    pub entry: usize,
+    pub rule: u32,
 }
 
 // The free blocks of a block table, and its files.
@@ -31,6 +34,8 @@ pub struct Tested {
     pub answer: u32,
     pub free: usize,
     pub files: usize,
+    pub entry: usize,
+    pub rule: u32,
 }
 
 // The first block of the file that create made.
@@ -38,6 +43,8 @@ pub struct Tested {
 pub struct Created {
     pub answer: u32,
     pub first_block: usize,
+    pub entry: usize,
+    pub rule: u32,
 }
 
 // The inode of the entry that make made.
@@ -52,6 +59,8 @@ pub struct Made {
 pub struct Opened {
     pub answer: u32,
     pub count: usize,
+    pub entry: usize,
+    pub rule: u32,
 }
 
 // How many places of the lent list hold the directory's children.

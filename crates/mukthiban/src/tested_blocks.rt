@@ -3,7 +3,7 @@ ghost use lib.ListN.{length};
 ghost use Rattle.order.specs.First.{First};
 ghost use Rattle.fat_inner.specs.Volume.{Volume, Data};
 ghost use Rattle.fat_promises.specs.Calls.{createRows, createDone, createGives, resizeRows, resizeDone, deleteRows, deleteDone, changeGives, listRows, listDone, listGives, carryRows, readDone, writeDone, carryGives};
-ghost use Rattle.mukthiban.specs.Export.{Exported};
+ghost use Rattle.mukthiban.specs.Export.{Located};
 use crate::Answered;
 use crate::Created;
 use crate::Opened;
@@ -15,13 +15,16 @@ pub extern "C" fn mukthiban_tested_fat_create(
     block_count: usize,
 ) -> Created
     requires { ⌜ Volume n (now table) ⌝ }
-    ensures { λ p. ⌜ Exported (p .answer) (λ a. First (createRows n (now (table .entry)) «block_count») (createDone n (now (table .entry)) «block_count») (createGives a (p .«first_block») (now (table .exit)))) ⌝ }
+    ensures { λ p. ⌜ Located (p .answer) (p .entry) (p .rule) (λ a. First (createRows n (now (table .entry)) «block_count») (createDone n (now (table .entry)) «block_count») (createGives a (p .«first_block») (now (table .exit)))) ⌝ }
 {
     let r = fat_inner::step::create_sound(table, n, block_count);
     let answer = r.answer;
+    let found = order::broken_at(answer);
     Created {
         answer: order::number(answer),
         first_block: r.first,
+        entry: found.entry,
+        rule: found.rule,
     }
 }
 
@@ -33,12 +36,15 @@ pub extern "C" fn mukthiban_tested_fat_resize(
     block_count: usize,
 ) -> Answered
     requires { ⌜ Volume n (now table) ⌝ }
-    ensures { λ p. ⌜ Exported (p .answer) (λ a. First (resizeRows n (now (table .entry)) «first_block» «block_count») (resizeDone n (now (table .entry)) «first_block» «block_count») (changeGives a (now (table .exit)))) ⌝ }
+    ensures { λ p. ⌜ Located (p .answer) (p .entry) (p .rule) (λ a. First (resizeRows n (now (table .entry)) «first_block» «block_count») (resizeDone n (now (table .entry)) «first_block» «block_count») (changeGives a (now (table .exit)))) ⌝ }
 {
     let r = fat_inner::step::resize_sound(table, n, first_block, block_count);
     let answer = r.answer;
+    let found = order::broken_at(answer);
     Answered {
         answer: order::number(answer),
+        entry: found.entry,
+        rule: found.rule,
     }
 }
 
@@ -49,12 +55,15 @@ pub extern "C" fn mukthiban_tested_fat_delete(
     first_block: usize,
 ) -> Answered
     requires { ⌜ Volume n (now table) ⌝ }
-    ensures { λ p. ⌜ Exported (p .answer) (λ a. First (deleteRows n (now (table .entry)) «first_block») (deleteDone n (now (table .entry)) «first_block») (changeGives a (now (table .exit)))) ⌝ }
+    ensures { λ p. ⌜ Located (p .answer) (p .entry) (p .rule) (λ a. First (deleteRows n (now (table .entry)) «first_block») (deleteDone n (now (table .entry)) «first_block») (changeGives a (now (table .exit)))) ⌝ }
 {
     let r = fat_inner::step::delete_sound(table, n, first_block);
     let answer = r.answer;
+    let found = order::broken_at(answer);
     Answered {
         answer: order::number(answer),
+        entry: found.entry,
+        rule: found.rule,
     }
 }
 
@@ -66,13 +75,16 @@ pub extern "C" fn mukthiban_tested_fat_open_list(
     list: &mut [u32],
 ) -> Opened
     requires { ⌜ Volume n (now table) ⌝ }
-    ensures { λ p. ⌜ Exported (p .answer) (λ a. First (listRows n (now (table .entry)) «first_block» (now (list .entry))) (listDone n (now (table .entry)) «first_block» (now (list .entry))) (listGives a (p .count) (now (list .exit)))) ⌝ }
+    ensures { λ p. ⌜ Located (p .answer) (p .entry) (p .rule) (λ a. First (listRows n (now (table .entry)) «first_block» (now (list .entry))) (listDone n (now (table .entry)) «first_block» (now (list .entry))) (listGives a (p .count) (now (list .exit)))) ⌝ }
 {
     let r = fat_inner::list::open_list_sound(table, n, first_block, list);
     let answer = r.answer;
+    let found = order::broken_at(answer);
     Opened {
         answer: order::number(answer),
         count: r.count,
+        entry: found.entry,
+        rule: found.rule,
     }
 }
 
@@ -88,12 +100,15 @@ pub extern "C" fn mukthiban_tested_fat_read(
 ) -> Answered
     requires { ⌜ Volume n (now table) ⌝ }
     requires { ⌜ Data n (length (now «data»)) «block_len» ⌝ }
-    ensures { λ p. ⌜ Exported (p .answer) (λ a. First (carryRows n (now (table .entry)) «block_len» «first_block» pos (length (now (buf .entry))) (now (buf .entry))) (readDone n (now (table .entry)) (now («data» .entry)) «block_len» «first_block» pos (now (buf .entry))) (carryGives a (now (buf .exit)))) ⌝ }
+    ensures { λ p. ⌜ Located (p .answer) (p .entry) (p .rule) (λ a. First (carryRows n (now (table .entry)) «block_len» «first_block» pos (length (now (buf .entry))) (now (buf .entry))) (readDone n (now (table .entry)) (now («data» .entry)) «block_len» «first_block» pos (now (buf .entry))) (carryGives a (now (buf .exit)))) ⌝ }
 {
     let r = fat_inner::copy::read_sound(table, data, block_len, n, first_block, pos, buf);
     let answer = r.answer;
+    let found = order::broken_at(answer);
     Answered {
         answer: order::number(answer),
+        entry: found.entry,
+        rule: found.rule,
     }
 }
 
@@ -109,11 +124,14 @@ pub extern "C" fn mukthiban_tested_fat_write(
 ) -> Answered
     requires { ⌜ Volume n (now table) ⌝ }
     requires { ⌜ Data n (length (now «data»)) «block_len» ⌝ }
-    ensures { λ p. ⌜ Exported (p .answer) (λ a. First (carryRows n (now (table .entry)) «block_len» «first_block» pos (length (now (buf .entry))) (now («data» .entry))) (writeDone n (now (table .entry)) (now («data» .entry)) «block_len» «first_block» pos (now (buf .entry))) (carryGives a (now («data» .exit)))) ⌝ }
+    ensures { λ p. ⌜ Located (p .answer) (p .entry) (p .rule) (λ a. First (carryRows n (now (table .entry)) «block_len» «first_block» pos (length (now (buf .entry))) (now («data» .entry))) (writeDone n (now (table .entry)) (now («data» .entry)) «block_len» «first_block» pos (now (buf .entry))) (carryGives a (now («data» .exit)))) ⌝ }
 {
     let r = fat_inner::copy::write_sound(table, data, block_len, n, first_block, pos, buf);
     let answer = r.answer;
+    let found = order::broken_at(answer);
     Answered {
         answer: order::number(answer),
+        entry: found.entry,
+        rule: found.rule,
     }
 }

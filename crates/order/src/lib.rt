@@ -1,14 +1,20 @@
 // The answers that a call can give, by the names of RULES 2.1, and the work list's clearing.
 ghost use mathlib.Core.Path.{_≡_};
 ghost use lib.ListN.{length, replicate};
-ghost use Rattle.order.specs.Answer.{numberOf};
+ghost use Rattle.order.specs.Answer.{numberOf, faultIn};
+
+// Where a block table is broken: an entry, and the rule of RULES 3.6 that it breaks, 1 to 7; 0 and 0 where it is not.
+pub struct Fault {
+    pub entry: usize,
+    pub rule: u32,
+}
 
 pub enum Answer {
     Done,
     SizeMismatch,
     InvalidValue,
     WorkTooShort,
-    BrokenFat,
+    BrokenFat(Fault),
     NotAFile,
     NoSpace,
     OutOfBound,
@@ -33,7 +39,7 @@ pub fn number(answer: Answer) -> u32
         Answer::SizeMismatch => 1,
         Answer::InvalidValue => 2,
         Answer::WorkTooShort => 3,
-        Answer::BrokenFat => 4,
+        Answer::BrokenFat(_) => 4,
         Answer::NotAFile => 5,
         Answer::NoSpace => 6,
         Answer::OutOfBound => 7,
@@ -48,6 +54,16 @@ pub fn number(answer: Answer) -> u32
         Answer::NotOpen => 16,
         Answer::TooManyOpens => 17,
     }
+}
+
+// Where the block table is broken, as BrokenFat says; 0 and 0 with every other answer.
+pub fn broken_at(answer: Answer) -> Fault
+    ensures { λ r. ⌜ r ≡ faultIn answer ⌝ }
+{
+    let Answer::BrokenFat(found) = answer else {
+        return Fault { entry: 0, rule: 0 };
+    };
+    found
 }
 
 // Sets every place of a work list, or of a part of one, to 0.

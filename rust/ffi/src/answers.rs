@@ -1,5 +1,6 @@
-//! The answers: the number first, then the call's own fields. A refusal has every field 0. The answers of block calls
-//! and of tree calls are separate types; `Plain` is that of both formats and of the tree.
+//! The answers: the number first, then the call's own fields, then entry and rule where a block table is judged. A
+//! refusal has every field 0, but for entry and rule with number 4. The answers of block calls and of tree calls are
+//! separate types; `Plain` is that of both formats, of read and write by a list, and of the tree.
 
 macro_rules! answers {
     ($($(#[$doc:meta])* $name:ident { $($field:ident: $type:ty),* })*) => {$(
@@ -13,16 +14,16 @@ macro_rules! answers {
 }
 
 answers! {
-    /// Format, and every tree call that gives nothing else.
+    /// Format, read and write by a list, and every tree call that gives nothing else.
     Plain { answer: u32 }
     /// A block call that gives nothing else.
-    Answered { answer: u32 }
+    Answered { answer: u32, entry: usize, rule: u32 }
     /// The block table's test.
-    Tested { answer: u32, free: usize, files: usize }
+    Tested { answer: u32, free: usize, files: usize, entry: usize, rule: u32 }
     /// Create.
-    Created { answer: u32, first_block: usize }
+    Created { answer: u32, first_block: usize, entry: usize, rule: u32 }
     /// Open list.
-    Opened { answer: u32, count: usize }
+    Opened { answer: u32, count: usize, entry: usize, rule: u32 }
     /// Listing.
     Listed { answer: u32, count: usize }
     /// Make.

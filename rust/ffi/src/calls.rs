@@ -26,10 +26,10 @@ calls! {
     ) -> Answered;
     fn mukthiban_fat_read_blocks(
         data: &[u8], block_len: usize, list: &[u32], pos: usize, buf: &mut [u8],
-    ) -> Answered;
+    ) -> Plain;
     fn mukthiban_fat_write_blocks(
         data: &mut [u8], block_len: usize, list: &[u32], pos: usize, buf: &[u8],
-    ) -> Answered;
+    ) -> Plain;
     fn mukthiban_tree_format(
         dir_hash: &mut [u8], dir_table: &mut [u8], dir_max: usize, file_hash: &mut [u8], file_table: &mut [u8],
         file_max: usize,

@@ -4,11 +4,10 @@ use Rattle.fat_ends.proofs.Ends.{Laid, laid-none, laid-more, tiled-as, 
 use Rattle.fat_ends.specs.inner.Ends.{Backs}
 use Rattle.fat_table.specs.Sound.{Counted, File}
 use Rattle.fat_node.specs.inner.Reads.{Reads}
-use Rattle.fat_node.specs.Node.{NodeAt}
 use lib.ListN.{length}
 use mathlib.Core.Path.{refl, subst}
 use native.Mathlib.Omega.{arith}
-use Prim.Native.Nat.{ℕ, _-_, _≤_}
+use Prim.Native.Nat.{_-_, _≤_}
 use Rattle.fat_ends.proofs.tile.Statement.{statement}
 use Rattle.fat_ends.proofs.tile.Tie as tie
 
@@ -39,8 +38,8 @@ returns c =
     let at-loop = c .before .before .before .before .loop in
     λ h.
     let x = h (at-loop .b) (at-loop .inv .0 .1 .0 .here, c .before .before .before .loop-test .taken) in
-    let k : (s : ℕ) → NodeAt (args .table .now) (length (args .work .now)) (at-loop .b) s → ⊥ = subst (Reads (args .table .now) (length (args .work .now)) (at-loop .b)) (c .enum-told .given .1) (c .before .before .get-node .ensures) in
-    k (x .0) (x .1)
+    let k = subst (Reads (args .table .now) (length (args .work .now)) (at-loop .b)) (c .enum-told .given .1) (c .before .before .get-node .ensures) in
+    k .none (x .0) (x .1)
 
 add-pack : tie.Need-add-pack Inv-loop μ-loop
 add-pack c = search needs

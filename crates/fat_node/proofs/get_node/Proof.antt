@@ -1,14 +1,9 @@
-use Rattle.fat_node.proofs.Cases.{end-after, node-prev, node-single, node-endless, node-several}
+-- `fat_node::get_node` meets its contract.
+use native.Mathlib.Omega.{arith}
+use Rattle.fat_node.proofs.Faults.{read-start, read-one, read-span, read-more, span-room, span-after}
 use borrow.Author.Needs.{needs}
 use Rattle.fat_node.proofs.get_node.Statement.{statement}
 use Rattle.fat_node.proofs.get_node.Tie as tie
-use Rattle.fat_node.proofs.get_node.Reads as reads
-use Rattle.fat_node.proofs.get_node.Lts as lts
-use Rattle.fat_node.proofs.end_of.Reads as end-of-reads
-use Rattle.fat_node.proofs.prev_fits.Reads as prev-fits-reads
-use Rattle.fat_node.proofs.u_of.Reads as u-of-reads
-use Rattle.fat_node.proofs.v_of.Reads as v-of-reads
-use Rattle.fat_node.proofs.wide.Reads as wide-reads
 
 add-u-of : tie.Need-add-u-of
 add-u-of c = search needs
@@ -22,11 +17,14 @@ add-v-of c = search needs
 v-of-requires : tie.Need-v-of-requires
 v-of-requires c κs = search needs
 
-prev-fits-requires : tie.Need-prev-fits-requires
-prev-fits-requires c κs = search needs
+bad-start-requires : tie.Need-bad-start-requires
+bad-start-requires c κs = search needs
+
+add-t12 : tie.Need-add-t12
+add-t12 c = search needs
 
 returns : tie.Need-returns
-returns c = search node-prev
+returns c = search read-start
 
 wide-requires : tie.Need-wide-requires
 wide-requires c κs = search needs
@@ -35,19 +33,28 @@ wide-requires-2 : tie.Need-wide-requires-2
 wide-requires-2 c κs = search needs
 
 returns-2 : tie.Need-returns-2
-returns-2 c = search node-single
+returns-2 c = search read-one
 
-end-of-requires : tie.Need-end-of-requires
-end-of-requires c κs = search needs
+span-fault-requires : tie.Need-span-fault-requires
+span-fault-requires c κs = search needs
 
 returns-3 : tie.Need-returns-3
-returns-3 c = search node-endless
+returns-3 c = search read-span
 
-sub-t9 : tie.Need-sub-t9
-sub-t9 c = search end-after
+add-v-of-2 : tie.Need-add-v-of-2
+add-v-of-2 c = search needs
+
+v-of-requires-2 : tie.Need-v-of-requires-2
+v-of-requires-2 c κs = omega (arith, span-room _ _ _ _ (c .before .before .span-fault .ensures) (c .if3 .left))
+
+wide-requires-3 : tie.Need-wide-requires-3
+wide-requires-3 c κs = search needs
+
+sub-t10 : tie.Need-sub-t10
+sub-t10 c = span-after _ _ _ _ (c .before .before .before .before .span-fault .ensures) (c .before .before .if3 .left) _ _ (c .before .v-of2 .ensures) (c .wide3 .ensures)
 
 returns-4 : tie.Need-returns-4
-returns-4 c = search node-several
+returns-4 c = search read-more
 
 pub get-node-spec : {M : Type 1} → statement M
 get-node-spec =
@@ -57,12 +64,16 @@ get-node-spec =
     u-of-requires
     add-v-of
     v-of-requires
-    prev-fits-requires
+    bad-start-requires
+    add-t12
     returns
     wide-requires
     wide-requires-2
     returns-2
-    end-of-requires
+    span-fault-requires
     returns-3
-    sub-t9
+    add-v-of-2
+    v-of-requires-2
+    wide-requires-3
+    sub-t10
     returns-4)

@@ -1,10 +1,7 @@
 -- `fat_test::gate` meets its contract.
-use Rattle.fat_test.proofs.Cases.{gate-misfit, gate-uneven, gate-outside, gate-block, gate-short, gate-broken, gate-open}
-use Rattle.fat_node.specs.Sizes.{blocks}
+use Rattle.fat_test.proofs.Cases.{gate-misfit, gate-uneven, gate-outside, gate-block, gate-short, gate-ruled}
 use Rattle.fat_node.proofs.Sizes.{denied, fit}
-use Rattle.fat_ends.specs.Promise.{Judged}
 use native.Mathlib.Omega.{arith}
-use mathlib.Core.Path.{subst}
 use borrow.Author.Needs.{needs}
 use Rattle.fat_test.proofs.gate.Statement.{statement}
 use Rattle.fat_test.proofs.gate.Tie as tie
@@ -61,42 +58,18 @@ returns-5 c =
 verdict-requires : tie.Need-verdict-requires
 verdict-requires c κs = (denied _ (c .before .before .before .before .before .before .before .before .before .misfit .ensures .1) (c .before .before .before .before .before .before .before .before .if1 .left), (denied _ (c .before .before .before .before .before .outside .ensures .1) (c .before .before .before .before .if3 .left), omega arith))
 
-enum-known-r : tie.Need-enum-known-r
-enum-known-r c = search needs
-
-enum-told : tie.Need-enum-told
-enum-told c = search needs
-
 same-length : tie.Need-same-length
 same-length c = search needs
 
 returns-6 : tie.Need-returns-6
 returns-6 c =
-    gate-broken (c .before .before .before .before .before .before .before .before .before .before .before .before .before .before .before .before .before .args .table .now) _ _ (c .before .before .before .before .before .before .before .before .before .before .before .before .before .before .before .before .before .args .work .now) (denied _ (c .before .before .before .before .before .before .before .before .before .before .before .before .before .before .misfit .ensures .1) (c .before .before .before .before .before .before .before .before .before .before .before .before .before .if1 .left)) (c .before .before .before .before .before .before .before .before .before .before .before .before .uneven .ensures .1 (c .before .before .before .before .before .before .before .before .before .before .before .if2 .left))
-    (denied _ (c .before .before .before .before .before .before .before .before .before .before .outside .ensures .1) (c .before .before .before .before .before .before .before .before .before .if3 .left)) (c .before .before .before .before .before .before .before .before .unfit .ensures .1 (c .before .before .before .before .before .before .before .if4 .left)) (λ s. omega (arith, c .before .before .before .before .before .before .if5 .left)) (c .before .before .before .before .verdict .ensures .1)
-    (subst (Judged (c .before .before .before .before .before .before .before .before .before .before .before .before .before .before .before .before .before .args .table .now) (blocks (c .before .before .before .before .before .before .before .before .before .before .before .before .before .before .before .before .before .args .table .now))) (c .enum-told .given .1) (c .before .before .before .before .verdict .ensures .0))
-
-cast-t12 : tie.Need-cast-t12
-cast-t12 c = search needs
-
-cast-t11 : tie.Need-cast-t11
-cast-t11 c = search needs
-
-same-length-2 : tie.Need-same-length-2
-same-length-2 c = search needs
-
-returns-7 : tie.Need-returns-7
-returns-7 c =
-    let v = subst (Judged (c .before .before .before .before .before .before .before .before .before .before .before .before .before .before .before .before .before .before .args .table .now) (blocks (c .before .before .before .before .before .before .before .before .before .before .before .before .before .before .before .before .before .before .args .table .now))) (c .before .r .given .1) (c .before .before .before .before .before .verdict .ensures .0) in
-    record {
-      none =
-          gate-open (c .before .before .before .before .before .before .before .before .before .before .before .before .before .before .before .before .before .before .args .table .now) _ _ (c .before .before .before .before .before .before .before .before .before .before .before .before .before .before .before .before .before .before .args .work .now) (denied _ (c .before .before .before .before .before .before .before .before .before .before .before .before .before .before .before .misfit .ensures .1) (c .before .before .before .before .before .before .before .before .before .before .before .before .before .before .if1 .left)) (c .before .before .before .before .before .before .before .before .before .before .before .before .before .uneven .ensures .1 (c .before .before .before .before .before .before .before .before .before .before .before .before .if2 .left))
-          (denied _ (c .before .before .before .before .before .before .before .before .before .before .before .outside .ensures .1) (c .before .before .before .before .before .before .before .before .before .before .if3 .left)) (c .before .before .before .before .before .before .before .before .before .unfit .ensures .1 (c .before .before .before .before .before .before .before .before .if4 .left)) (λ s. omega (arith, c .before .before .before .before .before .before .before .if5 .left)) (v .0);
-      sound = v .0;
-      clear = c .before .before .before .before .before .verdict .ensures .1;
-      count = v .1;
-      others = v .2;
-    }
+    let args = c .before .before .before .before .before .before .before .before .before .before .before .before .before .before .before .args in
+    let sized = denied _ (c .before .before .before .before .before .before .before .before .before .before .before .before .misfit .ensures .1) (c .before .before .before .before .before .before .before .before .before .before .before .if1 .left) in
+    let even = c .before .before .before .before .before .before .before .before .before .before .uneven .ensures .1 (c .before .before .before .before .before .before .before .before .before .if2 .left) in
+    let bound = denied _ (c .before .before .before .before .before .before .before .before .outside .ensures .1) (c .before .before .before .before .before .before .before .if3 .left) in
+    let fits = c .before .before .before .before .before .before .unfit .ensures .1 (c .before .before .before .before .before .if4 .left) in
+    let told = c .before .before .verdict in
+    gate-ruled (args .table .now) _ _ (args .work .now) sized even bound fits (λ s. omega (arith, c .before .before .before .before .if5 .left)) (told .ensures .1) (told .result) (told .ensures .0)
 
 pub gate-spec : {M : Type 1} → statement M
 gate-spec =
@@ -113,11 +86,5 @@ gate-spec =
     returns-4
     returns-5
     verdict-requires
-    enum-known-r
-    enum-told
     same-length
-    returns-6
-    cast-t12
-    cast-t11
-    same-length-2
-    returns-7)
+    returns-6)

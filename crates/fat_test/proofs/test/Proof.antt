@@ -1,10 +1,7 @@
 -- `fat_test::test` meets its contract.
 use Rattle.fat_test.proofs.Cases.{test-misfit, test-outside, test-short, test-broken, test-sound}
-use Rattle.fat_node.specs.Sizes.{blocks}
 use Rattle.fat_node.proofs.Sizes.{denied, fit}
-use Rattle.fat_ends.specs.Promise.{Judged}
 use native.Mathlib.Omega.{arith}
-use mathlib.Core.Path.{subst}
 use borrow.Author.Needs.{needs}
 use Rattle.fat_test.proofs.test.Statement.{statement}
 use Rattle.fat_test.proofs.test.Tie as tie
@@ -49,40 +46,36 @@ verdict-requires c κs = (denied _ (c .before .before .before .before .before .m
 enum-known-r : tie.Need-enum-known-r
 enum-known-r c = search needs
 
-enum-told : tie.Need-enum-told
-enum-told c = search needs
-
 refused-requires-4 : tie.Need-refused-requires-4
 refused-requires-4 c κs = search needs
+
+enum-known-r-2 : tie.Need-enum-known-r-2
+enum-known-r-2 c = search needs
+
+done-requires : tie.Need-done-requires
+done-requires c κs = search needs
 
 same-length : tie.Need-same-length
 same-length c = search needs
 
 returns-4 : tie.Need-returns-4
 returns-4 c =
-    test-broken (c .before .before .before .before .before .before .before .before .before .before .before .before .before .before .args .table .now) (c .before .before .before .before .before .before .before .before .before .before .before .before .before .before .args .work .now) (denied _ (c .before .before .before .before .before .before .before .before .before .before .before .misfit .ensures .1) (c .before .before .before .before .before .before .before .before .before .before .if1 .left)) (denied _ (c .before .before .before .before .before .before .before .before .before .outside .ensures .1) (c .before .before .before .before .before .before .before .before .if2 .left))
-    (λ s. omega (arith, c .before .before .before .before .before .before .before .if3 .left)) (c .before .before .before .before .before .verdict .ensures .1)
-    (subst (Judged (c .before .before .before .before .before .before .before .before .before .before .before .before .before .before .args .table .now) (blocks (c .before .before .before .before .before .before .before .before .before .before .before .before .before .before .args .table .now))) (c .before .enum-told .given .1) (c .before .before .before .before .before .verdict .ensures .0))
-    (c .refused4 .ensures)
-
-cast-done : tie.Need-cast-done
-cast-done c = search needs
-
-cast-done-2 : tie.Need-cast-done-2
-cast-done-2 c = search needs
-
-done-requires : tie.Need-done-requires
-done-requires c κs = search needs
+    let args = c .before .before .before .before .before .before .before .before .before .before .before .before .before .before .before .args in
+    let sized = denied _ (c .before .before .before .before .before .before .before .before .before .before .before .before .misfit .ensures .1) (c .before .before .before .before .before .before .before .before .before .before .before .if1 .left) in
+    let bound = denied _ (c .before .before .before .before .before .before .before .before .before .before .outside .ensures .1) (c .before .before .before .before .before .before .before .before .before .if2 .left) in
+    let told = c .before .before .before .before .before .before .verdict in
+    test-broken (args .table .now) (args .work .now) sized bound (λ s. omega (arith, c .before .before .before .before .before .before .before .before .if3 .left)) (told .ensures .1) (told .ensures .0) (c .before .before .r .given .1) (c .refused4 .ensures)
 
 same-length-2 : tie.Need-same-length-2
 same-length-2 c = search needs
 
 returns-5 : tie.Need-returns-5
 returns-5 c =
-    test-sound (c .before .before .before .before .before .before .before .before .before .before .before .before .before .before .before .args .table .now) (c .before .before .before .before .before .before .before .before .before .before .before .before .before .before .before .args .work .now) (denied _ (c .before .before .before .before .before .before .before .before .before .before .before .before .misfit .ensures .1) (c .before .before .before .before .before .before .before .before .before .before .before .if1 .left)) (denied _ (c .before .before .before .before .before .before .before .before .before .before .outside .ensures .1) (c .before .before .before .before .before .before .before .before .before .if2 .left))
-    (λ s. omega (arith, c .before .before .before .before .before .before .before .before .if3 .left)) (c .before .before .before .before .before .before .verdict .ensures .1)
-    (subst (Judged (c .before .before .before .before .before .before .before .before .before .before .before .before .before .before .before .args .table .now) (blocks (c .before .before .before .before .before .before .before .before .before .before .before .before .before .before .before .args .table .now))) (c .before .before .r .given .1) (c .before .before .before .before .before .before .verdict .ensures .0))
-    (c .done .ensures)
+    let args = c .before .before .before .before .before .before .before .before .before .before .before .before .before .before .before .args in
+    let sized = denied _ (c .before .before .before .before .before .before .before .before .before .before .before .before .misfit .ensures .1) (c .before .before .before .before .before .before .before .before .before .before .before .if1 .left) in
+    let bound = denied _ (c .before .before .before .before .before .before .before .before .before .before .outside .ensures .1) (c .before .before .before .before .before .before .before .before .before .if2 .left) in
+    let told = c .before .before .before .before .before .before .verdict in
+    test-sound (args .table .now) (args .work .now) sized bound (λ s. omega (arith, c .before .before .before .before .before .before .before .before .if3 .left)) (told .ensures .1) (told .ensures .0) (c .before .before .r2 .given .1) (c .done .ensures)
 
 pub test-spec : {M : Type 1} → statement M
 test-spec =
@@ -99,12 +92,10 @@ test-spec =
     returns-3
     verdict-requires
     enum-known-r
-    enum-told
     refused-requires-4
+    enum-known-r-2
+    done-requires
     same-length
     returns-4
-    cast-done
-    cast-done-2
-    done-requires
     same-length-2
     returns-5)

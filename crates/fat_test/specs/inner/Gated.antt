@@ -4,13 +4,20 @@ use mathlib.Core.List.{List}
 use Prim.Native.Nat.{ℕ}
 use Rattle.order.specs.Gate.{cleared, refusal}
 use Rattle.order.specs.Given.{Given, None}
+use Rattle.order.specs.declared.Answer.the-variants.{BrokenFat}
 use Rattle.fat_node.specs.Entry.{Bytes}
 use Rattle.fat_node.specs.Sizes.{blocks}
 use Rattle.fat_table.specs.Sound.{Sound}
 use Rattle.fat_table.specs.Counts.{freeBlocks, otherChains}
+use Rattle.fat_fault.specs.Fault.{faultOf}
 use Rattle.fat_test.specs.Gate.{blockGate}
 use Rattle.fat_test.specs.declared.Gated.{Gated}
 use Rattle.fat_test.specs.declared.Gated.the-variants.{Open, Refused}
+
+-- what is told of a table of n blocks: it is sound, with its counts, or the row of soundness refuses it
+abbrev pub Ruled : (t : Bytes) (n : ℕ) → Gated → Type 0
+Ruled t n (Open free files) = Sound t n × (free ≡ freeBlocks n t) × (files ≡ otherChains n t)
+Ruled t n (Refused answer) = (Sound t n → ⊥) × (answer ≡ BrokenFat (faultOf n t))
 
 -- the gate of a call with data of length d and block length l is open: no row applies, the table is sound, the work list is cleared, and the counts are the table's
 pub record Opened (t : Bytes) (d l : ℕ) (work work′ : List ℕ) (free files : ℕ) : Type 0 where
