@@ -9,6 +9,14 @@ use std::time::Duration;
 static CALLS: AtomicU64 = AtomicU64::new(0);
 static INNER_CALLS: AtomicU64 = AtomicU64::new(0);
 
+/// How often each rule of a broken block table was answered, by its number.
+static BROKEN: [AtomicU64; 8] = [const { AtomicU64::new(0) }; 8];
+
+/// How often each of the rules 1 to 7 was what a broken table broke.
+pub fn broken() -> Vec<u64> {
+    BROKEN[1..].iter().map(|rule| rule.load(Ordering::Relaxed)).collect()
+}
+
 /// How many calls were compared so far, and for how many of them the inner call too.
 pub fn made() -> (u64, u64) {
     (CALLS.load(Ordering::Relaxed), INNER_CALLS.load(Ordering::Relaxed))
@@ -36,6 +44,7 @@ pub fn block_call(call: &BlockCall, lent: &mut Blocks) -> Answered {
     let mut copy = lent.clone();
     let stated = Stated.block_call(call, lent);
     CALLS.fetch_add(1, Ordering::Relaxed);
+    BROKEN[stated.fault.1 as usize].fetch_add(1, Ordering::Relaxed);
     let answered = Library.block_call(call, &mut copy);
     let same = answered == stated && copy == *lent;
     assert!(

@@ -86,7 +86,7 @@ fn relinked(chance: &mut Chance, lent: &mut Blocks) {
     let Some(held) = layout(&lent.table) else { return };
     let mut runs: Vec<Run> = held.free.clone();
     runs.extend(held.files.iter().flatten());
-    match chance.below(3) {
+    match chance.below(4) {
         // A ring whose links all agree, of some of the nodes.
         0 => {
             chance.shuffle(&mut runs);
@@ -106,6 +106,16 @@ fn relinked(chance: &mut Chance, lent: &mut Blocks) {
             let flag = 0x8000_0000;
             put_word(&mut lent.table, at, (x & flag) | (y & !flag));
             put_word(&mut lent.table, bt, (y & flag) | (x & !flag));
+        }
+        // Every node names any other as its next, and as its previous that one which named it last: rings, and tails into them.
+        2 => {
+            let next: Vec<usize> = runs.iter().map(|_| chance.below(runs.len())).collect();
+            for (i, run) in runs.iter().enumerate() {
+                let prev = next.iter().rposition(|j| *j == i).map(|j| runs[j].start);
+                let named = (!chance.one_in(4)).then(|| runs[next[i]].start);
+                set_node(&mut lent.table, *run, prev, named);
+            }
+            put_word(&mut lent.table, 4, 0);
         }
         // A node over other nodes' blocks.
         _ => {

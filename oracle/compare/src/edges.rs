@@ -117,6 +117,26 @@ fn large_blocks(chance: &mut Chance) {
     block_call(&BlockCall::Test, &mut lent);
 }
 
+/// The largest tables of single blocks, linked so that a search for rings that is not linear would not come back: one ring, a tail of all into a ring of
+/// two, all that name block 0, and any order.
+fn large_rings(chance: &mut Chance) {
+    let n = 1_000_000;
+    let mut any: Vec<usize> = (0..n).collect();
+    chance.shuffle(&mut any);
+    let shapes: [&dyn Fn(usize) -> usize; 4] =
+        [&|b| (b + 1) % n, &|b| if b == n - 1 { n - 2 } else { b + 1 }, &|_| 0, &|b| any[b]];
+    for next in shapes {
+        let mut lent = Blocks { table: vec![0; 8 * (n + 1)], work: vec![3; n], ..Blocks::default() };
+        let mut prev = vec![None; n];
+        (0..n).for_each(|b| prev[next(b)] = Some(b));
+        for b in 0..n {
+            rules::blocks::set_node(&mut lent.table, rules::blocks::Run { start: b, size: 1 }, prev[b], Some(next(b)));
+        }
+        let answered = block_call_on_data(&BlockCall::Test, &mut lent);
+        assert_eq!((answered.number, answered.fault.1), (4, 7));
+    }
+}
+
 /// One block of every length at an edge, with a file in it: read to its end, and a byte more. Where the length is in use the file is created and written.
 fn long_blocks() {
     for block_len in [511, 512, 513, 4_095, 4_096, 4_097, 65_535, 65_536, 65_537] {
@@ -253,6 +273,7 @@ fn large_trees() {
 
 pub fn run(chance: &mut Chance, times: usize) {
     large_blocks(chance);
+    large_rings(chance);
     long_blocks();
     large_trees();
     tree_maxima(chance);

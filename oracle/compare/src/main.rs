@@ -66,5 +66,8 @@ fn main() {
     println!("lengths and numbers at their edges, {} times", run.edges);
     let (calls, inner) = check::made();
     println!("{calls} calls judged by the rules and by the library, {inner} of them by its inner call too");
+    let broken = check::broken();
+    println!("rules 1 to 7 of broken block tables: {broken:?} times");
+    assert!(broken.iter().all(|times| *times > 0), "a rule was never met");
     println!("no difference, {} s", start.elapsed().as_secs());
 }

@@ -76,6 +76,8 @@ pub struct Answered {
     pub number: u32,
     pub fields: [u64; 4],
     pub bytes: [u8; 20],
+    /// Of a block call: the entry and the rule of a broken block table (RULES 3.6), 0 and 0 with any other number.
+    pub fault: (usize, u32),
 }
 
 impl Answered {
@@ -86,6 +88,9 @@ impl Answered {
         let mut answered = Answered::number(number);
         answered.fields[..given.len()].copy_from_slice(given);
         answered
+    }
+    pub fn at(self, entry: usize, rule: u32) -> Answered {
+        Answered { fault: (entry, rule), ..self }
     }
     pub fn carrying(number: u32, given: &[u8]) -> Answered {
         let mut answered = Answered::number(number);

@@ -9,19 +9,19 @@ pub(crate) fn plain(p: Plain) -> Answered {
     Answered::number(p.answer)
 }
 pub(crate) fn answered(a: mukthiban_ffi::Answered) -> Answered {
-    Answered::number(a.answer)
+    Answered::number(a.answer).at(a.entry, a.rule)
 }
 pub(crate) fn tested(t: Tested) -> Answered {
-    Answered::with(t.answer, &[t.free as u64, t.files as u64])
+    Answered::with(t.answer, &[t.free as u64, t.files as u64]).at(t.entry, t.rule)
 }
 pub(crate) fn opened(o: Opened) -> Answered {
-    Answered::with(o.answer, &[o.count as u64])
+    Answered::with(o.answer, &[o.count as u64]).at(o.entry, o.rule)
 }
 pub(crate) fn listed(l: Listed) -> Answered {
     Answered::with(l.answer, &[l.count as u64])
 }
 pub(crate) fn created(c: Created) -> Answered {
-    Answered::with(c.answer, &[c.first_block as u64])
+    Answered::with(c.answer, &[c.first_block as u64]).at(c.entry, c.rule)
 }
 pub(crate) fn made(m: Made) -> Answered {
     Answered::with(m.answer, &[m.inode.into()])

@@ -2,6 +2,7 @@
 
 use crate::{Answered, BlockCall, Blocks, Kind, Port, Tree, TreeCall};
 use rules::answer::{number, Outcome};
+use rules::fault::fault;
 use rules::tree::{Four, FourMut};
 use rules::{blocks, tree};
 
@@ -140,8 +141,12 @@ fn done(call: &TreeCall, lent: &mut Tree) -> Answered {
 }
 
 impl Port for Stated {
+    /// With 4 the answer says where the table is broken; a table that is accepted is broken nowhere.
     fn block_call(&self, call: &BlockCall, lent: &mut Blocks) -> Answered {
-        block_call(call, lent)
+        let answered = block_call(call, lent);
+        let found = matches!(answered.number, 0 | 4).then(|| fault(&lent.table)).flatten();
+        assert_eq!(answered.number == 4, found.is_some(), "the rules refuse what no rule breaks: {call:?}");
+        found.map_or(answered, |f| answered.at(f.entry, f.rule))
     }
     fn tree_call(&self, call: &TreeCall, lent: &mut Tree) -> Answered {
         asked(call, lent).unwrap_or_else(|| done(call, lent))

@@ -8,6 +8,7 @@ pub mod answer;
 pub mod blocks;
 pub mod by_list;
 pub mod entries;
+pub mod fault;
 pub mod layout;
 pub mod sound;
 pub mod tree;

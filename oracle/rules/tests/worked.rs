@@ -102,6 +102,40 @@ fn a_ring_is_not_sound() {
     assert_eq!(blocks::test(&v.table, &mut v.work), Err(BrokenFat));
 }
 
+/// The rules one by one, on the volume of 4 blocks with a file of 1 block at 0 and the other three free.
+#[test]
+fn where_it_is_broken() {
+    let broken = |changes: &[(usize, u32, u32)]| {
+        let mut v = Volume::formatted(4);
+        v.create(1).unwrap();
+        for (e, a, b) in changes {
+            rules::put_word(&mut v.table, e * 8, *a);
+            rules::put_word(&mut v.table, e * 8 + 4, *b);
+        }
+        rules::fault::fault(&v.table).map_or((0, 0), |f| (f.entry, f.rule))
+    };
+    assert_eq!(broken(&[]), (0, 0));
+    assert_eq!(broken(&[(1, 0, 0)]), (1, 1));
+    assert_eq!(broken(&[(1, F + 1, 0)]), (1, 1));
+    assert_eq!(broken(&[(2, F, 0), (3, F, 0), (4, F, F)]), (4, 2));
+    assert_eq!(broken(&[(3, 2, 4)]), (3, 3));
+    assert_eq!(broken(&[(3, F + 2, F + 4)]), (3, 3));
+    assert_eq!(broken(&[(3, F + 2, 2)]), (3, 3));
+    assert_eq!(broken(&[(3, F + 1, 5)]), (3, 3), "the form comes before the end");
+    assert_eq!(broken(&[(3, F + 2, 5)]), (3, 4));
+    assert_eq!(broken(&[(4, F + 2, 3)]), (4, 5));
+    assert_eq!(broken(&[(3, F + 2, 3)]), (4, 1), "a node of 2, and no node behind it");
+    assert_eq!(broken(&[(0, 1, 2)]), (0, 6));
+    assert_eq!(broken(&[(0, 0, F + 2)]), (0, 6));
+    assert_eq!(broken(&[(0, 0, 3)]), (0, 6), "no node starts there");
+    assert_eq!(broken(&[(0, 1, 2), (4, 0, 0)]), (4, 5), "the walk comes before the head");
+    assert_eq!(broken(&[(1, F, 2)]), (1, 7), "block 1 does not name block 0 back");
+    assert_eq!(broken(&[(1, F, 9)]), (1, 7));
+    assert_eq!(broken(&[(1, 1, 1), (0, 0, 2)]), (1, 7), "a ring of one");
+    assert_eq!(broken(&[(1, 2, 2), (2, 1, F + 1), (0, 0, 0)]), (1, 7), "a ring of two whose links all agree");
+    assert_eq!(broken(&[(2, F, F + 1), (0, 0, 2)]), (2, 7), "the node that names, not the one that is named");
+}
+
 fn name_a() -> [u8; 16] {
     let mut name = [0; 16];
     name[0] = 0x61;
