@@ -40,6 +40,31 @@ pub struct Tested {
     pub files: usize,
 }
 
+/// Where a block table is broken: an entry of it, and the first rule that does not hold (RULES 3.6). Entry 0 is the head,
+/// entry b + 1 belongs to block b.
+#[derive(Clone, Copy, Debug, PartialEq, Eq)]
+pub struct Fault {
+    /// The entry that is blamed.
+    pub entry: usize,
+    /// The rule, 1 to 7.
+    pub rule: u32,
+}
+
+impl Fault {
+    /// What the rule says, as the fault of the entry.
+    pub fn meaning(self) -> &'static str {
+        match self.rule {
+            1 => "a node's first entry has an index and the mark of none before it, or neither",
+            2 => "a node of several blocks begins at the last block",
+            3 => "a node's second entry does not have its form",
+            4 => "a node's second entry puts its end past the last block",
+            5 => "a node's last entry does not hold what its second holds",
+            6 => "the head does not have its form, or names no chain's first node",
+            _ => "a link of the node is not named back, or the node lies in a ring",
+        }
+    }
+}
+
 /// Makes one free node of all blocks.
 ///
 /// ```
@@ -58,6 +83,25 @@ pub fn test(table: &[u8], work: &mut [u32]) -> Result<Tested, Refusal> {
     let r = unsafe { ffi::mukthiban_fat_test(table.as_ptr(), table.len(), work.as_mut_ptr(), work.len()) };
     judge(r.answer)?;
     Ok(Tested { free: r.free, files: r.files })
+}
+
+/// Says where a table is broken, or nothing of one that is sound. Refused for its sizes and its work list alone.
+///
+/// ```
+/// use mukthiban::fat::{self, Fault};
+/// let (mut table, mut work) = ([0u8; 8 * 5], [0u32; 4]);
+/// fat::format(&mut table)?;
+/// assert_eq!(fat::fault(&table, &mut work), Ok(None));
+/// table[8 * 4 + 4] = 3; // the node's last entry says another end than its second
+/// assert_eq!(fat::fault(&table, &mut work), Ok(Some(Fault { entry: 4, rule: 5 })));
+/// # Ok::<(), mukthiban::Refusal>(())
+/// ```
+pub fn fault(table: &[u8], work: &mut [u32]) -> Result<Option<Fault>, Refusal> {
+    let r = unsafe { ffi::mukthiban_fat_test(table.as_ptr(), table.len(), work.as_mut_ptr(), work.len()) };
+    match judge(r.answer) {
+        Err(Refusal::BrokenFat) => Ok(Some(Fault { entry: r.entry, rule: r.rule })),
+        other => other.map(|()| None),
+    }
 }
 
 /// Writes the file's blocks to `list`, in chain order, and answers how many they are.

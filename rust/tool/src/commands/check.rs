@@ -15,8 +15,10 @@ pub const COMMAND: Command = Command {
     options: &[STRICT],
     short: "say whether a volume is sound, and count what is on it",
     long: "The first line is the verdict. Then comes what is wrong, what is only remarkable, and the counts; or why\n\
-           the tables are refused, by the refusal's name, number and meaning, what points to the fault, and which files\n\
-           it touches. Nothing is changed, and nothing is said of the bytes in data.bin, which no table guards.",
+           the tables are refused, by the refusal's name, number and meaning; of a block table the rule that is broken,\n\
+           the entry where, its eight bytes, and the file it belongs to if one can be said; what else points to faults;\n\
+           and which files they touch. Nothing is changed, and nothing is said of the bytes in data.bin, which no\n\
+           table guards.",
     run,
 };
 

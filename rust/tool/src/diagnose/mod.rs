@@ -1,16 +1,26 @@
 //! What can be said of a volume that is refused. These are hints, read leniently from tables that can't be trusted;
-//! the verdict is the library's.
+//! the verdict is the library's, and so is the place where a block table is broken.
 
 mod blocks;
 mod entries;
 mod sizes;
 
+use mukthiban::fat::Fault;
 use mukthiban::folder::Sizes;
 use mukthiban::{fat, tree, Parts, Refusal};
 
-/// What points to the fault, each in a line; the paths of the files that it touches; and what the tests answer.
+/// Where the library finds a block table broken: the entry's bytes, and the file that it belongs to if one can be said.
+pub struct Found {
+    pub fault: Fault,
+    pub bytes: [u8; 8],
+    pub path: Option<String>,
+}
+
+/// The library's finding; what else points to faults, each in a line; the paths of the files that they touch; and what
+/// the tests answer.
 #[derive(Default)]
 pub struct Hints {
+    pub found: Option<Found>,
     pub lines: Vec<String>,
     pub touched: Vec<String>,
     pub answers: Answers,
@@ -34,11 +44,12 @@ pub fn hints(refusal: Refusal, sizes: &Sizes, parts: Option<&Parts>) -> Hints {
         return Hints { lines: sizes::lines(sizes), ..Hints::default() };
     };
     let places = parts.dir_table.len() / tree::DIR_WIDTH + parts.file_table.len() / tree::FILE_WIDTH;
-    let fat = fat::test(&parts.fat, &mut vec![0; parts.blocks()]).map(|_| ());
+    let found = fat::fault(&parts.fat, &mut vec![0; parts.blocks()]);
+    let fat = found.and_then(|found| found.map_or(Ok(()), |_| Err(Refusal::BrokenFat)));
     let tree = tree::test(parts.tables(), &mut vec![0; places]);
     let mut hints = Hints::default();
-    if fat == Err(Refusal::BrokenFat) {
-        blocks::look(parts, tree.is_ok(), &mut hints);
+    if let Ok(Some(found)) = found {
+        blocks::look(parts, tree.is_ok(), found, &mut hints);
     }
     if tree == Err(Refusal::BrokenTree) {
         entries::look(parts, &mut hints);

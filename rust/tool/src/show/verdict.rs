@@ -1,7 +1,7 @@
 //! The verdict on a volume.
 
 use crate::args::Call;
-use crate::diagnose::{self, Hints};
+use crate::diagnose::{self, Found, Hints};
 use crate::fail::{Outcome, NOT_SOUND, SOUND};
 use crate::records::{Remark, Remarkable};
 use crate::session::Session;
@@ -148,6 +148,7 @@ fn tested_json(path: &Path, session: &Session) -> String {
             ("remarks", json::list(account.remarks.iter().map(remark_json))),
             ("hints", json::list([])),
             ("touched", json::list([])),
+            ("fault", "null".into()),
         ],
     )
 }
@@ -166,6 +167,12 @@ pub fn refused(call: &Call, path: &Path, refusal: Refusal, sizes: &Sizes, hints:
 
 fn refused_text(call: &Call, refusal: Refusal, hints: &Hints) -> String {
     let mut out = format!("  {refusal}\n");
+    if let Some(found) = &hints.found {
+        let (fault, bytes) = (found.fault, found.bytes.map(|b| format!("{b:02x}")).join(" "));
+        let file = found.path.as_ref().map_or(String::new(), |path| format!(", of {path}"));
+        out += &format!("  rule {} is broken at entry {}: {}\n", fault.rule, fault.entry, fault.meaning());
+        out += &format!("  entry {} holds {bytes}{file}\n", fault.entry);
+    }
     out += &lines(call, '-', hints.lines.iter().map(String::as_str));
     if !hints.touched.is_empty() {
         out += "  these files are touched:\n";
@@ -179,6 +186,16 @@ fn refused_text(call: &Call, refusal: Refusal, hints: &Hints) -> String {
         out += &format!("  block table   {}\n  entry tables  {}\n", says(fat), says(tree));
     }
     out
+}
+
+fn fault_json(found: &Found) -> String {
+    json::object(&[
+        ("entry", found.fault.entry.to_string()),
+        ("rule", found.fault.rule.to_string()),
+        ("meaning", json::text(found.fault.meaning())),
+        ("bytes", json::text(&found.bytes.map(|b| format!("{b:02x}")).concat())),
+        ("path", found.path.as_ref().map_or("null".into(), |path| json::text(path))),
+    ])
 }
 
 fn refused_json(path: &Path, refusal: Refusal, sizes: &Sizes, hints: &Hints) -> String {
@@ -204,6 +221,7 @@ fn refused_json(path: &Path, refusal: Refusal, sizes: &Sizes, hints: &Hints) -> 
             ("remarks", json::list([])),
             ("hints", texts(&hints.lines)),
             ("touched", texts(&hints.touched)),
+            ("fault", hints.found.as_ref().map_or("null".into(), fault_json)),
         ],
     )
 }

@@ -67,9 +67,10 @@ fn every_fault_of_a_block_table_is_said() {
     let lines = said(&b);
     assert!(lines[1].starts_with("BrokenFat (4)"), "{lines:?}");
     for line in [
-        "- entry 0: the head does not have its form",
-        "- entry 2: does not say where the node before it ends",
-        "- entry 6: does not say where the node before it ends",
+        "rule 3 is broken at entry 2: a node's second entry does not have its form",
+        "entry 2 holds 09 09 09 09 02 00 00 00, of /one",
+        "- entry 0: the head does not have its form, or names no chain's first node",
+        "- entry 6: a node's second entry does not have its form",
         "these files are touched:",
         "> /one",
         "> /three",
@@ -84,7 +85,31 @@ fn every_fault_of_a_block_table_is_said() {
         &json::Value::List(vec![json::Value::Text("/one".into()), json::Value::Text("/three".into())])
     );
     let json::Value::List(hints) = value.get("hints") else { panic!("a list") };
-    assert_eq!(hints.len(), 3);
+    assert_eq!(hints.len(), 2);
+    let text = |key: &str| match value.get("fault").get(key) {
+        json::Value::Text(text) => text.clone(),
+        other => panic!("{other:?}"),
+    };
+    assert_eq!(value.get("fault").get("entry"), &json::Value::Number(2.0));
+    assert_eq!(value.get("fault").get("rule"), &json::Value::Number(3.0));
+    assert_eq!((text("bytes"), text("path")), ("0909090902000000".into(), "/one".into()));
+}
+
+/// Each rule by name, with its entry, that entry's bytes, and the file where one can be said.
+#[test]
+fn the_rule_the_entry_and_its_bytes() {
+    let says = |at: usize, bytes: &[u8], rule: &str, held: &str| {
+        let b = two_files();
+        b.poke("v/fat.bin", at, bytes);
+        let lines = said(&b);
+        assert!(lines[2].starts_with(rule), "{rule}: {lines:#?}");
+        assert_eq!(lines[3], held);
+    };
+    says(8, &[0; 4], "rule 1 is broken at entry 1: ", "entry 1 holds 00 00 00 00 00 00 00 80, of /one");
+    says(2 * 8 + 4, &[1], "rule 3 is broken at entry 2: ", "entry 2 holds 01 00 00 80 01 00 00 00, of /one");
+    says(2 * 8 + 5, &[9], "rule 4 is broken at entry 2: ", "entry 2 holds 01 00 00 80 02 09 00 00, of /one");
+    says(0, &[1], "rule 6 is broken at entry 0: ", "entry 0 holds 01 00 00 00 05 00 00 00");
+    says(3 * 8 + 4, &[9], "rule 7 is broken at entry 3: ", "entry 3 holds 00 00 00 80 09 00 00 80, of /two");
 }
 
 #[test]
@@ -94,6 +119,8 @@ fn rings_and_loose_blocks() {
     b.poke("v/fat.bin", 3 * 8, &[3, 0, 0, 0, 3, 0, 0, 0x80]);
     let lines = said(&b);
     assert!(lines.contains(&"- a ring of 2 blocks goes through block 2".into()), "{lines:#?}");
+    assert!(lines[2].starts_with("rule 7 is broken at entry 3: "), "{lines:#?}");
+    assert_eq!(lines[3], "entry 3 holds 03 00 00 00 03 00 00 80, of /two");
     assert!(lines.contains(&"> /two".into()), "{lines:#?}");
     // It names the first file's node before it, which does not name it back.
     b.poke("v/fat.bin", 3 * 8, &[1, 0, 0, 0, 0, 0, 0, 0x80]);
@@ -107,6 +134,6 @@ fn both_tables_are_explained_where_both_are_broken() {
     b.poke("v/fat.bin", 2 * 8, &[9, 9, 9, 9]);
     b.poke("v/file_table.bin", 0, &[99]);
     let lines = said(&b);
-    assert!(lines.contains(&"- entry 2: does not say where the node before it ends".into()), "{lines:#?}");
+    assert!(lines[2].starts_with("rule 3 is broken at entry 2: "), "{lines:#?}");
     assert!(lines.contains(&"- file_table.bin: its count is 99, not from 1 to its maximum 7".into()), "{lines:#?}");
 }
