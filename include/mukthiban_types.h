@@ -61,7 +61,7 @@ enum {
     MUKTHIBAN_SECOND_FORM = 3,    /* its second entry has not its form */
     MUKTHIBAN_END_OVER = 4,       /* its second entry: the end is past the table's */
     MUKTHIBAN_END_DIFFERS = 5,    /* its last entry does not hold what the second holds */
-    MUKTHIBAN_HEAD = 6,           /* entry 0: its form, or it names no node, or one with a previous */
+    MUKTHIBAN_HEAD = 6,           /* entry 0: its form, or it names what is no chain's first node */
     MUKTHIBAN_LINKS = 7           /* the first entry of the lowest node that a link of it does not name back, or in a ring */
 };
 

@@ -59,7 +59,7 @@ impl Fault {
             3 => "a node's second entry does not have its form",
             4 => "a node's second entry puts its end past the last block",
             5 => "a node's last entry does not hold what its second holds",
-            6 => "the head does not have its form, or names no chain's first node",
+            6 => "the head does not have its form, or names what is no chain's first node",
             _ => "a link of the node is not named back, or the node lies in a ring",
         }
     }

@@ -69,7 +69,7 @@ fn every_fault_of_a_block_table_is_said() {
     for line in [
         "rule 3 is broken at entry 2: a node's second entry does not have its form",
         "entry 2 holds 09 09 09 09 02 00 00 00, of /one",
-        "- entry 0: the head does not have its form, or names no chain's first node",
+        "- entry 0: the head does not have its form, or names what is no chain's first node",
         "- entry 6: a node's second entry does not have its form",
         "these files are touched:",
         "> /one",
