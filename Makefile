@@ -3,7 +3,7 @@
 test:
 	tools/gate
 
-# Four crates alone, up to format of the block table, the first public call: layout, proofs and must-fail edits. A first look, in about a minute.
+# Four crates alone, up to format of the block table, the first public call: layout, proofs and must-fail edits. A first look, in about two minutes.
 .PHONY: house
 house:
 	rt fmt --check
