@@ -5,19 +5,24 @@
 use order::Answer;
 ghost use Prim.Native.Nat.{_≤_};
 
-// What a call answers: the number of RULES 2.1, and the other fields.
+// What a call answers: the number of RULES 2.1, the other fields, and with BrokenFat the entry and the rule.
 pub struct Said {
     pub number: u32,
     pub one: u64,
     pub two: u64,
+    pub entry: u64,
+    pub rule: u32,
 }
 
 fn says(answer: Answer, one: usize, two: usize) -> Said {
     let number = order::number(answer);
+    let found = order::broken_at(answer);
     Said {
         number,
         one: one as u64,
         two: two as u64,
+        entry: found.entry as u64,
+        rule: found.rule,
     }
 }
 

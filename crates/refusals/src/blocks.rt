@@ -87,7 +87,14 @@ fn ask(
     )
 }
 
-// The fields of an answer: two of test, with its work list, and one of open list and create.
+// Where the block table is broken, as BrokenFat says.
+fn broken_at(said: Said) {
+    if said.number == 4 {
+        tell::place(said.entry, said.rule);
+    }
+}
+
+// The fields of an answer: two of test, with its work list, and one of open list and create; of BrokenFat also where the table is broken.
 fn fields(which: u32, said: Said, volume: Volume, work: &[u32]) {
     match which {
         1 => {
@@ -97,6 +104,7 @@ fn fields(which: u32, said: Said, volume: Volume, work: &[u32]) {
         2..=3 => tell::fields(1, said.one, 0),
         _ => {}
     }
+    broken_at(said);
     tell::end();
 }
 

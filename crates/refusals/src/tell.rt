@@ -56,6 +56,14 @@ pub fn fields(count: u32, one: u64, two: u64) {
     }
 }
 
+// An entry of a block table, and the rule that it breaks.
+pub fn place(entry: u64, rule: u32) {
+    spell(b"entry");
+    number(entry);
+    spell(b"rule");
+    number(rule as u64);
+}
+
 // The first places of a work list.
 pub fn places(work: &[u32], count: usize) {
     let mut i: usize = 0;

@@ -5,7 +5,7 @@ use ask_blocks::Said;
 ghost use mathlib.Core.Path.{_≡_};
 ghost use lib.ListN.{length};
 
-// Whether the stored answer is that one; no call names an entry and a rule yet.
+// Whether the stored answer is that one, with the entry and the rule that a broken table names.
 fn answers(kept: &[u8], said: Said) -> bool
     requires { ⌜ length (now kept) ≡ 408 ⌝ }
 {
@@ -15,7 +15,13 @@ fn answers(kept: &[u8], said: Said) -> bool
     if read::number(kept, 56) != said.one {
         return false;
     }
-    read::number(kept, 64) == said.two
+    if read::number(kept, 64) != said.two {
+        return false;
+    }
+    if read::number(kept, 72) != said.entry {
+        return false;
+    }
+    words::get_u32(kept, 80) == said.rule
 }
 
 // How much of each buffer the call is lent.

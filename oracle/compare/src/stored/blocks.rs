@@ -101,8 +101,10 @@ pub fn block_bytes(record: &BlockRecord) -> Vec<u8> {
     w.word(record.answered.number);
     w.number(record.answered.fields[0]);
     w.number(record.answered.fields[1]);
-    // Entry, rule and a spare word.
-    w.area(&[], 16);
+    let (entry, rule) = record.answered.fault;
+    w.number(entry as u64);
+    w.word(rule);
+    w.word(0);
     for lent in [before, after] {
         w.area(&lent.table, TABLE);
         w.words(&lent.work, WORK);
@@ -125,7 +127,8 @@ pub fn block_record(r: &mut Reader) -> BlockRecord {
     let [table, data, buf, work, list] = std::array::from_fn(|_| r.word() as usize);
     let mut answered = Answered::number(r.word());
     (answered.fields[0], answered.fields[1]) = (r.number(), r.number());
-    r.take(16);
+    answered.fault = (r.number() as usize, r.word());
+    assert_eq!(r.word(), 0);
     let [mut before, mut after] = std::array::from_fn(|_| Blocks {
         block_len,
         table: r.area(TABLE, table),
