@@ -1,0 +1,11 @@
+pub mod Stretches
+pub mod Merges
+pub mod Sweeps
+pub mod Loops
+pub mod Marked
+pub mod Merging
+pub mod Promised
+pub mod Means
+pub mod Fewest
+pub mod Theorems
+pub mod Examples

@@ -1,0 +1,4 @@
+pub mod Merge
+pub mod Promise
+pub mod Merges
+pub mod inner
