@@ -5,21 +5,15 @@ use mathlib.Core.Logic.{_≢_, ⊎-elim}
 use Prim.Native.Nat.{ℕ, zero, suc, _+_, _-_, _≤_, _<_}
 use native.Mathlib.Omega.{arith}
 use borrow.Author.Tests.{eq-eqb, ne-eqb}
+use Rattle.links.proofs.Laws.{by-eq}
 use Rattle.links.proofs.Held.{same-or}
 use Rattle.fat_node.specs.Node.{Run, run}
 use Rattle.fat_node.proofs.Nodes.{le-or-lt}
 use Rattle.fat_table.specs.Layout.{hits, covers, empties}
 use Rattle.fat_table.proofs.Layouts.{hits-in, hits-lo, hits-hi, hits-most, hits-split}
-use Rattle.fat_merge.specs.Merge.{before, stretches, Spread}
+use Rattle.fat_merge.specs.Merge.{beforeRun, before, stretches, Spread}
 
 -- one block before some runs -----------------------------------------------------------------------------
-
-module _ (b : ℕ) (r : Run) (l : List Run) where
-  pub before-touch : r .start ≡ suc b → before b (r ∷ l) ≡ run b (suc (r .size)) ∷ l
-  before-touch h = rw (eq-eqb (r .start) (suc b) h)
-
-  pub before-gap : r .start ≢ suc b → before b (r ∷ l) ≡ run b 1 ∷ (r ∷ l)
-  before-gap h = rw (ne-eqb (r .start) (suc b) h)
 
 -- a run and the block before it
 hits-more : (x b : ℕ) (r : Run) → r .start ≡ suc b → hits x (run b (suc (r .size))) ≡ hits x (run b 1) + hits x r
@@ -32,17 +26,14 @@ hits-more x b r h =
 
 pub covers-before : (x b : ℕ) (l : List Run) → covers x (before b l) ≡ hits x (run b 1) + covers x l
 covers-before x b [] = refl
-covers-before x b (r ∷ l) = ⊎-elim
-    (λ h. rw (before-touch b r l h) (omega (arith, hits-more x b r h)))
-    (λ h. rw (before-gap b r l h) refl)
-    (same-or (r .start) (suc b))
+covers-before x b (r ∷ l) =
+    by-eq (r .start) (suc b) (λ y. covers x (beforeRun y b r l) ≡ hits x (run b 1) + (hits x r + covers x l))
+    (λ h. omega (arith, hits-more x b r h))
+    (λ h. omega arith)
 
 pub empties-before : (b : ℕ) (l : List Run) → empties l ≡ 0 → empties (before b l) ≡ 0
 empties-before b [] e = refl
-empties-before b (r ∷ l) e = ⊎-elim
-    (λ h. rw (before-touch b r l h) (omega arith))
-    (λ h. rw (before-gap b r l h) (omega arith))
-    (same-or (r .start) (suc b))
+empties-before b (r ∷ l) e = by-eq (r .start) (suc b) (λ y. empties (beforeRun y b r l) ≡ 0) (λ h. omega arith) (λ h. omega arith)
 
 pub spread-from : (a b : ℕ) (l : List Run) → a ≤ b → Spread b l → Spread a l
 spread-from a b [] h s = tt
@@ -50,10 +41,18 @@ spread-from a b (r ∷ l) h s = (omega (arith, s .0), s .1)
 
 pub spread-before : (b : ℕ) (l : List Run) → Spread (suc b) l → Spread b (before b l)
 spread-before b [] s = (omega arith, tt)
-spread-before b (r ∷ l) s = ⊎-elim
-    (λ h. rw (before-touch b r l h) (omega arith, spread-from (suc (b + suc (r .size))) (suc (r .start + r .size)) l (omega arith) (s .1)))
-    (λ h. rw (before-gap b r l h) (omega arith, (omega (arith, s .0, h), s .1)))
-    (same-or (r .start) (suc b))
+spread-before b (r ∷ l) s =
+    by-eq (r .start) (suc b) (λ y. Spread b (beforeRun y b r l))
+    (λ h. (omega arith, spread-from (suc (b + suc (r .size))) (suc (r .start + r .size)) l (omega arith) (s .1)))
+    (λ h. (omega arith, (omega (arith, s .0, h), s .1)))
+
+-- the two cases by name
+module _ (b : ℕ) (r : Run) (l : List Run) where
+  pub before-touch : r .start ≡ suc b → before b (r ∷ l) ≡ run b (suc (r .size)) ∷ l
+  before-touch h = rw (eq-eqb (r .start) (suc b) h)
+
+  pub before-gap : r .start ≢ suc b → before b (r ∷ l) ≡ run b 1 ∷ (r ∷ l)
+  before-gap h = rw (ne-eqb (r .start) (suc b) h)
 
 -- the stretches ------------------------------------------------------------------------------------------
 

@@ -1,6 +1,6 @@
 -- The free chain in rising order with no two nodes touching, and the table with it.
 use mathlib.Core.List.{List, [], _∷_}
-use mathlib.Core.Bool.{cond}
+use mathlib.Core.Bool.{Bool, true, false, cond}
 use Prim.Native.Nat.{ℕ, zero, suc, _+_, _≤_}
 use lib.Dec.{eqb}
 use Rattle.fat_node.specs.Entry.{Bytes}
@@ -10,10 +10,15 @@ use Rattle.fat_table.specs.Layout.{covers}
 use Rattle.fat_table.specs.Steps.{relaid}
 use Rattle.fat_carve.specs.Entries.{chainEntries}
 
--- block b put before the runs: joined to the first where that starts right behind it
+-- block b put before the run r and the runs behind it: joined to r where r starts right behind b
+abbrev pub beforeRun : Bool → ℕ → Run → List Run → List Run
+beforeRun true b r l = run b (suc (r .size)) ∷ l
+beforeRun false b r l = run b 1 ∷ (r ∷ l)
+
+-- block b put before some runs
 abbrev pub before : ℕ → List Run → List Run
 before b [] = run b 1 ∷ []
-before b (r ∷ l) = cond (eqb (r .start) (suc b)) (run b (suc (r .size)) ∷ l) (run b 1 ∷ (r ∷ l))
+before b (r ∷ l) = beforeRun (eqb (r .start) (suc b)) b r l
 
 -- the longest stretches of blocks at which c is not 0, of the k blocks from b on, rising
 abbrev pub stretches : ℕ → ℕ → (ℕ → ℕ) → List Run

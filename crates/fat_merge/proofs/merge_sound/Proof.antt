@@ -41,7 +41,7 @@ set-head-requires c κs =
     let bytes = are-bytes _ (known .slice-known .given) in
     let low = merge-low _ _ _ _ (start .pre .0) bytes (start .pre .1) (at-mark .mark .ensures) _ (at-skip .skip .ensures) in
     let room = merge-room _ _ _ _ (start .pre .0) bytes (start .pre .1) (at-mark .mark .ensures) _ (at-skip .skip .ensures) _ (at-lay .lay-from .ensures) in
-    (index-small _ _ _ (start .pre .0 .few) low (at-index .index-of .ensures), omega (arith, room))
+    (omega (arith, index-small _ _ _ (start .pre .0 .few) low (at-index .index-of .ensures)), omega (arith, room))
 
 clear-requires : tie.Need-clear-requires
 clear-requires c κs = search needs
