@@ -86,6 +86,11 @@ mukthiban_answered mukthiban_fat_delete(uint8_t *table, size_t table_len,
                                         uint32_t *work, size_t work_len,
                                         size_t first_block);
 
+/* Merges free neighbours: the free chain becomes the longest stretches of free blocks, rising, so that no two of its nodes
+ * touch. Every file and the number of free blocks stay, and a second call changes nothing. Takes no data. Answers 1, 2, 3, 4. */
+mukthiban_answered mukthiban_fat_merge(uint8_t *table, size_t table_len,
+                                       uint32_t *work, size_t work_len);
+
 /* Reads buf_len bytes of the file from position pos into buf. Answers 1, 2, 3, 4, 5, 7. */
 mukthiban_answered mukthiban_fat_read(const uint8_t *table, size_t table_len,
                                       const uint8_t *data, size_t data_len, size_t block_len,

@@ -18,7 +18,7 @@
  *
  * Each answers what the call of the same name in mukthiban.h answers on such
  * input, with the same bytes changed, in the order that stands at it. There is
- * no work list.
+ * no work list, but for the merge.
  */
 #ifndef MUKTHIBAN_TESTED_H
 #define MUKTHIBAN_TESTED_H
@@ -49,6 +49,11 @@ mukthiban_answered mukthiban_tested_fat_resize(uint8_t *table, size_t table_len,
 /* Gives a whole file back. Answers 5.
  * Requires: a sound table of n blocks. */
 mukthiban_answered mukthiban_tested_fat_delete(uint8_t *table, size_t table_len, size_t n, size_t first_block);
+
+/* Merges free neighbours. Answers nothing but MUKTHIBAN_DONE.
+ * Requires: a sound table of n blocks; work_len = n, and every place of work is 0. They are 0 on return. */
+mukthiban_answered mukthiban_tested_fat_merge(uint8_t *table, size_t table_len, size_t n,
+                                              uint32_t *work, size_t work_len);
 
 /* Reads buf_len bytes of the file from pos into buf. Answers 5, 7.
  * Requires: a sound table of n blocks and data that fit. */

@@ -101,6 +101,18 @@ static void blocks(void)
     EXPECT(mukthiban_fat_delete(FAT, DATA, WORK, 0).answer == MUKTHIBAN_DONE);
     tested = mukthiban_fat_test(FAT, WORK);
     EXPECT(tested.answer == MUKTHIBAN_DONE && tested.free == 3 && tested.files == 1);
+
+    /* the free chain 2, 0-1, 3 becomes one node of four blocks */
+    EXPECT(mukthiban_fat_delete(FAT, DATA, WORK, 2).answer == MUKTHIBAN_DONE);
+    EXPECT(mukthiban_fat_merge(table, 7, WORK).answer == MUKTHIBAN_SIZE_MISMATCH);
+    EXPECT(mukthiban_fat_merge(table, 8, WORK).answer == MUKTHIBAN_INVALID_VALUE);
+    EXPECT(mukthiban_fat_merge(FAT, work, 3).answer == MUKTHIBAN_WORK_TOO_SHORT);
+    EXPECT(table[4] == 3);
+    EXPECT(mukthiban_fat_merge(FAT, WORK).answer == MUKTHIBAN_DONE);
+    EXPECT(table[4] == 1 && table[15] == 0x80 && table[20] == 4);
+    table[0] = 1;
+    EXPECT(mukthiban_fat_merge(FAT, WORK).answer == MUKTHIBAN_BROKEN_FAT);
+    EXPECT(mukthiban_fat_delete(FAT, DATA, WORK, 2).answer == MUKTHIBAN_BROKEN_FAT);
 }
 
 /* A table is broken at that entry, by that rule, in every call that judges it; and no other number has them. */
@@ -110,20 +122,21 @@ static void broken_at(size_t entry, uint32_t rule)
     mukthiban_tested tested = mukthiban_fat_test(FAT, WORK);
     mukthiban_created created = mukthiban_fat_create(FAT, DATA, WORK, 1);
     mukthiban_opened opened = mukthiban_fat_open_list(FAT, DATA, WORK, 0, LIST);
-    mukthiban_answered each[4];
+    mukthiban_answered each[5];
     int i;
 
     each[0] = mukthiban_fat_resize(FAT, DATA, WORK, 0, 1);
     each[1] = mukthiban_fat_delete(FAT, DATA, WORK, 0);
     each[2] = mukthiban_fat_read(FAT, DATA, WORK, 0, 0, buf, 1);
     each[3] = mukthiban_fat_write(FAT, DATA, WORK, 0, 0, buf, 1);
+    each[4] = mukthiban_fat_merge(FAT, WORK);
     EXPECT(tested.answer == MUKTHIBAN_BROKEN_FAT && tested.entry == entry && tested.rule == rule);
     EXPECT(tested.free == 0 && tested.files == 0);
     EXPECT(created.answer == MUKTHIBAN_BROKEN_FAT && created.entry == entry && created.rule == rule);
     EXPECT(created.first_block == 0);
     EXPECT(opened.answer == MUKTHIBAN_BROKEN_FAT && opened.entry == entry && opened.rule == rule);
     EXPECT(opened.count == 0);
-    for (i = 0; i < 4; i++)
+    for (i = 0; i < 5; i++)
         EXPECT(each[i].answer == MUKTHIBAN_BROKEN_FAT && each[i].entry == entry && each[i].rule == rule);
     tested = mukthiban_fat_test(FAT, work, 3);
     EXPECT(tested.answer == MUKTHIBAN_WORK_TOO_SHORT && tested.entry == 0 && tested.rule == 0);

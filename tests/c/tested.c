@@ -109,6 +109,11 @@ static void blocks(void)
          mukthiban_tested_fat_delete(TABLE(b), BLOCKS, 2));
     SAME(MUKTHIBAN_NOT_A_FILE, mukthiban_fat_delete(TABLE(a), DATA(a), WORK, 2),
          mukthiban_tested_fat_delete(TABLE(b), BLOCKS, 2));
+    SAME(MUKTHIBAN_DONE, mukthiban_fat_delete(TABLE(a), DATA(a), WORK, 0),
+         mukthiban_tested_fat_delete(TABLE(b), BLOCKS, 0));
+    /* the free chain 0-1, 3-4, 2, 5 becomes one node; the public call has left the work list's places 0 */
+    SAME(MUKTHIBAN_DONE, mukthiban_fat_merge(TABLE(a), WORK), mukthiban_tested_fat_merge(TABLE(b), BLOCKS, work, BLOCKS));
+    EXPECT(a.table[4] == 1 && a.table[20] == BLOCKS);
 }
 
 static void made(uint32_t number, mukthiban_made x, mukthiban_made y)

@@ -1,3 +1,4 @@
 pub mod Names
 pub mod One
 pub mod OneInner
+pub mod OneMerge

@@ -4,6 +4,7 @@ mod blocks;
 mod by_list;
 mod change;
 mod look;
+mod merge;
 mod name;
 mod tested_blocks;
 mod tested_carried;

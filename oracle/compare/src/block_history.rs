@@ -40,6 +40,13 @@ impl Session {
         answered
     }
 
+    /// A merge, of which the original has none: it is given the bytes, and its handles stay.
+    pub fn follow_merge(&mut self) {
+        if let Some(original) = &mut self.original {
+            original.set_table(&self.lent.table);
+        }
+    }
+
     /// Drops every handle of the original and opens the volume anew.
     pub fn reopen(&mut self) {
         if let Some(original) = &mut self.original {

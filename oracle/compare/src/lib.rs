@@ -7,6 +7,7 @@ pub mod check;
 pub mod closure;
 pub mod damage;
 pub mod edges;
+pub mod merged;
 pub mod stored;
 pub mod tree_history;
 pub mod trees;

@@ -1,7 +1,7 @@
 //! `compare short` or `compare long [seed]`: every comparison, with counts and the seed. It ends at the first difference.
 
 use compare::chance::Chance;
-use compare::{block_history, by_list, check, closure, damage, edges, tree_history};
+use compare::{block_history, by_list, check, closure, damage, edges, merged, tree_history};
 use std::time::{Instant, SystemTime, UNIX_EPOCH};
 
 /// How much of everything.
@@ -54,6 +54,8 @@ fn main() {
     histories("block", block_history::run, seed, run.histories);
     histories("border", block_history::borders, seed, run.histories);
     histories("list", by_list::run, seed, run.histories);
+    histories("merge", merged::run, seed, run.histories);
+    merged::large();
     histories("tree", tree_history::run, seed, run.histories);
     histories("full tree", tree_history::full, seed, run.histories / 10);
     closure::run(&mut Chance::new(seed), run.depth, run.states);

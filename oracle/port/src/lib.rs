@@ -4,12 +4,14 @@ mod by_list;
 mod calls;
 mod inner;
 mod library;
+mod merge;
 mod stated;
 
 pub use by_list::{library_version, ByList, ListCall};
 pub use calls::{Answered, BlockCall, Blocks, Kind, Tree, TreeCall};
 pub use inner::Inner;
 pub use library::Library;
+pub use merge::Merge;
 pub use stated::Stated;
 
 pub trait Port {

@@ -140,13 +140,17 @@ fn done(call: &TreeCall, lent: &mut Tree) -> Answered {
     }
 }
 
+/// With 4 the answer says where the table is broken; a table that is accepted is broken nowhere.
+pub(crate) fn located(answered: Answered, table: &[u8]) -> Answered {
+    let found = matches!(answered.number, 0 | 4).then(|| fault(table)).flatten();
+    assert_eq!(answered.number == 4, found.is_some(), "the rules refuse what no rule breaks");
+    found.map_or(answered, |f| answered.at(f.entry, f.rule))
+}
+
 impl Port for Stated {
-    /// With 4 the answer says where the table is broken; a table that is accepted is broken nowhere.
     fn block_call(&self, call: &BlockCall, lent: &mut Blocks) -> Answered {
         let answered = block_call(call, lent);
-        let found = matches!(answered.number, 0 | 4).then(|| fault(&lent.table)).flatten();
-        assert_eq!(answered.number == 4, found.is_some(), "the rules refuse what no rule breaks: {call:?}");
-        found.map_or(answered, |f| answered.at(f.entry, f.rule))
+        located(answered, &lent.table)
     }
     fn tree_call(&self, call: &TreeCall, lent: &mut Tree) -> Answered {
         asked(call, lent).unwrap_or_else(|| done(call, lent))

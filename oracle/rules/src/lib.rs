@@ -10,6 +10,7 @@ pub mod by_list;
 pub mod entries;
 pub mod fault;
 pub mod layout;
+pub mod merge;
 pub mod sound;
 pub mod tree;
 

@@ -1,4 +1,4 @@
-//! A file's blocks at the cost of the file alone.
+//! A file's blocks at the cost of the file alone, and the free nodes.
 
 use crate::refusal::Refusal;
 use crate::volume::Volume;
@@ -22,18 +22,53 @@ impl Volume {
     /// ```
     pub fn chain(&self, first_block: usize) -> Result<Vec<u32>, Refusal> {
         let count = self.block_count(first_block)?;
-        let table = &self.parts().fat;
-        let index = |at: usize| u32::from_le_bytes(table[at..at + 4].try_into().expect("4 bytes")) & 0x7FFF_FFFF;
         let mut list = Vec::with_capacity(count);
         let mut at = first_block;
         while list.len() < count {
-            let size = match table[at * 8 + 15] >> 7 {
-                0 => 1,
-                _ => index(at * 8 + 20) - at as u32,
-            };
+            let (size, next) = node(&self.parts().fat, at);
             list.extend(at as u32..at as u32 + size);
-            at = (index(at * 8 + 12) as usize).wrapping_sub(1);
+            at = next.wrapping_sub(1);
         }
         Ok(list)
     }
+
+    /// The nodes of the free chain, in its order, each as its first block and its length.
+    ///
+    /// ```
+    /// # use mukthiban::{Shape, Volume};
+    /// let shape = Shape { blocks: 8, block_len: 512, dir_max: 4, file_max: 4, buckets: 3 };
+    /// let mut volume = Volume::new(shape)?;
+    /// for file in [volume.create(2)?, volume.create(3)?] {
+    ///     volume.delete(file)?;
+    /// }
+    /// assert_eq!(volume.free_nodes(), [(2, 3), (0, 2), (5, 3)]);
+    /// volume.merge();
+    /// assert_eq!(volume.free_nodes(), [(0, 8)]);
+    /// # Ok::<(), mukthiban::Refusal>(())
+    /// ```
+    pub fn free_nodes(&self) -> Vec<(u32, u32)> {
+        let table = &self.parts().fat;
+        let mut nodes = Vec::new();
+        let mut index = word(table, 4);
+        while index != 0 {
+            let (size, next) = node(table, index - 1);
+            nodes.push((index as u32 - 1, size));
+            index = next;
+        }
+        nodes
+    }
+}
+
+/// The index that a word of the table holds.
+fn word(table: &[u8], at: usize) -> usize {
+    (u32::from_le_bytes(table[at..at + 4].try_into().expect("4 bytes")) & 0x7FFF_FFFF) as usize
+}
+
+/// The node at a block, on a table that the test has accepted: its blocks, and the index of the next.
+fn node(table: &[u8], block: usize) -> (u32, usize) {
+    let size = match table[block * 8 + 15] >> 7 {
+        0 => 1,
+        _ => word(table, block * 8 + 20) - block,
+    };
+    (size as u32, word(table, block * 8 + 12))
 }

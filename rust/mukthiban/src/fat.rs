@@ -203,6 +203,29 @@ pub fn delete(
     judge(r.answer)
 }
 
+/// Merges free neighbours: the free chain becomes the longest stretches of free blocks, rising, so that no two of its
+/// nodes touch. Every file and the number of free blocks stay; a second call changes nothing.
+///
+/// ```
+/// use mukthiban::{fat, Refusal};
+/// let (mut table, data, mut work) = ([0u8; 8 * 5], [0u8; 4 * 512], [0u32; 4]);
+/// fat::format(&mut table)?;
+/// let files = [1, 1, 2].map(|count| fat::create(&mut table, &data, 512, &mut work, count).unwrap());
+/// for file in files {
+///     fat::delete(&mut table, &data, 512, &mut work, file)?; // the free chain is now 2-3, 1, 0
+/// }
+/// fat::merge(&mut table, &mut work)?;
+///
+/// let mut fresh = table;
+/// fat::format(&mut fresh)?;
+/// assert_eq!(table, fresh);
+/// # Ok::<(), Refusal>(())
+/// ```
+pub fn merge(table: &mut [u8], work: &mut [u32]) -> Result<(), Refusal> {
+    let r = unsafe { ffi::mukthiban_fat_merge(table.as_mut_ptr(), table.len(), work.as_mut_ptr(), work.len()) };
+    judge(r.answer)
+}
+
 /// Reads `buf.len()` bytes of the file from `pos` on.
 pub fn read(
     table: &[u8],

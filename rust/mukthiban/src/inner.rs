@@ -18,6 +18,11 @@ pub unsafe fn delete(p: &mut Parts, first: usize) -> Answered {
     tested::mukthiban_tested_fat_delete(p.fat.as_mut_ptr(), p.fat.len(), p.blocks(), first)
 }
 
+/// `work` has a place for each block, all 0.
+pub unsafe fn merge(p: &mut Parts, work: &mut [u32]) -> Answered {
+    tested::mukthiban_tested_fat_merge(p.fat.as_mut_ptr(), p.fat.len(), p.blocks(), work.as_mut_ptr(), work.len())
+}
+
 pub unsafe fn open_list(p: &Parts, first: usize, list: &mut [u32]) -> Opened {
     tested::mukthiban_tested_fat_open_list(
         p.fat.as_ptr(),

@@ -62,7 +62,7 @@ fn block_calls_agree() {
             let count = dice.below(n + 2);
             let p = &mut plain.parts;
             let (w, len) = (&mut plain.work[..], p.block_len);
-            match dice.below(6) {
+            match dice.below(7) {
                 0 => assert_eq!(volume.create(count), fat::create(&mut p.fat, &p.data, len, w, count)),
                 1 => assert_eq!(volume.resize(block, count), fat::resize(&mut p.fat, &p.data, len, w, block, count)),
                 2 => assert_eq!(volume.delete(block), fat::delete(&mut p.fat, &p.data, len, w, block)),
@@ -76,6 +76,12 @@ fn block_calls_agree() {
                     let (mut a, mut b) = (vec![1; count], vec![1; count]);
                     assert_eq!(volume.read(block, pos, &mut a), fat::read(&p.fat, &p.data, len, w, block, pos, &mut b));
                     assert_eq!(a, b);
+                }
+                5 => {
+                    volume.merge();
+                    assert_eq!(fat::merge(&mut p.fat, w), Ok(()));
+                    let nodes = volume.free_nodes();
+                    assert!(nodes.windows(2).all(|two| two[0].0 + two[0].1 < two[1].0), "{nodes:?}");
                 }
                 _ => {
                     let (pos, count) = span(&mut dice, n, block_len);

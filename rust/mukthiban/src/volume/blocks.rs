@@ -36,6 +36,15 @@ impl Volume {
         Ok(())
     }
 
+    /// Merges free neighbours: the free chain becomes the longest stretches of free blocks, rising. Every file stays, and
+    /// so do all counts.
+    pub fn merge(&mut self) {
+        let mut work = vec![0; self.parts.blocks()];
+        // SAFETY: the table is sound, and the work list is n places of 0.
+        let r = unsafe { inner::merge(&mut self.parts, &mut work) };
+        judge(r.answer).expect("the inner merge refuses nothing");
+    }
+
     /// The blocks of a file, in chain order.
     pub fn open_list(&self, first_block: usize) -> Result<Vec<u32>, Refusal> {
         let mut list = vec![0; self.block_count(first_block).unwrap_or(0)];

@@ -6,6 +6,7 @@ mod cp;
 mod lift;
 mod ls;
 mod map;
+pub mod merge;
 mod mkdir;
 mod mv;
 mod new;
@@ -27,6 +28,7 @@ pub const ALL: &[Command] = &[
     mkdir::COMMAND,
     mv::COMMAND,
     rm::COMMAND,
+    merge::COMMAND,
     new::COMMAND,
     map::COMMAND,
 ];

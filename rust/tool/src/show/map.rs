@@ -1,5 +1,6 @@
 //! The picture of a volume in letters and colours, and as JSON.
 
+use crate::commands::merge::largest;
 use crate::session::Session;
 use crate::show::colour::colour;
 use crate::show::json;
@@ -34,7 +35,8 @@ pub fn as_text(picture: &Picture) -> String {
     for (place, owner) in picture.owners.iter().enumerate() {
         out += &format!("  {}  {}: {}\n", cell_text(picture, place as u32 + 1), owner.label, owner.words());
     }
-    out + &format!("  {}  free: {}\n", cell_text(picture, 0), count(picture.free as u64, "block"))
+    let (free, nodes) = (count(picture.free as u64, "block"), count(picture.free_nodes.len() as u64, "node"));
+    out + &format!("  {}  free: {free}, {nodes}{}\n", cell_text(picture, 0), largest(&picture.free_nodes))
 }
 
 /// A cell: a sign, on a terminal on its file's colour.
@@ -70,6 +72,7 @@ pub fn as_json(volume: &str, session: &Session) -> String {
             ("entries", json::list(files.map(|e| entry_json(session, e, true)))),
             ("lost_chains", json::list(lost)),
             ("free_stretches", json::stretches(&stretches(&free))),
+            ("free_nodes", json::stretches(&session.volume.free_nodes())),
         ],
     )
 }

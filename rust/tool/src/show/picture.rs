@@ -51,6 +51,8 @@ pub struct Picture {
     pub title: String,
     pub block_len: usize,
     pub free: usize,
+    /// The nodes of the free chain.
+    pub free_nodes: Vec<(u32, u32)>,
     pub files: usize,
     pub fragments: usize,
     pub owners: Vec<Owner>,
@@ -73,6 +75,7 @@ impl Picture {
             title,
             block_len: session.volume.parts().block_len,
             free: session.volume.free(),
+            free_nodes: session.volume.free_nodes(),
             files: files().count(),
             fragments: files().map(|e| e.pieces().len()).sum(),
             owners,

@@ -63,10 +63,38 @@ fn a_day_at_the_bench() {
 }
 
 #[test]
+fn free_neighbours_are_merged() {
+    let b = Bench::with_volume();
+    for (place, blocks) in [2, 3, 2, 1].into_iter().enumerate() {
+        b.host("f", &noise(64 * blocks, place as u32));
+        b.done(&["put", "v", "f", &format!("f{place}")]);
+    }
+    for file in ["f1", "f0", "f2"] {
+        b.done(&["rm", "v", file]);
+    }
+    let map = b.done(&["map", "v"]);
+    assert!(map.contains("  ·  free: 39 blocks, 4 nodes, the largest of 32 blocks\n"), "{map}");
+    let before = b.run(&["cat", "v", "f3"]).stdout;
+    assert_eq!(b.done(&["merge", "v"]), "merged v: 4 free nodes before, 2 after, the largest of 32 blocks\n");
+    assert!(b.done(&["map", "v"]).contains("  ·  free: 39 blocks, 2 nodes, the largest of 32 blocks\n"));
+    assert_eq!(b.run(&["cat", "v", "f3"]).stdout, before);
+    assert_eq!(b.done(&["merge", "v"]), "merged v: 2 free nodes before, 2 after, the largest of 32 blocks\n");
+    assert_eq!(
+        b.done(&["merge", "--json", "v"]),
+        "{\"version\": 1, \"command\": \"merge\", \"volume\": \"v\", \"free_nodes_before\": [[0, 7], [8, 32]], \"free_nodes\": [[0, 7], [8, 32]]}\n"
+    );
+    // what was in pieces before is one now
+    b.host("f", &noise(64 * 7, 9));
+    b.done(&["put", "v", "f", "whole"]);
+    assert!(b.done(&["ls", "v"]).contains("         1  whole\n"));
+    assert!(b.fails(&["merge", "w"], 8).contains("w: no such volume"));
+}
+
+#[test]
 fn help_for_each_command() {
     let b = Bench::new();
     let all = b.done(&["--help"]);
-    for command in ["check", "ls", "cat", "lift", "put", "mkdir", "mv", "rm", "new", "map"] {
+    for command in ["check", "ls", "cat", "lift", "put", "mkdir", "mv", "rm", "merge", "new", "map"] {
         assert!(all.contains(&format!("\n  {command} ")), "{command}");
         assert!(b.done(&[command, "--help"]).starts_with(&format!("mukthiban {command} ")));
         assert_eq!(b.done(&["help", command]), b.done(&[command, "-h"]));
