@@ -8,4 +8,5 @@ pub mod Promised
 pub mod Means
 pub mod Fewest
 pub mod Theorems
+pub mod Histories
 pub mod Examples
