@@ -1,6 +1,7 @@
 //! Everything that can be reached on small tables: every call on every reachable table, and all short histories with their handles kept.
 
 use crate::chance::Chance;
+use crate::merged::merged_table;
 use crate::{block_history, tree_history};
 use port::{BlockCall, Blocks, Kind, Tree, TreeCall};
 use rules::blocks::layout;
@@ -52,6 +53,10 @@ pub fn reach_blocks(n: usize, fill: Vec<u8>) -> usize {
     let mut waiting = VecDeque::from([first]);
     let calls = all_block_calls(n);
     while let Some(table) = waiting.pop_front() {
+        let merged = merged_table(&table);
+        if met.insert(merged.clone()) {
+            waiting.push_back(merged);
+        }
         for call in &calls {
             let mut session = block_history::Session::new(volume(table.clone()));
             session.run(call);

@@ -53,6 +53,15 @@ fn asked(before: &[u8], held: &Layout, after: &[u8]) {
     }
 }
 
+/// A sound table merged: what is left of it.
+pub fn merged_table(table: &[u8]) -> Vec<u8> {
+    let held = layout(table).expect("a sound table");
+    let mut lent = Merge { table: table.to_vec(), work: vec![77; table.len() / 8] };
+    assert_eq!(same(&mut lent), 0);
+    asked(table, &held, &lent.table);
+    lent.table
+}
+
 /// A sound volume: merged, merged again, and then used beside the original.
 fn sound(chance: &mut Chance) {
     let mut volume = volumes::any_sound(chance);
