@@ -15,7 +15,7 @@ use Rattle.fat_table.specs.Layout.{Layout, layout, joined, hits, covers, emptie
 use Rattle.fat_table.specs.Steps.{first}
 use Rattle.fat_table.proofs.Layouts.{EndToEnd, hits-in, hits-most, covers-append, empties-append}
 use Rattle.fat_table.proofs.Laying.{first-inside}
-use Rattle.fat_table.proofs.Chains.{In, mem-perm, mem-hits, mem-either}
+use Rattle.fat_table.proofs.Chains.{In, mem-perm, mem-hits, mem-size, mem-either}
 use Rattle.fat_table.proofs.Stepped.{chain-read}
 use Rattle.fat_table.proofs.Writes.{lastOf, laid-suffix}
 use Rattle.fat_table.proofs.Resizes.{last-inside}
@@ -55,15 +55,31 @@ marks-other (r ∷ l) w y e c =
     marks-other l (set w (r .start) 1) y (omega arith) (omega arith)
     ∙ getD-set-other w (r .start) y 1 0 (λ q. omega (arith, hits-in y r (omega (arith, q)) (omega (arith, q, e)), c))
 
+-- no mark where no run starts
+marks-none : (l : List Run) (w : List ℕ) (y : ℕ) → ((r : Run) → In r l → r .start ≡ y → ⊥) → getD (marks l w) y 0 ≡ getD w y 0
+marks-none [] w y g = refl
+marks-none (r ∷ l) w y g =
+    marks-none l (set w (r .start) 1) y (λ s m. g s (List·Memᴰ·tail m))
+    ∙ getD-set-other w (r .start) y 1 0 (λ q. g r (List·Memᴰ·head refl) (sym q))
+
+-- two runs of a list that start apart are both counted
+two-hits : (x : ℕ) {r s : Run} {l : List Run} → In r l → In s l → (r .start ≡ s .start → ⊥) → hits x r + hits x s ≤ covers x l
+two-hits x (List·Memᴰ·head e) (List·Memᴰ·head f) ne = absurd (ne (ap (λ (z : Run). z .start) e ∙ sym (ap (λ (z : Run). z .start) f)))
+two-hits x (List·Memᴰ·head e) (List·Memᴰ·tail m) ne = omega (arith, ap (hits x) e, mem-hits x m)
+two-hits x (List·Memᴰ·tail k) (List·Memᴰ·head f) ne = omega (arith, ap (hits x) f, mem-hits x k)
+two-hits x (List·Memᴰ·tail k) (List·Memᴰ·tail m) ne = omega (arith, two-hits x k m ne)
+
 -- a table with the starts of its free nodes marked, from block 0 on -------------------------------------------
 
 ahead-all : (n : ℕ) (t : Bytes) (w : List ℕ) (c : ℕ → ℕ) (T : List Run) (b : ℕ) → EndToEnd b T n → ((r : Run) → In r T → NodeAt t n (r .start) (r .size))
-    → ((r : Run) → In r T → (x : ℕ) → r .start ≤ x → x < r .start + r .size → c x ≡ getD w (r .start) 0) → Ahead n t w c b
-ahead-all n t w c [] b e g f = end e
-ahead-all n t w c (r ∷ T) b e g f =
+    → ((r : Run) → In r T → (x : ℕ) → r .start ≤ x → x < r .start + r .size → c x ≡ getD w (r .start) 0)
+    → ((r : Run) → In r T → (x : ℕ) → r .start < x → x < r .start + r .size → getD w x 0 ≡ 0)
+    → Ahead n t w c b
+ahead-all n t w c [] b e g f z = end e
+ahead-all n t w c (r ∷ T) b e g f z =
     subst (Ahead n t w c) (e .0)
-    (node (g r (List·Memᴰ·head refl)) (f r (List·Memᴰ·head refl))
-    (ahead-all n t w c T (r .start + r .size) (subst⁻¹ (λ (z : ℕ). EndToEnd (z + r .size) T n) (e .0) (e .2)) (λ s m. g s (List·Memᴰ·tail m)) (λ s m. f s (List·Memᴰ·tail m))))
+    (node (g r (List·Memᴰ·head refl)) (f r (List·Memᴰ·head refl)) (z r (List·Memᴰ·head refl))
+    (ahead-all n t w c T (r .start + r .size) (subst⁻¹ (λ (z : ℕ). EndToEnd (z + r .size) T n) (e .0) (e .2)) (λ s m. g s (List·Memᴰ·tail m)) (λ s m. f s (List·Memᴰ·tail m)) (λ s m. z s (List·Memᴰ·tail m))))
 
 pub marked-ahead : (n : ℕ) (t : Bytes) (w : Whole n t) → Ahead n t (marks (freeAt n t) (replicate n 0)) (λ x. covers x (freeAt n t)) 0
 marked-ahead n t w =
@@ -95,6 +111,17 @@ marked-ahead n t w =
       getD-replicate {A = ℕ} n (r .start) 0 0 (omega (arith, i .within, i .some)),
     ))
     (mem-either F (joined (s .files)) (back r m)))
+    (λ r m x p q.
+    let i : NodeAt t n (r .start) (r .size) = run-node n (w .small) t L (s .holds) r (back r m) .1 in
+    marks-none F W x
+    (λ u k e.
+    let there : hits x u ≡ 1 = hits-in x u (omega (arith, e)) (omega (arith, e, mem-size k ef)) in
+    let here : hits x r ≡ 1 = hits-in x r (omega (arith, p)) q in
+    ⊎-elim
+    (λ j. omega (arith, two-hits x j k (λ d. omega (arith, d, e, p)), there, here, cs x))
+    (λ j. omega (arith, mem-hits x j, mem-hits x k, there, here, cs x))
+    (mem-either F (joined (s .files)) (back r m)))
+    ∙ getD-replicate {A = ℕ} n x 0 0 (omega (arith, i .within, q)))
 
 -- the walk along the free chain -------------------------------------------------------------------------------
 

@@ -97,22 +97,29 @@ pub record At (n : ℕ) (t : Bytes) (w : List ℕ) (c : ℕ → ℕ) (b : ℕ) :
   pub size : ℕ
   pub is : NodeAt t n b size
   pub same : (x : ℕ) → b ≤ x → x < b + size → c x ≡ getD w b 0
+  pub inside : (x : ℕ) → b < x → x < b + size → getD w x 0 ≡ 0
   pub rest : Ahead n t w c (b + size)
 
 pub ahead-at : {n : ℕ} {t : Bytes} {w : List ℕ} {c : ℕ → ℕ} {b : ℕ} → Ahead n t w c b → b < n → At n t w c b
 ahead-at (end e) h = let z : ⊥ = omega arith in absurd z
-ahead-at (node {b} {s} i g a) h = record { size = s; is = i; same = g; rest = a }
+ahead-at (node {b} {s} i g z a) h = record { size = s; is = i; same = g; inside = z; rest = a }
 
 pub ahead-within : {n : ℕ} {t : Bytes} {w : List ℕ} {c : ℕ → ℕ} {b : ℕ} → Ahead n t w c b → b ≤ n
 ahead-within (end e) = omega arith
-ahead-within (node i g a) = omega (arith, i .within)
+ahead-within (node i g z a) = omega (arith, i .within)
 
 -- a table that is the same behind entry b stands the same from block b on
 pub ahead-same : {n : ℕ} {t : Bytes} {w : List ℕ} {c : ℕ → ℕ} {b : ℕ} (t′ : Bytes) → Ahead n t w c b → ((e : ℕ) → b < e → get t′ e ≡ get t e) → Ahead n t′ w c b
 ahead-same t′ (end e) g = end e
-ahead-same {n} {t} {w} {c} t′ (node {b} {s} i f a) g =
-    node (node-same t t′ n b s (g (b + 1) (omega arith)) (λ k. (g (b + 2) (omega arith), g (b + s) (omega arith))) i) f
+ahead-same {n} {t} {w} {c} t′ (node {b} {s} i f z a) g =
+    node (node-same t t′ n b s (g (b + 1) (omega arith)) (λ k. (g (b + 2) (omega arith), g (b + s) (omega arith))) i) f z
     (ahead-same t′ a (λ e k. g e (omega arith)))
+
+-- and so do marks that are the same from block b on
+pub ahead-marks : {n : ℕ} {t : Bytes} {w : List ℕ} {c : ℕ → ℕ} {b : ℕ} (w′ : List ℕ) → Ahead n t w c b → ((x : ℕ) → b ≤ x → getD w′ x 0 ≡ getD w x 0) → Ahead n t w′ c b
+ahead-marks w′ (end e) g = end e
+ahead-marks {n} {t} {w} {c} w′ (node {b} {s} i f z a) g =
+    node i (λ x p q. f x p q ∙ sym (g b (omega arith))) (λ x p q. g x (omega arith) ∙ z x p q) (ahead-marks w′ a (λ x p. g x (omega arith)))
 
 -- one node of the sweep
 module _ (n : ℕ) (t : Bytes) (w : List ℕ) (c : ℕ → ℕ) (b s : ℕ) (a : Ahead n t w c b) (h : b < n) (i : NodeAt t n b s) where
@@ -127,6 +134,9 @@ module _ (n : ℕ) (t : Bytes) (w : List ℕ) (c : ℕ → ℕ) (b s : ℕ) (a :
 
   hop-same : (x : ℕ) → b ≤ x → x < b + s → c x ≡ getD w b 0
   hop-same = subst (λ (y : ℕ). (x : ℕ) → b ≤ x → x < b + y → c x ≡ getD w b 0) hop-size (hop .same)
+
+  pub hop-inside : (x : ℕ) → b < x → x < b + s → getD w x 0 ≡ 0
+  hop-inside = subst (λ (y : ℕ). (x : ℕ) → b < x → x < b + y → getD w x 0 ≡ 0) hop-size (hop .inside)
 
   pub hop-unmarked : getD w b 0 ≡ 0 → stretches (n - b) b c ≡ stretches (n - (b + s)) (b + s) c
   hop-unmarked z = stretch-skip s (n - (b + s)) (n - b) b c (omega (arith, i .within)) (λ x p q. hop-same x p q ∙ z)

@@ -10,12 +10,12 @@ use Rattle.fat_table.specs.Layout.{covers}
 use Rattle.fat_table.specs.Steps.{relaid}
 use Rattle.fat_carve.specs.Entries.{chainEntries}
 
--- block b put before the run r and the runs behind it: joined to r where r starts right behind b
+-- block b put before the run r and the runs l behind it: joined to r, or a run of its own
 abbrev pub beforeRun : Bool → ℕ → Run → List Run → List Run
 beforeRun true b r l = run b (suc (r .size)) ∷ l
 beforeRun false b r l = run b 1 ∷ (r ∷ l)
 
--- block b put before some runs
+-- block b put before some runs: joined to the first where that starts right behind b
 abbrev pub before : ℕ → List Run → List Run
 before b [] = run b 1 ∷ []
 before b (r ∷ l) = beforeRun (eqb (r .start) (suc b)) b r l

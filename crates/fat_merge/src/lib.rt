@@ -1,16 +1,15 @@
 // Merging of free neighbours: the free chain in rising order, no two of its nodes touching.
 ghost use mathlib.Core.Path.{_≡_};
-ghost use Prim.Native.Nat.{ℕ, _-_, _≤_, _<_};
+ghost use Prim.Native.Nat.{ℕ, _≤_, _<_};
 ghost use lib.ListN.{length, getD, replicate};
 ghost use Rattle.fat_node.specs.Node.{NodeAt};
 ghost use Rattle.fat_table.specs.Chain.{freeAt};
-ghost use Rattle.fat_table.specs.Steps.{lay};
 ghost use Rattle.order.specs.Beside.{beside};
 ghost use Rattle.fat_promises.specs.Calls.{changeGives};
 ghost use Rattle.fat_inner.specs.Volume.{Volume};
-ghost use Rattle.fat_merge.specs.Merge.{stretches, merged};
+ghost use Rattle.fat_merge.specs.Merge.{merged};
 ghost use Rattle.fat_merge.specs.Promise.{MergePromise};
-ghost use Rattle.fat_merge.specs.inner.Sweep.{marks, Ahead, Here, Reading, Skipped, Passed, IndexIs};
+ghost use Rattle.fat_merge.specs.inner.Sweep.{marks, Ahead, Here, Reading, Skipped, PassedOver, LaidFrom, IndexIs};
 use fat_inner::step::Answered;
 use fat_inner::walk::head_of;
 use fat_node::Node;
@@ -53,18 +52,19 @@ fn skip(table: &[u8], n: usize, work: &[u32], from: usize) -> usize
     b
 }
 
-// The end of the stretch of free blocks that starts at a marked block, hopping by node.
-fn past(table: &[u8], n: usize, work: &[u32], from: usize) -> usize
+// The end of the stretch of free blocks that starts at a marked block, hopping by node. Its marks are taken away.
+fn past(table: &[u8], n: usize, work: &mut [u32], from: usize) -> usize
     requires { ⌜ Reading n (now table) (now work) «from» ⌝ }
     requires { ⌜ «from» < n ⌝ }
     requires { ⌜ (getD (now work) «from» 0 ≡ 0 → ⊥) ⌝ }
-    ensures { λ r. ⌜ ((c : ℕ → ℕ) → Ahead n (now (table .entry)) (now (work .entry)) c «from» → Passed n (now (table .entry)) (now (work .entry)) c «from» r) ⌝ }
+    ensures { λ r. ⌜ PassedOver n (now (table .entry)) (now (work .entry)) (now (work .exit)) «from» r ⌝ }
 {
     let mut end = from;
     while end < n {
         if work[end] == 0 {
             return end;
         }
+        work[end] = 0;
         end += size_at(table, n, end);
     }
     end
@@ -81,11 +81,12 @@ fn index_of(n: usize, b: usize) -> usize
     0
 }
 
-// Writes a node for each stretch of free blocks, from the first one on. Each is written when the next is known, behind what is still to be read.
-fn lay_from(table: &mut [u8], n: usize, work: &[u32], from: usize)
+// Writes a node for each stretch of free blocks, from the first one on, and takes the marks away. Each is written when the next is known, behind what is
+// still to be read.
+fn lay_from(table: &mut [u8], n: usize, work: &mut [u32], from: usize)
     requires { ⌜ Reading n (now table) (now work) «from» ⌝ }
     requires { ⌜ («from» < n → getD (now work) «from» 0 ≡ 0 → ⊥) ⌝ }
-    ensures { λ _. ⌜ ((c : ℕ → ℕ) → Ahead n (now (table .entry)) (now (work .entry)) c «from» → now (table .exit) ≡ lay (stretches (n - «from») «from» c) 0 (now (table .entry))) ⌝ }
+    ensures { λ _. ⌜ LaidFrom n (now (table .entry)) (now (table .exit)) (now (work .entry)) (now (work .exit)) «from» ⌝ }
 {
     let mut b = from;
     let mut prev: usize = 0;
@@ -100,7 +101,7 @@ fn lay_from(table: &mut [u8], n: usize, work: &[u32], from: usize)
     }
 }
 
-// Merges free neighbours, on a sound table and with a cleared work list of one place a block, which is cleared after it.
+// Merges free neighbours, on a sound table and with a work list of one place a block, which are 0 before and after it.
 pub fn merge_sound(table: &mut [u8], n: usize, work: &mut [u32])
     requires { ⌜ Volume n (now table) ⌝ }
     requires { ⌜ now work ≡ replicate n 0 ⌝ }
@@ -111,7 +112,6 @@ pub fn merge_sound(table: &mut [u8], n: usize, work: &mut [u32])
     let head = index_of(n, from);
     lay_from(table, n, work, from);
     fat_node::set_head(table, head);
-    order::clear(work);
 }
 
 // Merges free neighbours: the free chain becomes the longest stretches of free blocks, in rising order, so that no two of its nodes touch. Every file stays.

@@ -6,10 +6,10 @@ use Rattle.fat_merge.proofs.lay_from.Statement.{statement}
 use Rattle.fat_merge.proofs.lay_from.Tie as tie
 
 abbrev Inv-loop : tie.InvT-loop
-Inv-loop table₀ n work from b₀ prev₀ table b prev = Lays n table₀ work from table b prev
+Inv-loop table₀ n work₀ from b₀ prev₀ table work b prev = Lays n table₀ work₀ from table work b prev
 
 abbrev μ-loop : tie.MeasureT-loop
-μ-loop table₀ n work from b₀ prev₀ table b prev = n - b
+μ-loop table₀ n work₀ from b₀ prev₀ table work b prev = n - b
 
 loop-holds : tie.Need-loop-holds Inv-loop μ-loop
 loop-holds c = search lays-begin
@@ -27,20 +27,20 @@ sub-size : tie.Need-sub-size Inv-loop μ-loop
 sub-size c =
     let at-index = c in
     let at-skip = at-index .before in
-    let at-past = at-skip .before .before in
-    let at-loop = at-past .before .before .before in
+    let at-past = at-skip .before .before .before .before .before in
+    let at-loop = at-past .before .before .before .before in
     let start = at-loop .before .before .before in
-    let z = lays-fits _ _ _ _ _ _ _ (start .pre .0) (at-loop .loop .inv) _ (at-past .past .ensures) _ _ (at-skip .skip .ensures) (at-index .index-of .ensures) in
+    let z = lays-fits _ _ _ _ _ _ _ _ (start .pre .0) (at-loop .loop .inv) _ _ (at-past .past .ensures) _ _ (at-skip .skip .ensures) (at-index .index-of .ensures) in
     omega (arith, z .0)
 
 set-node-requires : tie.Need-set-node-requires Inv-loop μ-loop
 set-node-requires c κs =
     let at-index = c .before in
     let at-skip = at-index .before in
-    let at-past = at-skip .before .before in
-    let at-loop = at-past .before .before .before in
+    let at-past = at-skip .before .before .before .before .before in
+    let at-loop = at-past .before .before .before .before in
     let start = at-loop .before .before .before in
-    let z = lays-fits _ _ _ _ _ _ _ (start .pre .0) (at-loop .loop .inv) _ (at-past .past .ensures) _ _ (at-skip .skip .ensures) (at-index .index-of .ensures) in
+    let z = lays-fits _ _ _ _ _ _ _ _ (start .pre .0) (at-loop .loop .inv) _ _ (at-past .past .ensures) _ _ (at-skip .skip .ensures) (at-index .index-of .ensures) in
     ((search needs, omega arith), ((omega (arith, z .0), omega (arith, z .0, z .1, z .2)), (omega arith, z .3)))
 
 add-prev : tie.Need-add-prev Inv-loop μ-loop
@@ -50,10 +50,10 @@ loop-less : tie.Need-loop-less Inv-loop μ-loop
 loop-less c =
     let at-index = c .before .before .before .before in
     let at-skip = at-index .before in
-    let at-past = at-skip .before .before in
-    let at-loop = at-past .before .before .before in
+    let at-past = at-skip .before .before .before .before .before in
+    let at-loop = at-past .before .before .before .before in
     let start = at-loop .before .before .before in
-    let z = lays-fits _ _ _ _ _ _ _ (start .pre .0) (at-loop .loop .inv) _ (at-past .past .ensures) _ _ (at-skip .skip .ensures) (at-index .index-of .ensures) in
+    let z = lays-fits _ _ _ _ _ _ _ _ (start .pre .0) (at-loop .loop .inv) _ _ (at-past .past .ensures) _ _ (at-skip .skip .ensures) (at-index .index-of .ensures) in
     omega (arith, z .0, z .1)
 
 loop-again : tie.Need-loop-again Inv-loop μ-loop
@@ -61,13 +61,16 @@ loop-again c =
     let at-node = c .before .before in
     let at-index = c .before .before .before .before in
     let at-skip = at-index .before in
-    let at-past = at-skip .before .before in
-    let at-loop = at-past .before .before .before in
+    let at-past = at-skip .before .before .before .before .before in
+    let at-loop = at-past .before .before .before .before in
     let start = at-loop .before .before .before in
-    lays-next _ _ _ _ _ _ _ (start .pre .0) (at-loop .loop .inv) _ (at-past .past .ensures) _ _ (at-skip .skip .ensures) (at-index .index-of .ensures) _ (at-node .set-node .ensures)
+    lays-next _ _ _ _ _ _ _ _ (start .pre .0) (at-loop .loop .inv) _ _ (at-past .past .ensures) _ _ (at-skip .skip .ensures) (at-index .index-of .ensures) _ (at-node .set-node .ensures)
 
 same-length : tie.Need-same-length Inv-loop μ-loop
 same-length c = search needs
+
+same-length-2 : tie.Need-same-length-2 Inv-loop μ-loop
+same-length-2 c = search needs
 
 returns : tie.Need-returns Inv-loop μ-loop
 returns c = search lays-end
@@ -88,4 +91,5 @@ lay-from-spec =
     loop-less
     loop-again
     same-length
+    same-length-2
     returns)

@@ -1,7 +1,7 @@
 use native.Mathlib.Omega.{arith}
-use Rattle.fat_inner.proofs.Found.{are-bytes}
-use Rattle.fat_merge.proofs.Merging.{merge-long, marked-long, merge-reading, merge-from, merge-met, merge-low, merge-room, merge-done, index-small, cleared-is}
 use borrow.Author.Needs.{needs}
+use Rattle.fat_inner.proofs.Found.{are-bytes}
+use Rattle.fat_merge.proofs.Merging.{merge-long, merge-reading, merge-from, merge-met, merge-low, merge-room, merge-done, merge-clear, index-small}
 use Rattle.fat_merge.proofs.merge_sound.Statement.{statement}
 use Rattle.fat_merge.proofs.merge_sound.Tie as tie
 
@@ -32,7 +32,7 @@ lay-from-requires c κs =
 
 set-head-requires : tie.Need-set-head-requires
 set-head-requires c κs =
-    let at-lay = c .before .before .before in
+    let at-lay = c .before .before .before .before .before in
     let at-index = at-lay .before .before .before in
     let at-skip = at-index .before in
     let at-mark = at-skip .before .before .before .before .before in
@@ -40,11 +40,8 @@ set-head-requires c κs =
     let start = known .before in
     let bytes = are-bytes _ (known .slice-known .given) in
     let low = merge-low _ _ _ _ (start .pre .0) bytes (start .pre .1) (at-mark .mark .ensures) _ (at-skip .skip .ensures) in
-    let room = merge-room _ _ _ _ (start .pre .0) bytes (start .pre .1) (at-mark .mark .ensures) _ (at-skip .skip .ensures) _ (at-lay .lay-from .ensures) in
+    let room = merge-room _ _ _ _ (start .pre .0) bytes (start .pre .1) (at-mark .mark .ensures) _ (at-skip .skip .ensures) _ _ (at-lay .lay-from .ensures) in
     (omega (arith, index-small _ _ _ (start .pre .0 .few) low (at-index .index-of .ensures)), omega (arith, room))
-
-clear-requires : tie.Need-clear-requires
-clear-requires c κs = search needs
 
 same-length : tie.Need-same-length
 same-length c = search needs
@@ -54,17 +51,16 @@ same-length-2 c = search needs
 
 returns : tie.Need-returns
 returns c =
-    let at-clear = c .before .before in
-    let at-head = at-clear .before .before .before .before in
-    let at-lay = at-head .before .before .before .before in
+    let at-head = c .before .before in
+    let at-lay = at-head .before .before .before .before .before .before in
     let at-index = at-lay .before .before .before in
     let at-skip = at-index .before in
     let at-mark = at-skip .before .before .before .before .before in
     let known = at-mark .before .before .before .before in
     let start = known .before in
     let bytes = are-bytes _ (known .slice-known .given) in (
-      merge-done _ _ _ _ (start .pre .0) bytes (start .pre .1) (at-mark .mark .ensures) _ (at-skip .skip .ensures) _ _ _ (at-index .index-of .ensures) (at-lay .lay-from .ensures) (at-head .set-head .ensures),
-      cleared-is _ _ _ (marked-long _ _ _ _ (start .pre .0) bytes (start .pre .1) (at-mark .mark .ensures)) (at-clear .clear .ensures),
+      merge-done _ _ _ _ (start .pre .0) bytes (start .pre .1) (at-mark .mark .ensures) _ (at-skip .skip .ensures) _ _ _ _ (at-index .index-of .ensures) (at-lay .lay-from .ensures) (at-head .set-head .ensures),
+      merge-clear _ _ _ _ (start .pre .0) bytes (start .pre .1) (at-mark .mark .ensures) _ (at-skip .skip .ensures) _ _ (at-lay .lay-from .ensures),
     )
 
 pub merge-sound-spec : {M : Type 1} → statement M
@@ -76,7 +72,6 @@ merge-sound-spec =
     index-of-requires
     lay-from-requires
     set-head-requires
-    clear-requires
     same-length
     same-length-2
     returns)
