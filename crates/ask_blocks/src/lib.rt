@@ -130,6 +130,11 @@ fn call(
             says(answer, 0, 0)
         }
         8..=9 => listed(which, data, block_len, list, buf, count),
+        10 => {
+            let r = fat_merge::merge(table, work);
+            let answer = r.answer;
+            says(answer, 0, 0)
+        }
         _ => look(which, table, data, block_len, work, list, buf, first, count),
     }
 }
