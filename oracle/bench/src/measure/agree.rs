@@ -1,6 +1,7 @@
 //! Peers are no peers if they do less: on small tables of every kind, sound and damaged, they must answer as the library does.
 
-use crate::peers::{calls, careful, ends, sorted, walks};
+use super::sides::library_merge;
+use crate::peers::{calls, careful, ends, merge, sorted, walks};
 use compare::chance::Chance;
 use compare::{trees, volumes};
 use port::{BlockCall, Blocks, Library, Port, Tree, TreeCall};
@@ -44,6 +45,16 @@ fn block_tests(lent: &Blocks) -> bool {
         assert!(work[..lent.table.len() / 8 - 1].iter().all(|place| *place == 0));
     }
     ours.is_some()
+}
+
+fn block_merges(lent: &Blocks) {
+    let mut ours = lent.clone();
+    let number = library_merge(&mut ours);
+    for test in [careful::blocks, walks::blocks, ends::blocks] {
+        let mut theirs = lent.clone();
+        assert_eq!(merge::merge(&mut theirs.table, &mut theirs.work, test), number, "the merge of {:?}", lent.table);
+        assert!(theirs.table == ours.table, "the merge of {:?}", lent.table);
+    }
 }
 
 fn block_call(chance: &mut Chance, lent: &Blocks) {
@@ -103,6 +114,7 @@ pub fn run(quick: bool) {
         }
         damage(&mut chance, &mut lent.table, n);
         tables += block_tests(&lent) as usize;
+        block_merges(&lent);
         block_call(&mut chance, &lent);
         let mut lent = trees::any_sound(&mut chance);
         let n = lent.work.len();

@@ -38,6 +38,18 @@ fn block_tests(report: &mut Report, n: usize) {
     block_test(report, &what, ring(n, 1, Order::Any));
 }
 
+/// Half of the blocks free, single and in that order.
+fn merges(report: &mut Report, n: usize) {
+    for (order, said) in [(Order::Rising, "rising"), (Order::Falling, "falling"), (Order::Any, "in any order")] {
+        let on = OnBlocks::new(singly(n, n / 2, order, 1).0);
+        job(report, &format!("merge, {} free single blocks of {}, {said}", commas(n - n / 2), commas(n)), on.merges());
+    }
+    for shape in [Shape::Fresh, Shape::Mixed] {
+        let on = OnBlocks::new(volume(shape, n, 1).lent);
+        job(report, &format!("merge, {} blocks, {}", commas(n), shape.said()), on.merges());
+    }
+}
+
 /// Calls on one file of all blocks but one, single and in any order: beside plain Rust, and beside the library's test alone.
 fn long_file(report: &mut Report, n: usize) {
     let (mut lent, first) = singly(n, n - 1, Order::Any, 512);
@@ -143,6 +155,7 @@ pub fn run(report: &mut Report, quick: bool) {
     let (n, entries) = if quick { (8_191, 2_000) } else { (1_000_000, 65_535) };
     tree_tests(report, entries);
     block_tests(report, n);
+    merges(report, n);
     long_file(report, n);
     volumes(report, n);
     open_files(report, quick);

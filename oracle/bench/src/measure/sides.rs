@@ -1,9 +1,9 @@
 //! The sides that lines are made of: the library's calls, the peers' and the original's, over volumes that are put back before each run.
 
 use super::{digest, digest_list, Answer, Side};
-use crate::peers::{calls, careful, ends, sorted, walks};
+use crate::peers::{calls, careful, ends, merge, sorted, walks};
 use original::Volume;
-use port::{Answered, BlockCall, Blocks, Inner, Library, Port, Tree, TreeCall};
+use port::{Answered, BlockCall, Blocks, Inner, Library, Merge, Port, Tree, TreeCall};
 use std::cell::RefCell;
 
 fn answer(answered: Answered) -> Answer {
@@ -22,6 +22,14 @@ fn left(call: &BlockCall, table: &[u8], list: &[u32], buf: &[u8], data: &[u8]) -
         _ => 0,
     };
     digest(table) ^ besides.rotate_left(1)
+}
+
+/// The library's merge of a volume.
+pub fn library_merge(s: &mut Blocks) -> u64 {
+    let mut lent = Merge { table: std::mem::take(&mut s.table), work: std::mem::take(&mut s.work) };
+    let number = lent.library().number;
+    (s.table, s.work) = (lent.table, lent.work);
+    number.into()
 }
 
 /// A block volume with the table that it is put back to.
@@ -73,6 +81,19 @@ impl OnBlocks {
             self.test("several walks", move |s| told(walks::blocks(&s.table, &mut s.work))),
             self.test("by ends", move |s| told(ends::blocks(&s.table, &mut s.work))),
             self.test("library", |s| answer(Library.block_call(&BlockCall::Test, s))),
+        ]
+    }
+
+    /// The merges in plain Rust, behind each of the tests, then the library's.
+    pub fn merges(&self) -> Vec<Side<'_>> {
+        let peer = |name, test: merge::Test| {
+            self.side(name, &BlockCall::Test, move |s| [merge::merge(&mut s.table, &mut s.work, test), 0, 0])
+        };
+        vec![
+            peer("careful", careful::blocks),
+            peer("several walks", walks::blocks),
+            peer("by ends", ends::blocks),
+            self.side("library", &BlockCall::Test, |s| [library_merge(s), 0, 0]),
         ]
     }
 

@@ -6,6 +6,7 @@ pub mod careful;
 pub mod ends;
 pub mod files;
 pub mod lookup;
+pub mod merge;
 pub mod nodes;
 pub mod sorted;
 pub mod walks;
