@@ -1,7 +1,7 @@
 -- The blocks of a chain written into a list.
 use mathlib.Core.Path.{_≡_, refl, sym, ap, subst, subst⁻¹, _∙_}
 use mathlib.Core.List.{List, [], _∷_, _++_, append-assoc}
-use mathlib.Core.Logic.{inl, inr, ⊎-elim}
+use mathlib.Core.Logic.{inl, inr}
 use Prim.Native.Nat.{ℕ, zero, suc, _+_, _-_, _*_, _≤_, _<_}
 use native.Mathlib.Omega.{arith}
 use native.Mathlib.Numerals.{add-one}
@@ -13,9 +13,8 @@ use Rattle.order.specs.declared.Answer.{Answer}
 use Rattle.order.specs.declared.Answer.the-variants as is
 use Rattle.order.proofs.Tests.{test-refused, tests-passed}
 use Rattle.fat_node.specs.Entry.{Bytes}
-use Rattle.fat_node.proofs.Nodes.{le-or-lt}
 use Rattle.fat_table.specs.Sound.{File}
-use Rattle.fat_promises.specs.Calls.{listGives, listTests, listRows, listDone, ListSound}
+use Rattle.fat_promises.specs.Calls.{listGives, listTests, listRows, listDone, MayList, ListSound}
 use Rattle.fat_promises.proofs.May.{none-list}
 use Rattle.fat_inner.proofs.Found.{inside-count, file-from, says-within, says-past}
 use Rattle.fat_node.specs.Node.{Run, nextAt}
@@ -23,8 +22,8 @@ use Rattle.fat_table.specs.Chain.{total, sizeAt, chainAt, fileAt}
 use Rattle.fat_table.specs.Steps.{first}
 use Rattle.fat_promises.specs.Blocks.{blocksFrom, blocksOf}
 use Rattle.fat_inner.specs.Volume.{Volume}
-use Rattle.fat_inner.specs.inner.Chains.{Standing, Chain, SeekSays, Beyond, Least}
-use Rattle.fat_inner.specs.inner.Plans.{ListAt, ListPlanned}
+use Rattle.fat_inner.specs.inner.Chains.{Standing, Chain, SeekSays}
+use Rattle.fat_inner.specs.inner.Plans.{ListPlanned}
 use Rattle.fat_inner.specs.declared.judge.ListPlan.{ListPlan}
 use Rattle.fat_inner.specs.declared.judge.ListPlan.the-variants as list-plan
 use Rattle.fat_inner.specs.declared.walk.Sought.{Sought}
@@ -102,6 +101,10 @@ module _ (n : ℕ) (t : Bytes) (c : List Run) (l₀ : List ℕ) (i at : ℕ) (l 
   pub fill-end : i ≡ 0 → l ≡ sets l₀ 0 (blocksOf c)
   fill-end h = sym (w .done ∙ ap (λ (r : List Run). sets l at (blocksOf r)) (ended (w .rest) i (w .at-first) h))
 
+  pub fill-count : i ≡ 0 → at ≡ total c
+  fill-count h =
+      omega (arith, w .sum, ap total (w .is), total-append (w .passed) (w .rest), ap total (ended (w .rest) i (w .at-first) h))
+
   module _ (h : i ≡ 0 → ⊥) where
     abbrev here : Named (w .rest) i
     here = named (w .rest) i (w .at-first) h
@@ -153,56 +156,50 @@ listed-is c l h =
     let e : 0 + length (blocksOf c) ≡ total c = omega (arith, length-blocks c) in
     sets-eq (blocksOf c) l 0 (omega (arith, e, h)) ∙ ap (λ (j : ℕ). blocksOf c ++ drop j l) e
 
--- open list: what is sought past the list's room, or past the table's blocks
-module _ (n : ℕ) (t : Bytes) (v : Volume n t) (g : words.Bytes t) (b : ℕ) (f : File t n b) (room most : ℕ) (o : Least room n most) (r : Sought)
-    (s : SeekSays (chainAt t n (b + 1)) (most + 1) r) where
+-- open list: a file fits in as many places as there are blocks; into fewer, what is sought past the list's room tells
+module _ (n : ℕ) (t : Bytes) (v : Volume n t) (g : words.Bytes t) (b : ℕ) (f : File t n b) (room : ℕ) where
   same : total (chainAt t n (b + 1)) ≡ total (fileAt n t b)
   same = ap (λ (i : ℕ). total (chainAt t n i)) (add-one b)
 
   chain : Chain n t (chainAt t n (b + 1))
   chain = file-from n t v g b f .chain
 
-  pub list-short : (x m : ℕ) → r ≡ Within x m → Given (listTests n t b room) is.ListTooShort
-  list-short x m e =
-      let k : most + 1 ≤ total (chainAt t n (b + 1)) =
-      inside-count n t (chainAt t n (b + 1)) (most + 1) x m chain (says-within (chainAt t n (b + 1)) (most + 1) r x m s e) in
-      let l : room < total (fileAt n t b) = ⊎-elim
-      (λ h. omega (arith, h, k, same))
-      (λ h. let z : ⊥ = omega (arith, o .one h, k, chain .sum) in absurd z)
-      (le-or-lt room most) in
-      inr ((λ z. z f), inl (l, refl))
+  pub list-any : n ≤ room → MayList n t b room
+  list-any h = record { file = f; enough = omega (arith, h, chain .sum, same) }
 
-  module _ (i m : ℕ) (e : r ≡ Past i m) where
-    past : Beyond (chainAt t n (b + 1)) (most + 1) i m
-    past = says-past (chainAt t n (b + 1)) (most + 1) r i m s e
+  module _ (r : Sought) (s : SeekSays (chainAt t n (b + 1)) (room + 1) r) where
+    pub list-short : (x m : ℕ) → r ≡ Within x m → Given (listTests n t b room) is.ListTooShort
+    list-short x m e =
+        let k : room + 1 ≤ total (chainAt t n (b + 1)) =
+        inside-count n t (chainAt t n (b + 1)) (room + 1) x m chain (says-within (chainAt t n (b + 1)) (room + 1) r x m s e) in
+        let l : room < total (fileAt n t b) = omega (arith, k, same) in
+        inr ((λ z. z f), inl (l, refl))
 
-    pub list-fits : m ≤ most + 1
-    list-fits = omega (arith, past .sum)
-
-    pub list-at : ListAt n t b room (most + 1 - m)
-    list-at = record {
-      may = record { file = f; enough = omega (arith, past .sum, past .some, o .left, same) };
-      all = omega (arith, past .sum, same);
-    }
+    pub list-fits : (i m : ℕ) → r ≡ Past i m → MayList n t b room
+    list-fits i m e =
+        let p = says-past (chainAt t n (b + 1)) (room + 1) r i m s e in
+        record { file = f; enough = omega (arith, p .sum, p .some, same) }
 
 module _ (n : ℕ) (t : Bytes) (b : ℕ) (list : List ℕ) (r : ListPlan) (s : ListPlanned n t b (length list) r) where
   pub list-refused : (a : Answer) → r ≡ list-plan.Refused a → ListSound n t b list (listGives a 0 list)
   list-refused a e = test-refused (λ a. listGives a 0 list) (listDone n t b list) (listTests n t b (length list)) a (subst (ListPlanned n t b (length list)) e s)
 
-  module _ (count : ℕ) (e : r ≡ list-plan.Listing count) where
-    list-as : ListAt n t b (length list) count
-    list-as = subst (ListPlanned n t b (length list)) e s
+  module _ (e : r ≡ list-plan.Listing) where
+    may : MayList n t b (length list)
+    may = subst (ListPlanned n t b (length list)) e s
 
     pub list-file : File t n b
-    list-file = list-as .may .file
+    list-file = may .file
 
     pub list-room : total (chainAt t n (b + 1)) ≤ length list
-    list-room = omega (arith, list-as .may .enough, ap (λ (i : ℕ). total (chainAt t n i)) (add-one b))
+    list-room = omega (arith, may .enough, ap (λ (i : ℕ). total (chainAt t n i)) (add-one b))
 
-    pub list-done : (l : List ℕ) → l ≡ sets list 0 (blocksOf (chainAt t n (b + 1))) → ListSound n t b list (listGives is.Done count l)
-    list-done l p =
+    pub list-done : (count : ℕ) (l : List ℕ) → (count ≡ total (chainAt t n (b + 1))) × (l ≡ sets list 0 (blocksOf (chainAt t n (b + 1))))
+        → ListSound n t b list (listGives is.Done count l)
+    list-done count l p =
         let q : l ≡ blocksOf (fileAt n t b) ++ drop (total (fileAt n t b)) list =
-        p ∙ listed-is (chainAt t n (b + 1)) list list-room ∙ ap (λ (j : ℕ). blocksOf (chainAt t n j) ++ drop (total (chainAt t n j)) list) (add-one b) in
+        p .1 ∙ listed-is (chainAt t n (b + 1)) list list-room ∙ ap (λ (j : ℕ). blocksOf (chainAt t n j) ++ drop (total (chainAt t n j)) list) (add-one b) in
+        let k : count ≡ total (fileAt n t b) = p .0 ∙ ap (λ (j : ℕ). total (chainAt t n j)) (add-one b) in
         subst⁻¹ (λ (z : List ℕ). ListSound n t b list (listGives is.Done count z)) q
-        (subst⁻¹ (λ (z : ℕ). ListSound n t b list (listGives is.Done z (blocksOf (fileAt n t b) ++ drop (total (fileAt n t b)) list))) (list-as .all)
-        (tests-passed (λ a. listGives a 0 list) (listDone n t b list) (listTests n t b (length list)) (none-list n t b (length list) (list-as .may))))
+        (subst⁻¹ (λ (z : ℕ). ListSound n t b list (listGives is.Done z (blocksOf (fileAt n t b) ++ drop (total (fileAt n t b)) list))) k
+        (tests-passed (λ a. listGives a 0 list) (listDone n t b list) (listTests n t b (length list)) (none-list n t b (length list) may)))

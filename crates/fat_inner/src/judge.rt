@@ -11,7 +11,6 @@ use crate::walk::head_of;
 use crate::walk::is_end;
 use crate::walk::is_file;
 use crate::walk::last_of;
-use crate::walk::least;
 use crate::walk::seek;
 use order::Answer;
 
@@ -141,13 +140,13 @@ pub fn judge_delete(table: &[u8], n: usize, first_block: usize) -> DeletePlan
     DeletePlan::Join { last }
 }
 
-// What an open list will do: list so many blocks. Or its refusal.
+// What an open list will do: list the file's blocks. Or its refusal.
 pub enum ListPlan {
     Refused { answer: Answer },
-    Listing { count: usize },
+    Listing,
 }
 
-// Judges an open list of the file at a block, into a list of room places: NotAFile, ListTooShort.
+// Judges an open list of the file at a block, into a list of room places: NotAFile, ListTooShort. Into n places any file fits, and no chain is followed.
 pub fn judge_list(table: &[u8], n: usize, first_block: usize, room: usize) -> ListPlan
     requires { ⌜ Volume n (now table) ⌝ }
     ensures { λ r. ⌜ ListPlanned n (now (table .entry)) «first_block» room r ⌝ }
@@ -157,15 +156,15 @@ pub fn judge_list(table: &[u8], n: usize, first_block: usize, room: usize) -> Li
             answer: Answer::NotAFile,
         };
     }
-    let most = least(room, n);
-    let sought = seek(table, n, first_block + 1, most + 1);
-    let Sought::Past { last: _, part } = sought else {
-        return ListPlan::Refused {
+    if n <= room {
+        return ListPlan::Listing;
+    }
+    let sought = seek(table, n, first_block + 1, room + 1);
+    match sought {
+        Sought::Within { node: _, part: _ } => ListPlan::Refused {
             answer: Answer::ListTooShort,
-        };
-    };
-    ListPlan::Listing {
-        count: most + 1 - part,
+        },
+        Sought::Past { last: _, part: _ } => ListPlan::Listing,
     }
 }
 

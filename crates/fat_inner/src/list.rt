@@ -26,11 +26,11 @@ fn number_run(list: &mut [u32], at: usize, b: usize, size: usize)
     }
 }
 
-// Writes the blocks of the chain that index first starts into a list that has room for them, hopping by node.
-fn number_chain(table: &[u8], n: usize, first: usize, list: &mut [u32])
+// Writes the blocks of the chain that index first starts into a list that has room for them, hopping by node. Answers how many they are.
+fn number_chain(table: &[u8], n: usize, first: usize, list: &mut [u32]) -> usize
     requires { ⌜ ChainFrom n (now table) first ⌝ }
     requires { ⌜ total (chainAt (now table) n first) ≤ length (now list) ⌝ }
-    ensures { λ _. ⌜ now (list .exit) ≡ sets (now (list .entry)) 0 (blocksOf (chainAt (now (table .entry)) n first)) ⌝ }
+    ensures { λ r. ⌜ (r ≡ total (chainAt (now (table .entry)) n first)) × (now (list .exit) ≡ sets (now (list .entry)) 0 (blocksOf (chainAt (now (table .entry)) n first))) ⌝ }
 {
     let mut i = first;
     let mut at: usize = 0;
@@ -41,6 +41,7 @@ fn number_chain(table: &[u8], n: usize, first: usize, list: &mut [u32])
         at += size;
         i = fat_node::next_of(table, b);
     }
+    at
 }
 
 // The answer of open_list: the number of the file's blocks.
@@ -57,8 +58,8 @@ pub fn open_list_sound(table: &[u8], n: usize, first_block: usize, list: &mut [u
     let plan = judge_list(table, n, first_block, list.len());
     match plan {
         ListPlan::Refused { answer } => Listed { answer, count: 0 },
-        ListPlan::Listing { count } => {
-            number_chain(table, n, first_block + 1, list);
+        ListPlan::Listing => {
+            let count = number_chain(table, n, first_block + 1, list);
             Listed {
                 answer: Answer::Done,
                 count,

@@ -82,15 +82,10 @@ abbrev pub DeletePlanned : (n : ℕ) (t : Bytes) (b : ℕ) → DeletePlan → Ty
 DeletePlanned n t b (delete-plan.Refused a) = Given (deleteTests n t b) a
 DeletePlanned n t b (delete-plan.Join last) = DeleteAt n t b last
 
--- an open list of the file at block b into room places may be done, and the file has count blocks
-pub record ListAt (n : ℕ) (t : Bytes) (b room count : ℕ) : Type 0 where
-  pub may : MayList n t b room
-  pub all : count ≡ total (fileAt n t b)
-
 -- what the judge of an open list of the file at block b into room places tells
 abbrev pub ListPlanned : (n : ℕ) (t : Bytes) (b room : ℕ) → ListPlan → Type 0
 ListPlanned n t b room (list-plan.Refused a) = Given (listTests n t b room) a
-ListPlanned n t b room (list-plan.Listing count) = ListAt n t b room count
+ListPlanned n t b room list-plan.Listing = MayList n t b room
 
 -- what the judge of a read or write of many bytes from byte pos on tells, with blocks of l bytes
 abbrev pub CarryPlanned : (n : ℕ) (t : Bytes) (l b pos many : ℕ) → CarryPlan → Type 0

@@ -1,5 +1,5 @@
 use Rattle.fat_table.specs.Chain.{chainAt}
-use Rattle.fat_inner.proofs.Lists.{Filling, fill-begin, fill-end, fill-standing, fill-room, fill-fits, fill-next}
+use Rattle.fat_inner.proofs.Lists.{Filling, fill-begin, fill-end, fill-count, fill-standing, fill-room, fill-fits, fill-next}
 use native.Mathlib.Omega.{arith}
 use borrow.Author.Needs.{needs}
 use Prim.Native.Nat.{_-_}
@@ -48,7 +48,7 @@ same-length : tie.Need-same-length Inv-loop μ-loop
 same-length c = search needs
 
 returns : tie.Need-returns Inv-loop μ-loop
-returns c = search fill-end
+returns c = (search fill-count, search fill-end)
 
 pub number-chain-spec : {M : Type 1} → statement M
 number-chain-spec =

@@ -10,8 +10,8 @@ judge-list-requires c κs = search needs
 enum-known-plan : tie.Need-enum-known-plan
 enum-known-plan c = search needs
 
-enum-known-plan-2 : tie.Need-enum-known-plan-2
-enum-known-plan-2 c = search needs
+enum-told : tie.Need-enum-told
+enum-told c = search needs
 
 add-number-chain : tie.Need-add-number-chain
 add-number-chain c = search (file-fits, list-file)
@@ -34,7 +34,7 @@ open-list-sound-spec =
     (tie.spec
     judge-list-requires
     enum-known-plan
-    enum-known-plan-2
+    enum-told
     add-number-chain
     number-chain-requires
     returns
