@@ -1,13 +1,13 @@
 -- The chains of a sound table and their nodes, as the functions that go along them find them.
-use mathlib.Core.Path.{_≡_, sym, ap, subst, subst⁻¹, _∙_}
+use mathlib.Core.Path.{_≡_, refl, sym, ap, subst, subst⁻¹, _∙_}
 use mathlib.Core.List.{List, [], _∷_, _++_, append-assoc}
 use mathlib.Core.Bool.{Bool, true, false}
-use Prim.Native.Nat.{ℕ, _+_, _-_, _≤_}
+use Prim.Native.Nat.{ℕ, _+_, _-_, _*_, _≤_}
 use native.Mathlib.Omega.{arith}
 use native.Mathlib.Numerals.{add-one}
 use mir.Syntax.{w8, w64}
 use mir.Val.{Fits}
-use lib.ListN.{getD}
+use lib.ListN.{length, getD}
 use Rattle.words.proofs.Laws as words
 use Rattle.fat_node.specs.Entry.{Bytes}
 use Rattle.fat_node.specs.Node.{Run, nextAt}
@@ -16,7 +16,7 @@ use Rattle.fat_table.specs.Chain.{total, sizeAt, headAt, chainAt}
 use Rattle.fat_table.specs.Steps.{first}
 use Rattle.fat_table.proofs.Laying.{first-inside}
 use Rattle.fat_inner.specs.Volume.{Volume}
-use Rattle.fat_inner.specs.inner.Chains.{Standing, StandingAt, Chain, ChainFrom, Inside, LastIs, none, node, Beyond, SeekSays, LastAt}
+use Rattle.fat_inner.specs.inner.Chains.{Standing, StandingAt, Chain, ChainFrom, Inside, LastIs, none, node, Beyond, SeekSays, Seeking, Underway, Amid, LastAt}
 use Rattle.fat_inner.specs.declared.walk.Sought.{Sought}
 use Rattle.fat_inner.specs.declared.walk.Sought.the-variants.{Within, Past}
 use Rattle.fat_table.proofs.Unchanged.{total-append}
@@ -128,3 +128,71 @@ module _ (n : ℕ) (t : Bytes) (i : ℕ) (r : Sought) (c : ChainFrom n t i) (w :
 
   pub last-out-some : (j m : ℕ) → (i ≡ 0 → ⊥) → r ≡ Past j m → 1 ≤ j
   last-out-some j m h e = last-some n t i (n + 1) j m c h (says-past (chainAt t n i) (n + 1) r j m w e)
+
+-- on from a node of a chain ------------------------------------------------------------------------------
+
+module _ (n : ℕ) (t : Bytes) (l : List Run) (k b m : ℕ) (c : Chain n t l) (w : Inside l k b m) where
+  pub go-on : (q j : ℕ) → q ≡ nextAt t b → 1 ≤ j → Seeking l (total (w .before) + w .node .size + j) q (b + 1) j
+  go-on q j e h = record {
+    passed = w .before ++ w .node ∷ [];
+    rest = w .after;
+    is = w .is ∙ sym (append-assoc (w .before) (w .node ∷ []) (w .after));
+    at = sym (e ∙ ap (nextAt t) (sym (w .at)) ∙ mid-next n t (w .before) (w .node) (w .after) (subst (Chain n t) (w .is) c));
+    end = node (w .before) (w .node) refl (omega (arith, w .at));
+    sum = omega (arith, total-append (w .before) (w .node ∷ []));
+    some = h;
+  }
+
+  -- what is known of an end that is past
+  pub end-past : (h i j : ℕ) → Beyond l h i j → (1 ≤ i) × LastAt l (i - 1)
+  end-past h i j p = go (p .last)
+    where
+      go : LastIs l i → (1 ≤ i) × LastAt l (i - 1)
+      go (none e z) = let x : ⊥ = omega (arith, ap total e, inside-count n t l k b m c w, w .sum, w .some) in absurd x
+      go (node before y e z) = (omega (arith, z), record { before = before; node = y; is = e; at = omega (arith, z) })
+
+module _ (n : ℕ) (t : Bytes) (b : ℕ) (a : Amid n t b) where
+  pub amid-standing : Standing n t b
+  amid-standing = inside-standing n t (a .chain) (a .sought) b (a .part) (a .stands) (a .at)
+
+  pub amid-room : 8 * b + 16 ≤ length t
+  amid-room = let s = amid-standing in omega (arith, s .room, s .node .some, s .node .within)
+
+  pub amid-fits : Fits w64 (b + 1)
+  amid-fits = let s = amid-standing in omega (arith, s .few, s .node .some, s .node .within)
+
+  pub all-fits : Fits w64 (n + 1)
+  all-fits = omega (arith, a .stands .few)
+
+  pub amid-way : (q j : ℕ) → q ≡ nextAt t b → 1 ≤ j → Underway n t q (b + 1) j
+  amid-way q j e h = record {
+    chain = a .chain;
+    sought = total (a .at .before) + a .at .node .size + j;
+    stands = a .stands;
+    at = go-on n t (a .chain) (a .sought) b (a .part) (a .stands) (a .at) q j e h;
+  }
+
+  pub amid-all : (q : ℕ) → q ≡ nextAt t b → Underway n t q (b + 1) (n + 1)
+  amid-all q e = amid-way q (n + 1) e (omega arith)
+
+module _ (n : ℕ) (t : Bytes) (b q : ℕ) (e : q ≡ nextAt t b) (r : Sought)
+    (s : (l : List Run) (k : ℕ) → Chain n t l → Seeking l k q (b + 1) (n + 1) → SeekSays l k r) where
+  on-says : (l : List Run) (k m : ℕ) (c : Chain n t l) (w : Inside l k b m) → SeekSays l (total (w .before) + w .node .size + (n + 1)) r
+  on-says l k m c w = s l (total (w .before) + w .node .size + (n + 1)) c (go-on n t l k b m c w q (n + 1) e (omega arith))
+
+  pub last-on : (x m : ℕ) → r ≡ Within x m → (l : List Run) (k p : ℕ) → Chain n t l → Inside l k b p → LastAt l x
+  last-on x m p l k j c w =
+      let h : ℕ = total (w .before) + w .node .size + (n + 1) in
+      let z : ⊥ = omega (arith, inside-count n t l h x m c (says-within l h r x m (on-says l k j c w) p), c .sum) in
+      absurd z
+
+  pub last-end : (i m : ℕ) → r ≡ Past i m → (l : List Run) (k p : ℕ) → Chain n t l → Inside l k b p → LastAt l (i - 1)
+  last-end i m p l k j c w =
+      let h : ℕ = total (w .before) + w .node .size + (n + 1) in
+      end-past n t l k b j c w h i m (says-past l h r i m (on-says l k j c w) p) .1
+
+  pub last-end-some : (i m : ℕ) → r ≡ Past i m → Amid n t b → 1 ≤ i
+  last-end-some i m p a =
+      let h : ℕ = total (a .at .before) + a .at .node .size + (n + 1) in
+      end-past n t (a .chain) (a .sought) b (a .part) (a .stands) (a .at) h i m
+      (says-past (a .chain) h r i m (on-says (a .chain) (a .sought) (a .part) (a .stands) (a .at)) p) .0

@@ -20,7 +20,7 @@ use Rattle.fat_table.specs.Steps.{first}
 use Rattle.fat_table.proofs.Unchanged.{total-append}
 use Rattle.fat_promises.specs.Calls.{createTests, MayCreate, resizeTests, MayResize, deleteTests, listTests, carryTests}
 use Rattle.fat_inner.specs.Volume.{Volume}
-use Rattle.fat_inner.specs.inner.Chains.{Standing, Chain, ChainFrom, Inside, Beyond, SeekSays, LastAt}
+use Rattle.fat_inner.specs.inner.Chains.{Standing, Chain, ChainFrom, Inside, Beyond, SeekSays, Amid, LastAt}
 use Rattle.fat_inner.specs.inner.Plans.{CreateAt, SameAt, ShrinkAt, GrowAt, DeleteAt}
 use Rattle.fat_inner.specs.declared.walk.Sought.{Sought}
 use Rattle.fat_inner.specs.declared.walk.Sought.the-variants.{Within, Past}
@@ -102,11 +102,20 @@ module _ (n : ℕ) (t : Bytes) (v : Volume n t) (g : words.Bytes t) where
         let l : chainAt t n (b + 1) ≡ w .before ++ w .node ∷ [] = w .is ∙ ap (λ (y : List Run). w .before ++ w .node ∷ y) a in
         record { may = in-may x m p; same = omega (arith, w .sum, h .0, z, ap total l, total-append (w .before) (w .node ∷ []), file-many) }
 
+    pub in-amid : (x m : ℕ) → r ≡ Within x m → Amid n t x
+    in-amid x m p = record {
+      chain = chainAt t n (b + 1);
+      sought = c;
+      part = m;
+      stands = file-from n t v g b f .chain;
+      at = in-file x m p;
+    }
+
     -- it is in the file
-    pub resize-shrink : (y x m : ℕ) → r ≡ Within x m → LastAt (chainAt t n (b + 1)) y → ShrinkAt n t b c y x m
+    pub resize-shrink : (y x m : ℕ) → r ≡ Within x m → ((l : List Run) (k m : ℕ) → Chain n t l → Inside l k x m → LastAt l y) → ShrinkAt n t b c y x m
     resize-shrink y x m p e = record {
       may = in-may x m p;
-      end = last-file n t b y e;
+      end = last-file n t b y (e (chainAt t n (b + 1)) c m (file-from n t v g b f .chain) (in-file x m p));
       cut = subst (λ (l : List Run). Inside l c x m) (file-chain-is n t b) (in-file x m p);
     }
 

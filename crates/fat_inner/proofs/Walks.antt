@@ -6,21 +6,12 @@ use native.Mathlib.Omega.{arith}
 use lib.ListN.{length}
 use Rattle.fat_node.specs.Entry.{Bytes}
 use Rattle.fat_node.specs.Node.{Run, nextAt}
-use Rattle.fat_table.specs.Chain.{total, sizeAt}
+use Rattle.fat_table.specs.Chain.{total, sizeAt, chainAt}
 use Rattle.fat_table.specs.Steps.{first}
-use Rattle.fat_inner.specs.inner.Chains.{Standing, Chain, Inside, LastIs, none, node, Beyond}
+use Rattle.fat_inner.specs.declared.walk.Sought.{Sought}
+use Rattle.fat_inner.specs.inner.Chains.{Standing, Chain, ChainFrom, Inside, LastIs, none, node, Beyond, Seeking, SeekSays, Underway}
 use Rattle.fat_table.proofs.Unchanged.{total-append}
 use Rattle.fat_inner.proofs.Joins.{mid-size, mid-next, mid-standing, mid-pos}
-
--- a walk along l that seeks block k₀, at index i, with k blocks to go
-pub record Seeking (l : List Run) (k₀ i last k : ℕ) : Type 0 where
-  pub passed : List Run
-  pub rest : List Run
-  pub is : l ≡ passed ++ rest
-  pub at : first rest ≡ i
-  pub end : LastIs passed last
-  pub sum : k₀ ≡ total passed + k
-  pub some : 1 ≤ k
 
 -- an index that is not 0 names the first node of what it starts
 pub record Named (rest : List Run) (i : ℕ) : Type 0 where
@@ -94,3 +85,47 @@ module _ (n : ℕ) (t : Bytes) (l : List Run) (k₀ i last k : ℕ) (c : Chain n
 
     pub seek-room : 8 * (i - 1) + 16 ≤ length t
     seek-room = let s = seek-at in omega (arith, s .room, s .node .some, s .node .within)
+
+-- a walk gone on from index i₀ to index i: along each chain that it may be of
+pub record Onward (n : ℕ) (t : Bytes) (i₀ last₀ k₀ i last k : ℕ) : Type 0 where
+  pub way : Underway n t i last k
+  pub same : (l : List Run) (m : ℕ) → Chain n t l → Seeking l m i₀ last₀ k₀ → Seeking l m i last k
+
+pub on-begin : (n : ℕ) (t : Bytes) (i last k : ℕ) → Underway n t i last k → Onward n t i last k i last k
+on-begin n t i last k u = record { way = u; same = λ l m c w. w }
+
+module _ (n : ℕ) (t : Bytes) (i₀ last₀ k₀ i last k : ℕ) (o : Onward n t i₀ last₀ k₀ i last k) where
+  pub on-past : i ≡ 0 → (l : List Run) (m : ℕ) → Chain n t l → Seeking l m i₀ last₀ k₀ → Beyond l m last k
+  on-past h l m c w = seek-past n t l m i last k c (o .same l m c w) h
+
+  module _ (h : i ≡ 0 → ⊥) where
+    pub on-at : Standing n t (i - 1)
+    on-at = seek-at n t (o .way .chain) (o .way .sought) i last k (o .way .stands) (o .way .at) h
+
+    pub on-room : 8 * (i - 1) + 16 ≤ length t
+    on-room = seek-room n t (o .way .chain) (o .way .sought) i last k (o .way .stands) (o .way .at) h
+
+    pub on-within : (s : ℕ) → s ≡ sizeAt t (i - 1) → k ≤ s → (l : List Run) (m : ℕ) → Chain n t l → Seeking l m i₀ last₀ k₀ → Inside l m (i - 1) k
+    on-within s e f l m c w = seek-within n t l m i last k c (o .same l m c w) h s e f
+
+    pub on-less : (s : ℕ) → s ≡ sizeAt t (i - 1) → s < k → k - s < k
+    on-less s e f = seek-less n t (o .way .chain) (o .way .sought) i last k (o .way .stands) (o .way .at) h s e f
+
+    pub on-next : (s q : ℕ) → s ≡ sizeAt t (i - 1) → s < k → q ≡ nextAt t (i - 1) → Onward n t i₀ last₀ k₀ q i (k - s)
+    on-next s q e f p = record {
+      way = record {
+        chain = o .way .chain;
+        sought = o .way .sought;
+        stands = o .way .stands;
+        at = seek-next n t (o .way .chain) (o .way .sought) i last k (o .way .stands) (o .way .at) h s q e f p;
+      };
+      same = λ l m c w. seek-next n t l m i last k c (o .same l m c w) h s q e f p;
+    }
+
+-- a walk from a chain's first node on
+module _ (n : ℕ) (t : Bytes) (i k : ℕ) (c : ChainFrom n t i) (h : 1 ≤ k) where
+  pub from-first : Underway n t i 0 k
+  from-first = record { chain = chainAt t n i; sought = k; stands = c .chain; at = seek-begin (chainAt t n i) i k (c .at) h }
+
+  pub from-says : (r : Sought) → ((l : List Run) (m : ℕ) → Chain n t l → Seeking l m i 0 k → SeekSays l m r) → SeekSays (chainAt t n i) k r
+  from-says r s = s (chainAt t n i) k (c .chain) (seek-begin (chainAt t n i) i k (c .at) h)

@@ -10,6 +10,7 @@ use crate::walk::count_of;
 use crate::walk::head_of;
 use crate::walk::is_end;
 use crate::walk::is_file;
+use crate::walk::last_from;
 use crate::walk::last_of;
 use crate::walk::seek;
 use order::Answer;
@@ -82,7 +83,7 @@ fn judge_count(table: &[u8], n: usize, first_block: usize, block_count: usize) -
             if is_end(table, n, node, part) {
                 return ResizePlan::Same;
             }
-            let last = last_of(table, n, first_block + 1);
+            let last = last_from(table, n, node);
             ResizePlan::Shrink { last, node, part }
         }
         Sought::Past { last, part } => {

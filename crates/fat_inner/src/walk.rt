@@ -1,13 +1,14 @@
 // Going along chains of a sound table: nodes, files, and where a block of a chain lies.
 ghost use mathlib.Core.Path.{_≡_};
 ghost use mathlib.Core.Bool.{true};
-ghost use Prim.Native.Nat.{_+_, _≤_, _<_};
+ghost use mathlib.Core.List.{List};
+ghost use Prim.Native.Nat.{ℕ, _+_, _≤_, _<_};
 ghost use lib.ListN.{length};
-ghost use Rattle.fat_node.specs.Node.{prevAt, nextAt};
+ghost use Rattle.fat_node.specs.Node.{Run, prevAt, nextAt};
 ghost use Rattle.fat_table.specs.Sound.{IsNode, File};
 ghost use Rattle.fat_table.specs.Chain.{total, sizeAt, headAt, chainAt};
 ghost use Rattle.fat_inner.specs.Volume.{Volume};
-ghost use Rattle.fat_inner.specs.inner.Chains.{Standing, ChainFrom, SeekSays, LastAt, Least};
+ghost use Rattle.fat_inner.specs.inner.Chains.{Standing, Chain, ChainFrom, Inside, SeekSays, Seeking, Underway, Amid, LastAt, Least};
 use fat_node::Node;
 
 // The size of the node that stands at block b.
@@ -35,14 +36,13 @@ pub enum Sought {
     Past { last: usize, part: usize },
 }
 
-// Seeks the count-th block of the chain that index first starts, hopping by node.
-pub fn seek(table: &[u8], n: usize, first: usize, count: usize) -> Sought
-    requires { ⌜ ChainFrom n (now table) first ⌝ }
-    requires { ⌜ 1 ≤ count ⌝ }
-    ensures { λ r. ⌜ SeekSays (chainAt (now (table .entry)) n first) count r ⌝ }
+// Goes on along a chain and seeks the count-th block from there, hopping by node: index next names the next node, index last the one passed last.
+pub fn seek_on(table: &[u8], n: usize, next: usize, last: usize, count: usize) -> Sought
+    requires { ⌜ Underway n (now table) next last count ⌝ }
+    ensures { λ r. ⌜ ((l : List Run) (k : ℕ) → Chain n (now (table .entry)) l → Seeking l k next last count → SeekSays l k r) ⌝ }
 {
-    let mut i = first;
-    let mut last: usize = 0;
+    let mut i = next;
+    let mut passed = last;
     let mut k = count;
     while i != 0 {
         let b = i - 1;
@@ -51,10 +51,22 @@ pub fn seek(table: &[u8], n: usize, first: usize, count: usize) -> Sought
             return Sought::Within { node: b, part: k };
         }
         k -= size;
-        last = i;
+        passed = i;
         i = fat_node::next_of(table, b);
     }
-    Sought::Past { last, part: k }
+    Sought::Past {
+        last: passed,
+        part: k,
+    }
+}
+
+// Seeks the count-th block of the chain that index first starts.
+pub fn seek(table: &[u8], n: usize, first: usize, count: usize) -> Sought
+    requires { ⌜ ChainFrom n (now table) first ⌝ }
+    requires { ⌜ 1 ≤ count ⌝ }
+    ensures { λ r. ⌜ SeekSays (chainAt (now (table .entry)) n first) count r ⌝ }
+{
+    seek_on(table, n, first, 0, count)
 }
 
 // Whether a node starts at block b, hopping by node from block 0.
@@ -104,6 +116,19 @@ pub fn last_of(table: &[u8], n: usize, first: usize) -> usize
     ensures { λ r. ⌜ LastAt (chainAt (now (table .entry)) n first) r ⌝ }
 {
     let sought = seek(table, n, first, n + 1);
+    match sought {
+        Sought::Within { node, part: _ } => node,
+        Sought::Past { last, part: _ } => last - 1,
+    }
+}
+
+// The last node of the chain that the node at block b is in.
+pub fn last_from(table: &[u8], n: usize, b: usize) -> usize
+    requires { ⌜ Amid n (now table) b ⌝ }
+    ensures { λ r. ⌜ ((l : List Run) (k m : ℕ) → Chain n (now (table .entry)) l → Inside l k b m → LastAt l r) ⌝ }
+{
+    let next = fat_node::next_of(table, b);
+    let sought = seek_on(table, n, next, b + 1, n + 1);
     match sought {
         Sought::Within { node, part: _ } => node,
         Sought::Past { last, part: _ } => last - 1,

@@ -66,6 +66,31 @@ abbrev pub SeekSays : List Run → ℕ → Sought → Type 0
 SeekSays l k (Within b m) = Inside l k b m
 SeekSays l k (Past i m) = Beyond l k i m
 
+-- a walk along a chain to its k-th block: index i names the next node, index last the one passed last, and m blocks are to go
+pub record Seeking (l : List Run) (k i last m : ℕ) : Type 0 where
+  pub passed : List Run
+  pub rest : List Run
+  pub is : l ≡ passed ++ rest
+  pub at : first rest ≡ i
+  pub end : LastIs passed last
+  pub sum : k ≡ total passed + m
+  pub some : 1 ≤ m
+
+-- such a walk is under way along some chain of the table
+pub record Underway (n : ℕ) (t : Bytes) (i last m : ℕ) : Type 0 where
+  pub chain : List Run
+  pub sought : ℕ
+  pub stands : Chain n t chain
+  pub at : Seeking chain sought i last m
+
+-- a node of some chain of the table is at block b
+pub record Amid (n : ℕ) (t : Bytes) (b : ℕ) : Type 0 where
+  pub chain : List Run
+  pub sought : ℕ
+  pub part : ℕ
+  pub stands : Chain n t chain
+  pub at : Inside chain sought b part
+
 -- the last node of a chain is at block b
 pub record LastAt (l : List Run) (b : ℕ) : Type 0 where
   pub before : List Run

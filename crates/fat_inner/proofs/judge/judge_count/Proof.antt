@@ -1,5 +1,4 @@
-use native.Mathlib.Omega.{arith}
-use Rattle.fat_inner.proofs.Judges.{in-standing, resize-same, resize-shrink, past-some, past-last, resize-grow, resize-full}
+use Rattle.fat_inner.proofs.Judges.{in-standing, in-amid, resize-same, resize-shrink, past-some, past-last, resize-grow, resize-full}
 use Rattle.fat_inner.proofs.Found.{head-chain, file-from, are-bytes}
 use borrow.Author.Needs.{needs}
 use Rattle.fat_inner.proofs.judge.judge_count.Statement.{statement}
@@ -20,11 +19,8 @@ is-end-requires c κs = search (in-standing, are-bytes)
 returns : tie.Need-returns
 returns c = search (resize-same, are-bytes)
 
-add-last-of : tie.Need-add-last-of
-add-last-of c = search needs
-
-last-of-requires : tie.Need-last-of-requires
-last-of-requires c κs = (search (file-from, are-bytes), λ e. omega (arith, e))
+last-from-requires : tie.Need-last-from-requires
+last-from-requires c κs = search (in-amid, are-bytes)
 
 enum-known-sought-2 : tie.Need-enum-known-sought-2
 enum-known-sought-2 c = search needs
@@ -38,8 +34,8 @@ seek-requires-2 c κs = (search (head-chain, are-bytes), search (past-some, are-
 enum-known-more : tie.Need-enum-known-more
 enum-known-more c = search needs
 
-sub-t20 : tie.Need-sub-t20
-sub-t20 c = search (past-last, are-bytes)
+sub-t19 : tie.Need-sub-t19
+sub-t19 c = search (past-last, are-bytes)
 
 enum-told : tie.Need-enum-told
 enum-told c = search needs
@@ -62,13 +58,12 @@ judge-count-spec =
     enum-known-sought
     is-end-requires
     returns
-    add-last-of
-    last-of-requires
+    last-from-requires
     enum-known-sought-2
     head-of-requires
     seek-requires-2
     enum-known-more
-    sub-t20
+    sub-t19
     enum-told
     returns-2
     returns-3
