@@ -1,10 +1,9 @@
 -- Read and write: along a chain, a node's share at a time.
 use mathlib.Core.Path.{_≡_, refl, sym, ap, subst, subst⁻¹, _∙_}
 use mathlib.Core.List.{List, [], _∷_, _++_, append-assoc}
-use mathlib.Core.Logic.{inl, inr, ⊎-elim}
+use mathlib.Core.Logic.{⊎-elim}
 use Prim.Native.Nat.{ℕ, suc, _+_, _-_, _*_, _/_, _%_, _≤_, _<_}
 use native.Mathlib.Omega.{arith}
-use native.Mathlib.Numerals.{add-one}
 use native.Mathlib.Nat.{add-mul, suc-mul, mod-lt, div-add-mod', div-lt-iff-lt-mul, mul-le-mul, mul-le-mul-right, one-le-mul}
 use mathlib.Core.Bool.{Bool, true, false}
 use lib.Dec.{ltb}
@@ -14,33 +13,17 @@ use lib.Seq.{sets, length-sets, length-take-le, take-length, take-add}
 use Rattle.fat_node.specs.Entry.{Bytes}
 use Rattle.fat_node.specs.Node.{Run, nextAt}
 use Rattle.fat_node.proofs.Nodes.{le-or-lt}
-use Rattle.order.specs.First.{First}
-use Rattle.order.specs.Given.{Given}
-use Rattle.order.specs.declared.Answer.{Answer}
-use Rattle.order.specs.declared.Answer.the-variants as is
-use Rattle.order.proofs.Tests.{test-refused, tests-passed}
-use mir.Syntax.{w64}
-use mir.Val.{Fits}
-use Rattle.words.proofs.Laws as words
-use Rattle.fat_node.specs.Sizes.{blocks}
-use Rattle.fat_table.specs.Sound.{File}
-use Rattle.fat_table.specs.Chain.{total, sizeAt, chainAt}
+use Rattle.fat_table.specs.Chain.{total, sizeAt}
 use Rattle.fat_table.specs.Steps.{first}
 use Rattle.fat_promises.specs.Blocks.{blocksOf, bytesAt, written}
-use Rattle.fat_promises.specs.Calls.{Carry, carryGives, carryTests, MayCarry, carryRows, readDone, writeDone, sizeOf}
-use Rattle.fat_promises.proofs.May.{none-carry}
-use Rattle.fat_inner.specs.Volume.{Volume, Data}
-use Rattle.fat_inner.specs.inner.Chains.{Standing, Chain, ChainFrom, SeekSays, Least}
-use Rattle.fat_inner.specs.inner.Plans.{CarryPlanned}
-use Rattle.fat_inner.specs.declared.judge.CarryPlan.{CarryPlan}
-use Rattle.fat_inner.specs.declared.judge.CarryPlan.the-variants as carry-plan
+use Rattle.fat_inner.specs.inner.Chains.{Standing, Chain, SeekSays, Least}
 use Rattle.fat_inner.specs.inner.Stretches.{CursorAt, StretchOf}
 use Rattle.fat_inner.specs.declared.walk.Sought.{Sought}
 use Rattle.fat_inner.specs.declared.walk.Sought.the-variants.{Within, Past}
 use Rattle.fat_table.proofs.Unchanged.{total-append}
 use Rattle.fat_inner.proofs.Joins.{mid-size, mid-next, mid-standing, mid-pos, mid-within}
 use Rattle.fat_inner.proofs.Cases.{standing-size}
-use Rattle.fat_inner.proofs.Found.{inside-count, file-from, says-within, says-past}
+use Rattle.fat_inner.proofs.Found.{says-within, says-past}
 use Rattle.fat_inner.proofs.Lists.{sets-append}
 use Rattle.fat_inner.proofs.Puts.{lent-back, sets-whole}
 use Rattle.fat_inner.proofs.InRow.{length-bytes, bytes-split, bytes-row, written-append, written-row, InRow, in-row}
@@ -48,19 +31,6 @@ use Rattle.fat_inner.proofs.InRow.{length-bytes, bytes-split, bytes-row
 -- so many blocks have no more bytes than the largest volume
 pub few-bytes : (n l b : ℕ) → n ≤ 1000000 → l ≤ 65536 → b ≤ n → b * l ≤ 65536000000
 few-bytes n l b h k e = omega (arith, mul-le-mul {n₁ = b} {m₁ = l} {n₂ = 1000000} {m₂ = 65536} (omega (arith, h, e)) k)
-
--- more blocks are sought than there are: so they are counted
-module _ (n : ℕ) (t : Bytes) (i : ℕ) (r : Sought) (c : ChainFrom n t i) (w : SeekSays (chainAt t n i) (n + 1) r) where
-  pub count-in : (b m k : ℕ) → r ≡ Within b m → k ≡ total (chainAt t n i)
-  count-in b m k e =
-      let z : ⊥ = omega (arith, inside-count n t (chainAt t n i) (n + 1) b m (c .chain) (says-within (chainAt t n i) (n + 1) r b m w e), c .chain .sum) in
-      absurd z
-
-  pub count-out : (j m : ℕ) → r ≡ Past j m → n + 1 - m ≡ total (chainAt t n i)
-  count-out j m e = let p = says-past (chainAt t n i) (n + 1) r j m w e in omega (arith, p .sum)
-
-  pub count-fits : (j m : ℕ) → r ≡ Past j m → m ≤ n + 1
-  count-fits j m e = let p = says-past (chainAt t n i) (n + 1) r j m w e in omega (arith, p .sum)
 
 -- the cursor --------------------------------------------------------------------------------------------------------------
 
@@ -338,7 +308,7 @@ module _ (n : ℕ) (t : Bytes) (c : List Run) (l pos i f done many at len next :
 
 -- the end of a file -------------------------------------------------------------------------------------------------------
 
-abbrev Passes : Bool → ℕ → ℕ → ℕ → Type 0
+abbrev pub Passes : Bool → ℕ → ℕ → ℕ → Type 0
 Passes r size pos len = (r ≡ true → size < pos + len) × (r ≡ false → pos + len ≤ size)
 
 pub passes-before : (size pos len : ℕ) → size < pos → Passes true size pos len
@@ -346,51 +316,3 @@ passes-before size pos len h = ((λ e. omega (arith, h)), (λ e. let z : _≡_ {
 
 pub passes-after : (size pos len : ℕ) → pos ≤ size → Passes (ltb (size - pos) len) size pos len
 passes-after size pos len h = ((λ e. omega (arith, h, ltb-true (size - pos) len e)), (λ e. omega (arith, h, ltb-false (size - pos) len e)))
-
--- the judge ---------------------------------------------------------------------------------------------------------------
-
-pub size-fits : (n : ℕ) (t : Bytes) (l b k : ℕ) → Volume n t → words.Bytes t → l ≤ 65536 → File t n b → k ≡ total (chainAt t n (b + 1)) → Fits w64 (k * l)
-size-fits n t l b k v g h f e = omega (arith, few-bytes n l k (v .few) h (omega (arith, e, file-from n t v g b f .chain .sum)))
-
-module _ (n : ℕ) (t : Bytes) (l b pos many k : ℕ) (f : File t n b) (e : k ≡ total (chainAt t n (b + 1))) (o : Bool) (w : Passes o (k * l) pos many) where
-  size-is : k * l ≡ sizeOf n t l b
-  size-is = ap (λ (x : ℕ). x * l) (e ∙ ap (λ (i : ℕ). total (chainAt t n i)) (add-one b))
-
-  pub carry-past : o ≡ true → Given (carryTests n t l b pos many) is.OutOfBound
-  carry-past z = inr ((λ q. q f), inl (omega (arith, w .0 z, size-is), refl))
-
-  pub carry-within : o ≡ false → MayCarry n t l b pos many
-  carry-within z = record { file = f; enough = omega (arith, w .1 z, size-is) }
-
--- the calls ---------------------------------------------------------------------------------------------------------------
-
-module _ (n : ℕ) (t : Bytes) (l b pos many : ℕ) (r : CarryPlan) (s : CarryPlanned n t l b pos many r) where
-  pub carry-refused : (bytes : Bytes) (done : Carry) (a : Answer) → r ≡ carry-plan.Refused a → First (carryRows n t l b pos many bytes) done (carryGives a bytes)
-  carry-refused bytes done a e = test-refused (λ a. carryGives a bytes) done (carryTests n t l b pos many) a (subst (CarryPlanned n t l b pos many) e s)
-
-  module _ (e : r ≡ carry-plan.Within) where
-    may : MayCarry n t l b pos many
-    may = subst (CarryPlanned n t l b pos many) e s
-
-    pub carry-file : File t n b
-    carry-file = may .file
-
-    pub carry-room : pos + many ≤ total (chainAt t n (b + 1)) * l
-    carry-room = omega (arith, may .enough, ap (λ (i : ℕ). total (chainAt t n i) * l) (add-one b))
-
-    done-as : (bytes : Bytes) (done : Carry) (o : Carry) → o ≡ done → First (carryRows n t l b pos many bytes) done o
-    done-as bytes done o q =
-        subst⁻¹ (λ (z : Carry). First (carryRows n t l b pos many bytes) done z) q
-        (tests-passed (λ a. carryGives a bytes) done (carryTests n t l b pos many) (none-carry n t b l pos many may))
-
-    pub read-done : (d buf u : Bytes) → u ≡ bytesAt (length buf) d l (blocksOf (chainAt t n (b + 1))) pos
-        → First (carryRows n t l b pos many buf) (readDone n t d l b pos buf) (carryGives is.Done u)
-    read-done d buf u q =
-        done-as buf (readDone n t d l b pos buf) (carryGives is.Done u)
-        (ap (carryGives is.Done) (q ∙ ap (λ (i : ℕ). bytesAt (length buf) d l (blocksOf (chainAt t n i)) pos) (add-one b)))
-
-    pub write-done : (d buf u : Bytes) → u ≡ written buf d l (blocksOf (chainAt t n (b + 1))) pos
-        → First (carryRows n t l b pos many d) (writeDone n t d l b pos buf) (carryGives is.Done u)
-    write-done d buf u q =
-        done-as d (writeDone n t d l b pos buf) (carryGives is.Done u)
-        (ap (carryGives is.Done) (q ∙ ap (λ (i : ℕ). written buf d l (blocksOf (chainAt t n i)) pos) (add-one b)))

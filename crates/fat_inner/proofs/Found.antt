@@ -164,16 +164,13 @@ module _ (n : ℕ) (t : Bytes) (b : ℕ) (a : Amid n t b) where
   pub all-fits : Fits w64 (n + 1)
   all-fits = omega (arith, a .stands .few)
 
-  pub amid-way : (q j : ℕ) → q ≡ nextAt t b → 1 ≤ j → Underway n t q (b + 1) j
-  amid-way q j e h = record {
+  pub amid-way : (q j : ℕ) → q ≡ nextAt t b → Underway n t q (b + 1) (j + 1)
+  amid-way q j e = record {
     chain = a .chain;
-    sought = total (a .at .before) + a .at .node .size + j;
+    sought = total (a .at .before) + a .at .node .size + (j + 1);
     stands = a .stands;
-    at = go-on n t (a .chain) (a .sought) b (a .part) (a .stands) (a .at) q j e h;
+    at = go-on n t (a .chain) (a .sought) b (a .part) (a .stands) (a .at) q (j + 1) e (omega arith);
   }
-
-  pub amid-all : (q : ℕ) → q ≡ nextAt t b → Underway n t q (b + 1) (n + 1)
-  amid-all q e = amid-way q (n + 1) e (omega arith)
 
 module _ (n : ℕ) (t : Bytes) (b q : ℕ) (e : q ≡ nextAt t b) (r : Sought)
     (s : (l : List Run) (k : ℕ) → Chain n t l → Seeking l k q (b + 1) (n + 1) → SeekSays l k r) where

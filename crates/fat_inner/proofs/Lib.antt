@@ -12,3 +12,4 @@ pub mod Copied
 pub mod InRow
 pub mod Puts
 pub mod Carries
+pub mod Reached

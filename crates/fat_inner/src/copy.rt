@@ -1,20 +1,20 @@
 // Read and write on sound tables: they follow a chain and leave the table as it is.
 ghost use mathlib.Core.Path.{_≡_};
-ghost use Prim.Native.Nat.{_+_, _*_, _≤_, _<_};
+ghost use mathlib.Core.List.{List};
+ghost use Prim.Native.Nat.{ℕ, _+_, _*_, _≤_, _<_};
 ghost use lib.ListN.{length};
 ghost use lib.Seq.{sets};
-ghost use Rattle.fat_table.specs.Chain.{total, sizeAt, chainAt};
+ghost use Rattle.fat_node.specs.Node.{Run};
+ghost use Rattle.fat_table.specs.Chain.{sizeAt};
 ghost use Rattle.fat_promises.specs.Blocks.{blocksOf, bytesAt, written};
 ghost use Rattle.fat_promises.specs.Calls.{carryGives, ReadSound, WriteSound};
 ghost use Rattle.fat_inner.specs.Volume.{Volume, Data};
-ghost use Rattle.fat_inner.specs.inner.Chains.{Standing, ChainFrom};
-ghost use Rattle.fat_inner.specs.inner.Stretches.{CursorAt, StretchOf};
+ghost use Rattle.fat_inner.specs.inner.Chains.{Standing};
+ghost use Rattle.fat_inner.specs.inner.Stretches.{StretchOf, Carries, CarriesAt};
 use crate::judge::CarryPlan;
 use crate::judge::judge_carry;
 use crate::step::Answered;
-use crate::walk::Sought;
 use crate::walk::least;
-use crate::walk::seek;
 use crate::walk::size_at;
 use order::Answer;
 
@@ -29,28 +29,6 @@ fn copy(dst: &mut [u8], src: &[u8])
     while i < len {
         dst[i] = src[i];
         i += 1;
-    }
-}
-
-// Where a byte of a file lies: byte `from` of the node that index `node` names.
-struct Cursor {
-    node: usize,
-    from: usize,
-}
-
-// Where byte pos of the file lies whose chain index first starts. At the end of the file it says nothing.
-fn cursor_at(table: &[u8], block_len: usize, n: usize, first: usize, pos: usize) -> Cursor
-    requires { ⌜ ChainFrom n (now table) first ⌝ }
-    requires { ⌜ (1 ≤ «block_len») × («block_len» ≤ 65536) × (pos ≤ total (chainAt (now table) n first) * «block_len») ⌝ }
-    ensures { λ r. ⌜ (pos < total (chainAt (now (table .entry)) n first) * «block_len» → CursorAt (chainAt (now (table .entry)) n first) «block_len» pos (r .node) (r .from)) ⌝ }
-{
-    let sought = seek(table, n, first, pos / block_len + 1);
-    match sought {
-        Sought::Within { node, part } => Cursor {
-            node: node + 1,
-            from: (part - 1) * block_len + pos % block_len,
-        },
-        Sought::Past { last: _, part: _ } => Cursor { node: 0, from: 0 },
     }
 }
 
@@ -81,35 +59,33 @@ fn stretch_at(
     Stretch { at, len, next }
 }
 
-// Reads bytes of the file whose chain index first starts, from byte pos on: a copy for each node that they lie in.
+// Reads bytes of a chain, from byte `from` of the node that index `index` names on: a copy for each node that they lie in.
 fn fetch(
     table: &[u8],
     data: &[u8],
     block_len: usize,
     n: usize,
-    first: usize,
-    pos: usize,
+    index: usize,
+    from: usize,
     buf: &mut [u8],
 )
-    requires { ⌜ ChainFrom n (now table) first ⌝ }
+    requires { ⌜ Carries n (now table) «block_len» (length (now buf)) index from ⌝ }
     requires { ⌜ Data n (length (now «data»)) «block_len» ⌝ }
-    requires { ⌜ pos + length (now buf) ≤ total (chainAt (now table) n first) * «block_len» ⌝ }
-    ensures { λ _. ⌜ now (buf .exit) ≡ bytesAt (length (now (buf .entry))) (now («data» .entry)) «block_len» (blocksOf (chainAt (now (table .entry)) n first)) pos ⌝ }
+    ensures { λ _. ⌜ ((c : List Run) (pos : ℕ) → CarriesAt n (now (table .entry)) «block_len» c pos (length (now (buf .entry))) index from → now (buf .exit) ≡ bytesAt (length (now (buf .entry))) (now («data» .entry)) «block_len» (blocksOf c) pos) ⌝ }
 {
     let len = buf.len();
-    let c = cursor_at(table, block_len, n, first, pos);
-    let mut node = c.node;
-    let mut from = c.from;
+    let mut i = index;
+    let mut f = from;
     let mut done: usize = 0;
     while done < len {
-        let s = stretch_at(table, block_len, n, node - 1, from, len - done);
+        let s = stretch_at(table, block_len, n, i - 1, f, len - done);
         let at = s.at;
         let to = at + s.len;
         let end = done + s.len;
         copy(&mut buf[done..end], &data[at..to]);
         done = end;
-        from = 0;
-        node = s.next;
+        f = 0;
+        i = s.next;
     }
 }
 
@@ -130,33 +106,31 @@ fn put_row(data: &mut [u8], block_len: usize, at: usize, buf: &[u8])
     }
 }
 
-// Writes bytes of the file whose chain index first starts, from byte pos on, node by node.
+// Writes bytes of a chain, from byte `from` of the node that index `index` names on, node by node.
 fn store(
     table: &[u8],
     data: &mut [u8],
     block_len: usize,
     n: usize,
-    first: usize,
-    pos: usize,
+    index: usize,
+    from: usize,
     buf: &[u8],
 )
-    requires { ⌜ ChainFrom n (now table) first ⌝ }
+    requires { ⌜ Carries n (now table) «block_len» (length (now buf)) index from ⌝ }
     requires { ⌜ Data n (length (now «data»)) «block_len» ⌝ }
-    requires { ⌜ pos + length (now buf) ≤ total (chainAt (now table) n first) * «block_len» ⌝ }
-    ensures { λ _. ⌜ now («data» .exit) ≡ written (now (buf .entry)) (now («data» .entry)) «block_len» (blocksOf (chainAt (now (table .entry)) n first)) pos ⌝ }
+    ensures { λ _. ⌜ ((c : List Run) (pos : ℕ) → CarriesAt n (now (table .entry)) «block_len» c pos (length (now (buf .entry))) index from → now («data» .exit) ≡ written (now (buf .entry)) (now («data» .entry)) «block_len» (blocksOf c) pos) ⌝ }
 {
     let len = buf.len();
-    let c = cursor_at(table, block_len, n, first, pos);
-    let mut node = c.node;
-    let mut from = c.from;
+    let mut i = index;
+    let mut f = from;
     let mut done: usize = 0;
     while done < len {
-        let s = stretch_at(table, block_len, n, node - 1, from, len - done);
+        let s = stretch_at(table, block_len, n, i - 1, f, len - done);
         let end = done + s.len;
         put_row(data, block_len, s.at, &buf[done..end]);
         done = end;
-        from = 0;
-        node = s.next;
+        f = 0;
+        i = s.next;
     }
 }
 
@@ -177,8 +151,8 @@ pub fn read_sound(
     let plan = judge_carry(table, n, block_len, first_block, pos, buf.len());
     match plan {
         CarryPlan::Refused { answer } => Answered { answer },
-        CarryPlan::Within => {
-            fetch(table, data, block_len, n, first_block + 1, pos, buf);
+        CarryPlan::Within { index, from } => {
+            fetch(table, data, block_len, n, index, from, buf);
             Answered {
                 answer: Answer::Done,
             }
@@ -203,8 +177,8 @@ pub fn write_sound(
     let plan = judge_carry(table, n, block_len, first_block, pos, buf.len());
     match plan {
         CarryPlan::Refused { answer } => Answered { answer },
-        CarryPlan::Within => {
-            store(table, data, block_len, n, first_block + 1, pos, buf);
+        CarryPlan::Within { index, from } => {
+            store(table, data, block_len, n, index, from, buf);
             Answered {
                 answer: Answer::Done,
             }

@@ -1,18 +1,23 @@
 // What a call will answer on a sound table, known before its first write, with what its step needs. Nothing is changed here.
 ghost use mathlib.Core.Path.{_≡_};
 ghost use mathlib.Core.Bool.{true, false};
-ghost use Prim.Native.Nat.{_+_, _≤_, _<_};
+ghost use mathlib.Core.List.{List};
+ghost use Prim.Native.Nat.{ℕ, _+_, _*_, _≤_, _<_};
+ghost use Rattle.fat_node.specs.Node.{Run};
 ghost use Rattle.fat_table.specs.Sound.{File};
 ghost use Rattle.fat_inner.specs.Volume.{Volume};
+ghost use Rattle.fat_inner.specs.inner.Chains.{Chain, Amid};
+ghost use Rattle.fat_inner.specs.inner.Stretches.{CursorAt, Reaches};
 ghost use Rattle.fat_inner.specs.inner.Plans.{CreatePlanned, ResizePlanned, DeletePlanned, ListPlanned, CarryPlanned};
 use crate::walk::Sought;
-use crate::walk::count_of;
 use crate::walk::head_of;
 use crate::walk::is_end;
 use crate::walk::is_file;
 use crate::walk::last_from;
 use crate::walk::last_of;
 use crate::walk::seek;
+use crate::walk::seek_on;
+use crate::walk::size_at;
 use order::Answer;
 
 // What a create will do: its file, of first block `first`, is the free chain cut after `part` blocks of the node at block `node`. Or its refusal.
@@ -179,10 +184,68 @@ fn passes(size: usize, pos: usize, len: usize) -> bool
     size - pos < len
 }
 
-// Whether a read or a write lies within the file. Or its refusal.
+// Whether a file goes on for len bytes, from byte `from` of its node at block b on. Its chain is followed as far as they reach.
+fn goes_on(table: &[u8], n: usize, block_len: usize, b: usize, from: usize, len: usize) -> bool
+    requires { ⌜ Amid n (now table) b ⌝ }
+    requires { ⌜ (1 ≤ «block_len») × («block_len» ≤ 65536) × (from + len ≤ 131072000000) ⌝ }
+    ensures { λ r. ⌜ ((c : List Run) (p : ℕ) → Chain n (now (table .entry)) c → CursorAt c «block_len» p (b + 1) from → Reaches c «block_len» p len r) ⌝ }
+{
+    let reach = size_at(table, n, b) * block_len;
+    let end = from + len;
+    if end <= reach {
+        return true;
+    }
+    let next = fat_node::next_of(table, b);
+    let sought = seek_on(table, n, next, b + 1, (end - reach - 1) / block_len + 1);
+    match sought {
+        Sought::Within { node: _, part: _ } => true,
+        Sought::Past { last: _, part: _ } => false,
+    }
+}
+
+// A read or a write lies within the file, and its first byte is byte `from` of the node that index `index` names; at the file's end they say nothing. Or
+// its refusal.
 pub enum CarryPlan {
     Refused { answer: Answer },
-    Within,
+    Within { index: usize, from: usize },
+}
+
+// Judges a read or write of so many bytes of a file from byte pos on, no more than there are data: OutOfBound.
+fn judge_bytes(
+    table: &[u8],
+    n: usize,
+    block_len: usize,
+    first_block: usize,
+    pos: usize,
+    len: usize,
+) -> CarryPlan
+    requires { ⌜ Volume n (now table) ⌝ }
+    requires { ⌜ File (now table) n «first_block» ⌝ }
+    requires { ⌜ (1 ≤ «block_len») × («block_len» ≤ 65536) × (pos + len ≤ n * «block_len») ⌝ }
+    ensures { λ r. ⌜ CarryPlanned n (now (table .entry)) «block_len» «first_block» pos len r ⌝ }
+{
+    let count = pos / block_len + 1;
+    let sought = seek(table, n, first_block + 1, count);
+    match sought {
+        Sought::Within { node, part } => {
+            let from = (part - 1) * block_len + pos % block_len;
+            if goes_on(table, n, block_len, node, from, len) {
+                let index = node + 1;
+                return CarryPlan::Within { index, from };
+            }
+            CarryPlan::Refused {
+                answer: Answer::OutOfBound,
+            }
+        }
+        Sought::Past { last: _, part } => {
+            if passes((count - part) * block_len, pos, len) {
+                return CarryPlan::Refused {
+                    answer: Answer::OutOfBound,
+                };
+            }
+            CarryPlan::Within { index: 0, from: 0 }
+        }
+    }
 }
 
 // Judges a read or write of so many bytes of the file at a block, from byte pos on: NotAFile, OutOfBound.
@@ -195,7 +258,7 @@ pub fn judge_carry(
     len: usize,
 ) -> CarryPlan
     requires { ⌜ Volume n (now table) ⌝ }
-    requires { ⌜ «block_len» ≤ 65536 ⌝ }
+    requires { ⌜ (1 ≤ «block_len») × («block_len» ≤ 65536) ⌝ }
     ensures { λ r. ⌜ CarryPlanned n (now (table .entry)) «block_len» «first_block» pos len r ⌝ }
 {
     if !is_file(table, n, first_block) {
@@ -203,11 +266,10 @@ pub fn judge_carry(
             answer: Answer::NotAFile,
         };
     }
-    let size = count_of(table, n, first_block + 1) * block_len;
-    if passes(size, pos, len) {
+    if passes(n * block_len, pos, len) {
         return CarryPlan::Refused {
             answer: Answer::OutOfBound,
         };
     }
-    CarryPlan::Within
+    judge_bytes(table, n, block_len, first_block, pos, len)
 }

@@ -6,7 +6,7 @@ ghost use Prim.Native.Nat.{ℕ, _+_, _≤_, _<_};
 ghost use lib.ListN.{length};
 ghost use Rattle.fat_node.specs.Node.{Run, prevAt, nextAt};
 ghost use Rattle.fat_table.specs.Sound.{IsNode, File};
-ghost use Rattle.fat_table.specs.Chain.{total, sizeAt, headAt, chainAt};
+ghost use Rattle.fat_table.specs.Chain.{sizeAt, headAt, chainAt};
 ghost use Rattle.fat_inner.specs.Volume.{Volume};
 ghost use Rattle.fat_inner.specs.inner.Chains.{Standing, Chain, ChainFrom, Inside, SeekSays, Seeking, Underway, Amid, LastAt, Least};
 use fat_node::Node;
@@ -132,18 +132,6 @@ pub fn last_from(table: &[u8], n: usize, b: usize) -> usize
     match sought {
         Sought::Within { node, part: _ } => node,
         Sought::Past { last, part: _ } => last - 1,
-    }
-}
-
-// The number of blocks of the chain that index first starts.
-pub fn count_of(table: &[u8], n: usize, first: usize) -> usize
-    requires { ⌜ ChainFrom n (now table) first ⌝ }
-    ensures { λ r. ⌜ r ≡ total (chainAt (now (table .entry)) n first) ⌝ }
-{
-    let sought = seek(table, n, first, n + 1);
-    match sought {
-        Sought::Within { node: _, part: _ } => 0,
-        Sought::Past { last: _, part } => n + 1 - part,
     }
 }
 

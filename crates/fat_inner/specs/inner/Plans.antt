@@ -1,13 +1,14 @@
 -- What the judges say: a refusal is what the call's tests give; else no test applies, and these are the places where the step writes.
 use mathlib.Core.Path.{_≡_}
 use mathlib.Core.List.{_++_}
-use Prim.Native.Nat.{ℕ, _-_, _<_}
+use Prim.Native.Nat.{ℕ, _-_, _*_, _<_}
 use Rattle.order.specs.Given.{Given}
 use Rattle.fat_node.specs.Entry.{Bytes}
 use Rattle.fat_table.specs.Chain.{total, freeAt, fileAt}
 use Rattle.fat_table.specs.Steps.{createdAt}
 use Rattle.fat_promises.specs.Calls.{createTests, MayCreate, resizeTests, MayResize, deleteTests, MayDelete, listTests, MayList, carryTests, MayCarry}
 use Rattle.fat_inner.specs.inner.Chains.{Inside, LastAt}
+use Rattle.fat_inner.specs.inner.Stretches.{CursorAt}
 use Rattle.fat_inner.specs.declared.judge.CreatePlan.{CreatePlan}
 use Rattle.fat_inner.specs.declared.judge.CreatePlan.the-variants as create-plan
 use Rattle.fat_inner.specs.declared.judge.ResizePlan.{ResizePlan}
@@ -87,7 +88,12 @@ abbrev pub ListPlanned : (n : ℕ) (t : Bytes) (b room : ℕ) → ListPlan → T
 ListPlanned n t b room (list-plan.Refused a) = Given (listTests n t b room) a
 ListPlanned n t b room list-plan.Listing = MayList n t b room
 
+-- a read or write of many bytes from byte pos on may be done, and the first of them is byte f of the node that index i names
+pub record CarryAt (n : ℕ) (t : Bytes) (l b pos many i f : ℕ) : Type 0 where
+  pub may : MayCarry n t l b pos many
+  pub at : pos < total (fileAt n t b) * l → CursorAt (fileAt n t b) l pos i f
+
 -- what the judge of a read or write of many bytes from byte pos on tells, with blocks of l bytes
 abbrev pub CarryPlanned : (n : ℕ) (t : Bytes) (l b pos many : ℕ) → CarryPlan → Type 0
 CarryPlanned n t l b pos many (carry-plan.Refused a) = Given (carryTests n t l b pos many) a
-CarryPlanned n t l b pos many carry-plan.Within = MayCarry n t l b pos many
+CarryPlanned n t l b pos many (carry-plan.Within i f) = CarryAt n t l b pos many i f

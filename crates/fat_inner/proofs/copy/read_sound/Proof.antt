@@ -1,5 +1,5 @@
-use Rattle.fat_inner.proofs.Carries.{carry-refused, carry-file, carry-room, read-done}
-use Rattle.fat_inner.proofs.Found.{file-fits, file-from, are-bytes}
+use Rattle.fat_inner.proofs.Reached.{carry-refused, carry-goes, read-done}
+use Rattle.fat_inner.proofs.Found.{are-bytes}
 use borrow.Author.Needs.{needs}
 use Rattle.fat_inner.proofs.copy.read_sound.Statement.{statement}
 use Rattle.fat_inner.proofs.copy.read_sound.Tie as tie
@@ -10,14 +10,11 @@ judge-carry-requires c κs = search needs
 enum-known-plan : tie.Need-enum-known-plan
 enum-known-plan c = search needs
 
-enum-told : tie.Need-enum-told
-enum-told c = search needs
-
-add-fetch : tie.Need-add-fetch
-add-fetch c = search (file-fits, carry-file)
+enum-known-plan-2 : tie.Need-enum-known-plan-2
+enum-known-plan-2 c = search needs
 
 fetch-requires : tie.Need-fetch-requires
-fetch-requires c κs = (search (file-from, carry-file, are-bytes), (search needs, search (carry-room)))
+fetch-requires c κs = (search (carry-goes, are-bytes), search needs)
 
 returns : tie.Need-returns
 returns c = search (carry-refused)
@@ -26,7 +23,7 @@ same-length : tie.Need-same-length
 same-length c = search needs
 
 returns-2 : tie.Need-returns-2
-returns-2 c = search (read-done)
+returns-2 c = search (read-done, are-bytes)
 
 pub read-sound-spec : {M : Type 1} → statement M
 read-sound-spec =
@@ -34,8 +31,7 @@ read-sound-spec =
     (tie.spec
     judge-carry-requires
     enum-known-plan
-    enum-told
-    add-fetch
+    enum-known-plan-2
     fetch-requires
     returns
     same-length

@@ -1,6 +1,6 @@
 use Rattle.fat_inner.proofs.Judges.{is-file, carry-no-file}
-use Rattle.fat_inner.proofs.Carries.{size-fits, carry-past, carry-within}
-use Rattle.fat_inner.proofs.Found.{file-fits, file-from, are-bytes}
+use Rattle.fat_inner.proofs.Reached.{data-fits, carry-over, not-passed}
+use Rattle.fat_inner.proofs.Found.{are-bytes}
 use borrow.Author.Needs.{needs}
 use Rattle.fat_inner.proofs.judge.judge_carry.Statement.{statement}
 use Rattle.fat_inner.proofs.judge.judge_carry.Tie as tie
@@ -11,23 +11,20 @@ is-file-requires c κs = search needs
 returns : tie.Need-returns
 returns c = search (carry-no-file)
 
-add-count-of : tie.Need-add-count-of
-add-count-of c = search (file-fits, is-file)
-
-count-of-requires : tie.Need-count-of-requires
-count-of-requires c κs = search (file-from, is-file, are-bytes)
-
-mul-size : tie.Need-mul-size
-mul-size c = search (size-fits, is-file, are-bytes)
+mul-passes : tie.Need-mul-passes
+mul-passes c = search (data-fits)
 
 passes-requires : tie.Need-passes-requires
 passes-requires c κs = search needs
 
 returns-2 : tie.Need-returns-2
-returns-2 c = search (carry-past, is-file)
+returns-2 c = search (carry-over, is-file, are-bytes)
+
+judge-bytes-requires : tie.Need-judge-bytes-requires
+judge-bytes-requires c κs = (search needs, (search (is-file), (search needs, search needs, search (not-passed))))
 
 returns-3 : tie.Need-returns-3
-returns-3 c = search (carry-within, is-file)
+returns-3 c = search needs
 
 pub judge-carry-spec : {M : Type 1} → statement M
 judge-carry-spec =
@@ -35,9 +32,8 @@ judge-carry-spec =
     (tie.spec
     is-file-requires
     returns
-    add-count-of
-    count-of-requires
-    mul-size
+    mul-passes
     passes-requires
     returns-2
+    judge-bytes-requires
     returns-3)

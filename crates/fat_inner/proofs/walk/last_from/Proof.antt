@@ -1,4 +1,4 @@
-use Rattle.fat_inner.proofs.Found.{amid-room, amid-fits, all-fits, amid-all, last-on, last-end, last-end-some}
+use Rattle.fat_inner.proofs.Found.{amid-room, amid-fits, all-fits, amid-way, last-on, last-end, last-end-some}
 use borrow.Author.Needs.{needs}
 use Rattle.fat_inner.proofs.walk.last_from.Statement.{statement}
 use Rattle.fat_inner.proofs.walk.last_from.Tie as tie
@@ -13,7 +13,7 @@ add-seek-on-2 : tie.Need-add-seek-on-2
 add-seek-on-2 c = search all-fits
 
 seek-on-requires : tie.Need-seek-on-requires
-seek-on-requires c κs = search amid-all
+seek-on-requires c κs = search amid-way
 
 enum-known-sought : tie.Need-enum-known-sought
 enum-known-sought c = search needs
