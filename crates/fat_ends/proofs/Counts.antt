@@ -2,7 +2,7 @@
 use mathlib.Core.Path.{_≡_, refl, sym, subst}
 use mathlib.Core.Bool.{Bool, true, false, cond}
 use mathlib.Core.Logic.{_⊎_, inl, inr, ⊎-elim}
-use Prim.Native.Nat.{ℕ, zero, suc, _+_, _≤_}
+use Prim.Native.Nat.{ℕ, zero, suc, _+_, _<_, _≤_}
 use native.Mathlib.Nat.{eq-or-lt-of-le}
 use native.Mathlib.Numerals.{add-one}
 use native.Mathlib.Omega.{arith}
@@ -13,7 +13,7 @@ use Rattle.fat_node.specs.Node.{prevAt}
 use Rattle.fat_table.specs.Sound.{Starts, Covered, Sound, Along, Counted, File}
 use Rattle.fat_table.specs.Sound.Starts.{begin, after}
 use Rattle.fat_table.specs.Sound.Along.{end, node}
-use Rattle.fat_table.specs.Sound.Counted.{none}
+use Rattle.fat_table.specs.Sound.Counted.{none, one, skip}
 use Rattle.fat_table.specs.Chain.{total, sizeAt, chainAt}
 use Rattle.fat_table.specs.Counts.{freeBlocks, scan, starts, startsOf, otherChains}
 use Rattle.fat_table.proofs.Sounds.{node-size}
@@ -62,6 +62,19 @@ module _ (t : Bytes) (n : ℕ) (c : Covered t n) where
 
   pub others-are : {m : ℕ} → Counted (File t n) n m → m ≡ otherChains n t
   others-are p = counted-one p others-counted refl
+
+-- ---- a table in which no chain begins
+none-of : {P : ℕ → Type 0} {n c : ℕ} → Counted P n c → c ≡ 0 → (b : ℕ) → b < n → P b → ⊥
+none-of none e b h p = omega arith
+none-of (one k q) e b h p = omega arith
+none-of {P} (skip {n = m} k q) e b h p =
+    let l : b ≤ m = omega (arith, h) in
+    ⊎-elim (λ d. q (subst P d p)) (λ d. none-of k e b d p) (eq-or-lt-of-le l)
+
+pub headless : {t : Bytes} {n files h : ℕ} → 0 < n → Counted (File t n) n files → h ≡ vAt t 0 → (files ≡ 0) × (h ≡ 0) → Sound t n → ⊥
+headless {t} {n} pos k e z s =
+    let r = s .whole 0 (begin, pos) in
+    none-of k (z .0) (r .start) (r .node .1) (r .node, r .first, λ q. omega (arith, q, e, z .1))
 
 -- the verdict on a sound table
 pub counted : {t : Bytes} {n r files : ℕ} → Sound t n × Along t n (vAt t 0) r × (r ≤ n) × Counted (File t n) n files → Sound t n × (r ≡ freeBlocks n t) × (files ≡ otherChains n t)

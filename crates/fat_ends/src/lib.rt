@@ -114,6 +114,16 @@ fn head_fits(table: &[u8], work: &[u32], h: usize) -> bool
     fat_node::prev_of(table, h - 1) == 0
 }
 
+// Whether no node begins a chain: so many files, none, and a head that names none. Then every node lies in a ring.
+fn headless(files: u32, h: usize) -> bool
+    ensures { λ r. ⌜ (r ≡ true → (files ≡ 0) × (h ≡ 0)) ⌝ }
+{
+    if files != 0 {
+        return false;
+    }
+    h == 0
+}
+
 // The sum of the sizes of the fragment from block h to block z.
 fn sum_of(table: &[u8], work: &[u32], h: usize, z: usize) -> u32
     requires { ⌜ length (now table) ≡ 8 * (length (now work) + 1) ⌝ }
@@ -272,7 +282,7 @@ fn free_of(table: &[u8], work: &[u32], h: usize) -> u32
     sum_of(table, work, f, z)
 }
 
-// The verdict, with a work list that is 0 before it: head, first pass, second pass, free count.
+// The verdict, with a work list that is 0 before it: head, first pass, second pass, free count. Where no chain begins, the second pass is not needed.
 fn judge(table: &[u8], work: &mut [u32]) -> Verdict
     requires { ⌜ length (now table) ≡ 8 * (length (now work) + 1) ⌝ }
     requires { ⌜ (0 < length (now work)) × (length (now work) ≤ 1000000) ⌝ }
@@ -287,6 +297,9 @@ fn judge(table: &[u8], work: &mut [u32]) -> Verdict
     let Tiles::Whole { files, backs } = r else {
         return Verdict::Broken;
     };
+    if headless(files, h) {
+        return Verdict::Broken;
+    }
     if head_fits(table, work, h) {
         if links(table, work, backs) {
             let free = free_of(table, work, h);

@@ -9,7 +9,7 @@ use native.Mathlib.Omega.{arith}
 use Prim.Native.Nat.{ℕ}
 use mathlib.Core.Path.{_≡_, sym, subst, subst⁻¹, _∙_}
 use borrow.Author.Needs.{needs}
-use Rattle.fat_ends.proofs.Counts.{counted}
+use Rattle.fat_ends.proofs.Counts.{counted, headless}
 use Rattle.fat_ends.proofs.judge.Statement.{statement}
 use Rattle.fat_ends.proofs.judge.Tie as tie
 
@@ -49,66 +49,83 @@ returns-2 c =
     let at-tile = c .before .before .before .before .tile in
     λ s. subst (TiledAs (args .table .now) (length (args .work .now)) (at-tile .last .1 .0)) (c .enum-told2 .given .1) (at-tile .ensures) (s .covered)
 
-head-fits-requires : tie.Need-head-fits-requires
-head-fits-requires c κs = search needs
-
-links-requires : tie.Need-links-requires
-links-requires c κs =
-    let l : length (c .before .before .before .before .before .before .before .before .before .tile .last .1 .0) ≡ length (c .before .before .before .before .before .before .before .before .before .before .before .before .before .before .before .before .before .args .work .now) = c .before .before .before .before .before .before .before .before .before .tile .kept .1 .0 in
-    let q = subst (TiledAs (c .before .before .before .before .before .before .before .before .before .before .before .before .before .before .before .before .before .args .table .now) (length (c .before .before .before .before .before .before .before .before .before .before .before .before .before .before .before .before .before .args .work .now)) (c .before .before .before .before .before .before .before .before .before .tile .last .1 .0)) (c .before .before .before .before .before .r .given .1) (c .before .before .before .before .before .before .before .before .before .tile .ensures) in
-    (omega arith, (omega arith, (links-ready l (q .0), backs-long l (q .1))))
-
-free-of-requires : tie.Need-free-of-requires
-free-of-requires c κs =
-    let l : length (c .before .before .before .before .before .before .before .before .before .before .before .before .before .before .tile .last .1 .0) ≡ length (c .before .before .before .before .before .before .before .before .before .before .before .before .before .before .before .before .before .before .before .before .before .before .args .work .now) = c .before .before .before .before .before .before .before .before .before .before .before .before .before .before .tile .kept .1 .0 in
-    let q = subst (TiledAs (c .before .before .before .before .before .before .before .before .before .before .before .before .before .before .before .before .before .before .before .before .before .before .args .table .now) (length (c .before .before .before .before .before .before .before .before .before .before .before .before .before .before .before .before .before .before .before .before .before .before .args .work .now)) (c .before .before .before .before .before .before .before .before .before .before .before .before .before .before .tile .last .1 .0)) (c .before .before .before .before .before .before .before .before .before .before .r .given .1) (c .before .before .before .before .before .before .before .before .before .before .before .before .before .before .tile .ensures) in
-    let f = free-ready l (c .before .before .before .before .links .ensures .0 (c .before .if2 .taken)) (head-is l (q .0) (c .before .before .before .before .before .before .before .head-fits .ensures .0 (c .before .before .before .before .before .before .if1 .taken))) in
-    let e = f .0 in
-    (omega arith, (omega arith, f .1))
+headless-requires : tie.Need-headless-requires
+headless-requires c κs = search needs
 
 same-length-2 : tie.Need-same-length-2
 same-length-2 c = search needs
 
 returns-3 : tie.Need-returns-3
 returns-3 c =
-    let args = c .before .before .before .before .before .before .before .before .before .before .before .before .before .before .before .before .before .before .before .before .before .before .before .args in
-    let at-get-head = c .before .before .before .before .before .before .before .before .before .before .before .before .before .before .before .before .before .before .before .before .get-head in
-    let at-head = c .before .before .before .before .before .before .before .before .before .before .before .before .before .before .before .before .before .before .head in
-    let at-tile = c .before .before .before .before .before .before .before .before .before .before .before .before .before .before .before .tile in
-    let at-r = c .before .before .before .before .before .before .before .before .before .before .before .r in
-    let at-head-fits = c .before .before .before .before .before .before .before .before .head-fits in
-    let at-if1 = c .before .before .before .before .before .before .before .if1 in
-    let at-links = c .before .before .before .before .before .links in
-    let l : length (at-tile .last .1 .0) ≡ length (args .work .now) = at-tile .kept .1 .0 in
-    let q = subst (TiledAs (args .table .now) (length (args .work .now)) (at-tile .last .1 .0)) (at-r .given .1) (at-tile .ensures) in
+    let args = c .before .before .before .before .before .before .before .before .before .before .before .before .before .before .before .args in
+    let at-pre = c .before .before .before .before .before .before .before .before .before .before .before .before .before .before .before .pre in
+    let at-get-head = c .before .before .before .before .before .before .before .before .before .before .before .before .get-head in
+    let at-head = c .before .before .before .before .before .before .before .before .before .before .head in
+    let at-tile = c .before .before .before .before .before .before .before .tile in
+    let q = subst (TiledAs (args .table .now) (length (args .work .now)) (at-tile .last .1 .0)) (c .before .before .before .r .given .1) (at-tile .ensures) in
     let hd = subst (HeadReads (args .table .now)) (at-head .given .1) (at-get-head .ensures) in
-    counted (all-good l
-    (at-links .ensures .0 (c .before .before .if2 .taken), subst⁻¹ (λ (y : ℕ). Counted (File (args .table .now) y) y (at-r .given .0 .0)) l (q .2))
-    (hd .0) (tile-covered (q .0)) (hd .1) (head-is l (q .0) (at-head-fits .ensures .0 (at-if1 .taken))) (c .free-of .ensures))
+    headless (at-pre .1 .0 .0) (q .2) (hd .1) (c .before .headless .ensures (c .if1 .taken))
+
+head-fits-requires : tie.Need-head-fits-requires
+head-fits-requires c κs = search needs
+
+links-requires : tie.Need-links-requires
+links-requires c κs =
+    let l : length (c .before .before .before .before .before .before .before .before .before .before .before .tile .last .1 .0) ≡ length (c .before .before .before .before .before .before .before .before .before .before .before .before .before .before .before .before .before .before .before .args .work .now) = c .before .before .before .before .before .before .before .before .before .before .before .tile .kept .1 .0 in
+    let q = subst (TiledAs (c .before .before .before .before .before .before .before .before .before .before .before .before .before .before .before .before .before .before .before .args .table .now) (length (c .before .before .before .before .before .before .before .before .before .before .before .before .before .before .before .before .before .before .before .args .work .now)) (c .before .before .before .before .before .before .before .before .before .before .before .tile .last .1 .0)) (c .before .before .before .before .before .before .before .r .given .1) (c .before .before .before .before .before .before .before .before .before .before .before .tile .ensures) in
+    (omega arith, (omega arith, (links-ready l (q .0), backs-long l (q .1))))
+
+free-of-requires : tie.Need-free-of-requires
+free-of-requires c κs =
+    let l : length (c .before .before .before .before .before .before .before .before .before .before .before .before .before .before .before .before .tile .last .1 .0) ≡ length (c .before .before .before .before .before .before .before .before .before .before .before .before .before .before .before .before .before .before .before .before .before .before .before .before .args .work .now) = c .before .before .before .before .before .before .before .before .before .before .before .before .before .before .before .before .tile .kept .1 .0 in
+    let q = subst (TiledAs (c .before .before .before .before .before .before .before .before .before .before .before .before .before .before .before .before .before .before .before .before .before .before .before .before .args .table .now) (length (c .before .before .before .before .before .before .before .before .before .before .before .before .before .before .before .before .before .before .before .before .before .before .before .before .args .work .now)) (c .before .before .before .before .before .before .before .before .before .before .before .before .before .before .before .before .tile .last .1 .0)) (c .before .before .before .before .before .before .before .before .before .before .before .before .r .given .1) (c .before .before .before .before .before .before .before .before .before .before .before .before .before .before .before .before .tile .ensures) in
+    let f = free-ready l (c .before .before .before .before .links .ensures .0 (c .before .if3 .taken)) (head-is l (q .0) (c .before .before .before .before .before .before .before .head-fits .ensures .0 (c .before .before .before .before .before .before .if2 .taken))) in
+    let e = f .0 in
+    (omega arith, (omega arith, f .1))
 
 same-length-3 : tie.Need-same-length-3
 same-length-3 c = search needs
 
 returns-4 : tie.Need-returns-4
 returns-4 c =
-    let args = c .before .before .before .before .before .before .before .before .before .before .before .before .before .before .before .before .before .before .before .before .before .args in
-    let at-tile = c .before .before .before .before .before .before .before .before .before .before .before .before .before .tile in
+    let args = c .before .before .before .before .before .before .before .before .before .before .before .before .before .before .before .before .before .before .before .before .before .before .before .before .before .args in
+    let at-get-head = c .before .before .before .before .before .before .before .before .before .before .before .before .before .before .before .before .before .before .before .before .before .before .get-head in
+    let at-head = c .before .before .before .before .before .before .before .before .before .before .before .before .before .before .before .before .before .before .before .before .head in
+    let at-tile = c .before .before .before .before .before .before .before .before .before .before .before .before .before .before .before .before .before .tile in
+    let at-r = c .before .before .before .before .before .before .before .before .before .before .before .before .before .r in
+    let at-head-fits = c .before .before .before .before .before .before .before .before .head-fits in
+    let at-if1 = c .before .before .before .before .before .before .before .if2 in
+    let at-links = c .before .before .before .before .before .links in
     let l : length (at-tile .last .1 .0) ≡ length (args .work .now) = at-tile .kept .1 .0 in
-    λ s. untrue (sym (c .if2 .left) ∙ c .before .before .before .links .ensures .1 (sound-long l s))
+    let q = subst (TiledAs (args .table .now) (length (args .work .now)) (at-tile .last .1 .0)) (at-r .given .1) (at-tile .ensures) in
+    let hd = subst (HeadReads (args .table .now)) (at-head .given .1) (at-get-head .ensures) in
+    counted (all-good l
+    (at-links .ensures .0 (c .before .before .if3 .taken), subst⁻¹ (λ (y : ℕ). Counted (File (args .table .now) y) y (at-r .given .0 .0)) l (q .2))
+    (hd .0) (tile-covered (q .0)) (hd .1) (head-is l (q .0) (at-head-fits .ensures .0 (at-if1 .taken))) (c .free-of .ensures))
 
 same-length-4 : tie.Need-same-length-4
 same-length-4 c = search needs
 
 returns-5 : tie.Need-returns-5
 returns-5 c =
-    let args = c .before .before .before .before .before .before .before .before .before .before .before .before .before .before .before .before .args in
-    let at-get-head = c .before .before .before .before .before .before .before .before .before .before .before .before .before .get-head in
-    let at-head = c .before .before .before .before .before .before .before .before .before .before .before .head in
-    let at-tile = c .before .before .before .before .before .before .before .before .tile in
+    let args = c .before .before .before .before .before .before .before .before .before .before .before .before .before .before .before .before .before .before .before .before .before .before .before .args in
+    let at-tile = c .before .before .before .before .before .before .before .before .before .before .before .before .before .before .before .tile in
     let l : length (at-tile .last .1 .0) ≡ length (args .work .now) = at-tile .kept .1 .0 in
-    let q = subst (TiledAs (args .table .now) (length (args .work .now)) (at-tile .last .1 .0)) (c .before .before .before .before .r .given .1) (at-tile .ensures) in
+    λ s. untrue (sym (c .if3 .left) ∙ c .before .before .before .links .ensures .1 (sound-long l s))
+
+same-length-5 : tie.Need-same-length-5
+same-length-5 c = search needs
+
+returns-6 : tie.Need-returns-6
+returns-6 c =
+    let args = c .before .before .before .before .before .before .before .before .before .before .before .before .before .before .before .before .before .before .args in
+    let at-get-head = c .before .before .before .before .before .before .before .before .before .before .before .before .before .before .before .get-head in
+    let at-head = c .before .before .before .before .before .before .before .before .before .before .before .before .before .head in
+    let at-tile = c .before .before .before .before .before .before .before .before .before .before .tile in
+    let l : length (at-tile .last .1 .0) ≡ length (args .work .now) = at-tile .kept .1 .0 in
+    let q = subst (TiledAs (args .table .now) (length (args .work .now)) (at-tile .last .1 .0)) (c .before .before .before .before .before .before .r .given .1) (at-tile .ensures) in
     let hd = subst (HeadReads (args .table .now)) (at-head .given .1) (at-get-head .ensures) in
-    λ s. untrue (sym (c .if1 .left) ∙ c .before .head-fits .ensures .1 (head-fits l (q .0) (hd .1) s))
+    λ s. untrue (sym (c .if2 .left) ∙ c .before .head-fits .ensures .1 (head-fits l (q .0) (hd .1) s))
 
 pub judge-spec : {M : Type 1} → statement M
 judge-spec =
@@ -123,12 +140,15 @@ judge-spec =
     enum-told-2
     same-length
     returns-2
+    headless-requires
+    same-length-2
+    returns-3
     head-fits-requires
     links-requires
     free-of-requires
-    same-length-2
-    returns-3
     same-length-3
     returns-4
     same-length-4
-    returns-5)
+    returns-5
+    same-length-5
+    returns-6)
