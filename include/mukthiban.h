@@ -152,7 +152,7 @@ mukthiban_found mukthiban_tree_lookup_file(const uint8_t *dir_hash, size_t dir_h
                                            uint32_t parent, const uint8_t name[16]);
 
 /* Makes a directory with those 4 carried bytes (its padding) and open count 1. opens: the directories'.
- * Answers 1, 2, 3, 9, 10 (parent), 11, 6. */
+ * Answers 1, 2, 3, 9, 2 (name), 10 (parent), 11, 6. */
 mukthiban_made mukthiban_tree_make_dir(uint8_t *dir_hash, size_t dir_hash_len,
                                        uint8_t *dir_table, size_t dir_table_len,
                                        const uint8_t *file_hash, size_t file_hash_len,
@@ -162,7 +162,7 @@ mukthiban_made mukthiban_tree_make_dir(uint8_t *dir_hash, size_t dir_hash_len,
                                        uint32_t parent, const uint8_t name[16], const uint8_t carried[4]);
 
 /* Makes a file entry with those 20 carried bytes and open count 1. opens: the files'.
- * Answers 1, 2, 3, 9, 10 (parent), 11, 6. */
+ * Answers 1, 2, 3, 9, 2 (name), 10 (parent), 11, 6. */
 mukthiban_made mukthiban_tree_make_file(const uint8_t *dir_hash, size_t dir_hash_len,
                                         uint8_t *dir_table, size_t dir_table_len,
                                         uint8_t *file_hash, size_t file_hash_len,
@@ -171,8 +171,8 @@ mukthiban_made mukthiban_tree_make_file(const uint8_t *dir_hash, size_t dir_hash
                                         uint32_t *opens, size_t opens_len,
                                         uint32_t parent, const uint8_t name[16], const uint8_t carried[20]);
 
-/* Gives an open directory another parent and name; inode, carried bytes, children and open count stay.
- * opens: the directories'. Answers 1, 2, 3, 9, 10 (subject), 16, 13, 10 (parent), 15, 11:
+/* Gives an open directory another parent and name (legal as for make; the name that it has is not judged); inode, carried bytes, children and open count stay.
+ * opens: the directories'. Answers 1, 2, 3, 9, 10 (subject), 16, 13, 2 (name), 10 (parent), 15, 11:
  * never 6, since the entry keeps its place in the table. */
 mukthiban_plain mukthiban_tree_rename_dir(uint8_t *dir_hash, size_t dir_hash_len,
                                           uint8_t *dir_table, size_t dir_table_len,
@@ -183,7 +183,7 @@ mukthiban_plain mukthiban_tree_rename_dir(uint8_t *dir_hash, size_t dir_hash_len
                                           uint32_t inode, uint32_t parent, const uint8_t name[16]);
 
 /* Gives an open file another parent and name; inode, carried bytes and open count stay. opens: the files'.
- * Answers 1, 2, 3, 9, 10 (subject), 16, 10 (parent), 11: never 6. */
+ * Answers 1, 2, 3, 9, 10 (subject), 16, 2 (name), 10 (parent), 11: never 6. */
 mukthiban_plain mukthiban_tree_rename_file(const uint8_t *dir_hash, size_t dir_hash_len,
                                            uint8_t *dir_table, size_t dir_table_len,
                                            uint8_t *file_hash, size_t file_hash_len,

@@ -87,7 +87,7 @@ mukthiban_found mukthiban_tested_tree_lookup_file(const uint8_t *dir_hash, size_
                                                   const uint8_t *file_table, size_t file_table_len,
                                                   uint32_t parent, const uint8_t name[16]);
 
-/* Makes a directory, opened once. Answers 10 (parent), 11, 6.
+/* Makes a directory, opened once. Answers 2 (name), 10 (parent), 11, 6.
  * Requires: sound tables, open counts for every directory. */
 mukthiban_made mukthiban_tested_tree_make_dir(uint8_t *dir_hash, size_t dir_hash_len,
                                               uint8_t *dir_table, size_t dir_table_len,
@@ -96,7 +96,7 @@ mukthiban_made mukthiban_tested_tree_make_dir(uint8_t *dir_hash, size_t dir_hash
                                               uint32_t *opens, size_t opens_len, uint32_t parent,
                                               const uint8_t name[16], const uint8_t carried[4]);
 
-/* Makes a file entry, opened once. Answers 10 (parent), 11, 6.
+/* Makes a file entry, opened once. Answers 2 (name), 10 (parent), 11, 6.
  * Requires: sound tables, open counts for every file. */
 mukthiban_made mukthiban_tested_tree_make_file(const uint8_t *dir_hash, size_t dir_hash_len,
                                                uint8_t *dir_table, size_t dir_table_len,
@@ -105,7 +105,7 @@ mukthiban_made mukthiban_tested_tree_make_file(const uint8_t *dir_hash, size_t d
                                                uint32_t *opens, size_t opens_len, uint32_t parent,
                                                const uint8_t name[16], const uint8_t carried[20]);
 
-/* Gives an open directory another parent and name. Answers 10 (subject), 16, 13, 10 (parent), 15, 11.
+/* Gives an open directory another parent and name. Answers 10 (subject), 16, 13, 2 (name), 10 (parent), 15, 11.
  * Requires: sound tables, open counts for every directory. */
 mukthiban_plain mukthiban_tested_tree_rename_dir(uint8_t *dir_hash, size_t dir_hash_len,
                                                  uint8_t *dir_table, size_t dir_table_len,
@@ -114,7 +114,7 @@ mukthiban_plain mukthiban_tested_tree_rename_dir(uint8_t *dir_hash, size_t dir_h
                                                  const uint32_t *opens, size_t opens_len, uint32_t inode,
                                                  uint32_t parent, const uint8_t name[16]);
 
-/* Gives an open file another parent and name. Answers 10 (subject), 16, 10 (parent), 11.
+/* Gives an open file another parent and name. Answers 10 (subject), 16, 2 (name), 10 (parent), 11.
  * Requires: sound tables, open counts for every file. */
 mukthiban_plain mukthiban_tested_tree_rename_file(const uint8_t *dir_hash, size_t dir_hash_len,
                                                   uint8_t *dir_table, size_t dir_table_len,

@@ -13,7 +13,7 @@ static inline const char *mukthiban_text(uint32_t answer)
     case MUKTHIBAN_SIZE_MISMATCH:
         return "a table, the hash buckets or the data have a length that does not fit";
     case MUKTHIBAN_INVALID_VALUE:
-        return "a size or a number is outside its bounds, or no blocks were asked for";
+        return "a size or a number is outside its bounds, no blocks were asked for, or a new name is not legal";
     case MUKTHIBAN_WORK_TOO_SHORT:
         return "the work list or the open counts have too few places";
     case MUKTHIBAN_BROKEN_FAT:

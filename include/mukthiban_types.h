@@ -30,7 +30,7 @@
 enum {
     MUKTHIBAN_DONE = 0,
     MUKTHIBAN_SIZE_MISMATCH = 1,  /* a length that fits no table, or does not fit the others */
-    MUKTHIBAN_INVALID_VALUE = 2,  /* a size or a number outside its bounds; 0 blocks asked for */
+    MUKTHIBAN_INVALID_VALUE = 2,  /* a size or a number outside its bounds; 0 blocks asked for; a new name that is not legal */
     MUKTHIBAN_WORK_TOO_SHORT = 3, /* the work list or the open counts have too few places */
     MUKTHIBAN_BROKEN_FAT = 4,     /* the block table is not sound */
     MUKTHIBAN_NOT_A_FILE = 5,     /* the block is no file's first block */

@@ -1,5 +1,6 @@
 -- The checks of the entry tables.
 use mathlib.Core.Path.{_≡_, refl, sym, ap, _∙_}
+use mathlib.Core.Bool.{false, false≢true}
 use mathlib.Core.List.{List, [], _∷_}
 use mathlib.Core.Logic.{inl, inr, ⊎-elim}
 use Prim.Native.Nat.{ℕ, zero, suc, _/_, _%_, _<_}
@@ -21,6 +22,7 @@ use Rattle.tree_test.specs.Gate.{treeGate, openGate}
 use Rattle.tree_sound.specs.Tables.{Tables, tables, dirs, files}
 use Rattle.tree_promises.specs.declared.Kind.the-variants.{Directory, File}
 use Rattle.tree_promises.specs.Has.{Has}
+use Rattle.tree_promises.specs.Legal.{padded, legal}
 use Rattle.tree_promises.specs.Calls.{Carry, carryGives, Make, makeGives, makeRows, makeDone, Lookup, lookupGives, lookupRows, lookupDone}
 use Rattle.tree_promises.specs.Format.{formatRows, formatted, FormatMisfit, FormatOutside, FormatPromise}
 use Rattle.tree_promises.specs.Steps.{made}
@@ -217,6 +219,10 @@ no-key1 m =
     let p : dirs s1 .key 1 ≡ key = ap (dirs s1 .key) (sym one) ∙ m .2 in
     omega (arith, ap parent (fresh1 .key), ap parent p)
 
+legal-name : legal name ≡ false → ⊥
+unfolding legal padded
+legal-name e = false≢true (sym e)
+
 room1 : freeOf (dirs s1) ≡ 2
 unfolding word putWord field
 room1 = refl
@@ -227,13 +233,13 @@ make-done =
     sole-given
     (openGate (λ a w. beside (makeGives a 0 s1 opens4) w) s1 4 (length (s1 .dirTable) / 40) work5)
     (worked s1 work5)
-    (makeRows s1 (dirs s1) opens4 1 key)
+    (makeRows s1 (dirs s1) opens4 1 name)
     (makeDone Directory s1 opens4 1 name (replicate 4 0))
     (makeDone Directory s1 opens4 1 name (replicate 4 0))
     (open-passes s1 (lengths1 .0) (lengths1 .1) (lengths1 .2) (lengths1 .3) (fresh-sound (dirs s1) (files s1) fresh1)
     (λ a w. beside (makeGives a 0 s1 opens4) w))
-    (none-first (makeRows s1 (dirs s1) opens4 1 key) (makeDone Directory s1 opens4 1 name (replicate 4 0))
-    (λ h. h live1, (no-key1, (λ h. omega (arith, room1, h), tt))))
+    (none-first (makeRows s1 (dirs s1) opens4 1 name) (makeDone Directory s1 opens4 1 name (replicate 4 0))
+    (legal-name, (λ h. h live1, (no-key1, (λ h. omega (arith, room1, h), tt)))))
 
 sees-make : makeDir .seen (beside (makeDone Directory s1 opens4 1 name (replicate 4 0)) work5) ≡ makeDir .wanted
 unfolding word putWord field hashOf mix rotated
@@ -350,11 +356,11 @@ file-refused =
     sole-given
     (openGate (λ a w. beside (makeGives a 0 s1 (replicate 1 0)) w) s1 1 (length (s1 .fileTable) / 48) work5)
     (worked s1 work5)
-    (makeRows s1 (files s1) (replicate 1 0) 1 key)
+    (makeRows s1 (files s1) (replicate 1 0) 1 name)
     (makeDone File s1 (replicate 1 0) 1 name (replicate 20 0))
     (makeGives NoSpace 0 s1 (replicate 1 0))
     file-passes
-    (inr (λ h. h live1, inr (no-file-key, inl (no-room, refl))))
+    (inr (legal-name, inr (λ h. h live1, inr (no-file-key, inl (no-room, refl)))))
 
 sees-file : makeFile .seen (beside (makeGives NoSpace 0 s1 (replicate 1 0)) work5) ≡ makeFile .wanted
 unfolding word putWord field hashOf mix rotated

@@ -1,7 +1,6 @@
 // The inner calls that change the entry tables, for a side that has tested its tables once and keeps them sound. Each requires what the test tells, and
 // tests nothing.
 ghost use Rattle.order.specs.First.{First};
-ghost use Rattle.tree_key.specs.Key.{nameKey};
 ghost use Rattle.tree_promises.specs.declared.Kind.the-variants.{Directory, File};
 ghost use Rattle.tree_promises.specs.inner.Ready.{ReadyOpens};
 ghost use Rattle.tree_sound.specs.Tables.{tables, dirs, files};
@@ -22,7 +21,7 @@ pub extern "C" fn mukthiban_tested_tree_make_dir(
     carried: &[u8; 4],
 ) -> Made
     requires { ⌜ ReadyOpens Directory (tables (now «dir_hash») (now «dir_table») (now «file_hash») (now «file_table»)) (now opens) ⌝ }
-    ensures { λ p. ⌜ Exported (p .answer) (λ a. First (makeRows (tables (now («dir_hash» .entry)) (now («dir_table» .entry)) (now («file_hash» .entry)) (now («file_table» .entry))) (dirs (tables (now («dir_hash» .entry)) (now («dir_table» .entry)) (now («file_hash» .entry)) (now («file_table» .entry)))) (now (opens .entry)) parent (nameKey parent (now (name .entry)))) (makeDone Directory (tables (now («dir_hash» .entry)) (now («dir_table» .entry)) (now («file_hash» .entry)) (now («file_table» .entry))) (now (opens .entry)) parent (now (name .entry)) (now (carried .entry))) (makeGives a (p .inode) (tables (now («dir_hash» .exit)) (now («dir_table» .exit)) (now («file_hash» .entry)) (now («file_table» .entry))) (now (opens .exit)))) ⌝ }
+    ensures { λ p. ⌜ Exported (p .answer) (λ a. First (makeRows (tables (now («dir_hash» .entry)) (now («dir_table» .entry)) (now («file_hash» .entry)) (now («file_table» .entry))) (dirs (tables (now («dir_hash» .entry)) (now («dir_table» .entry)) (now («file_hash» .entry)) (now («file_table» .entry)))) (now (opens .entry)) parent (now (name .entry))) (makeDone Directory (tables (now («dir_hash» .entry)) (now («dir_table» .entry)) (now («file_hash» .entry)) (now («file_table» .entry))) (now (opens .entry)) parent (now (name .entry)) (now (carried .entry))) (makeGives a (p .inode) (tables (now («dir_hash» .exit)) (now («dir_table» .exit)) (now («file_hash» .entry)) (now («file_table» .entry))) (now (opens .exit)))) ⌝ }
 {
     let r = tree_inner::make::make_dir(
         dir_hash,
@@ -53,7 +52,7 @@ pub extern "C" fn mukthiban_tested_tree_make_file(
     carried: &[u8; 20],
 ) -> Made
     requires { ⌜ ReadyOpens File (tables (now «dir_hash») (now «dir_table») (now «file_hash») (now «file_table»)) (now opens) ⌝ }
-    ensures { λ p. ⌜ Exported (p .answer) (λ a. First (makeRows (tables (now («dir_hash» .entry)) (now («dir_table» .entry)) (now («file_hash» .entry)) (now («file_table» .entry))) (files (tables (now («dir_hash» .entry)) (now («dir_table» .entry)) (now («file_hash» .entry)) (now («file_table» .entry)))) (now (opens .entry)) parent (nameKey parent (now (name .entry)))) (makeDone File (tables (now («dir_hash» .entry)) (now («dir_table» .entry)) (now («file_hash» .entry)) (now («file_table» .entry))) (now (opens .entry)) parent (now (name .entry)) (now (carried .entry))) (makeGives a (p .inode) (tables (now («dir_hash» .entry)) (now («dir_table» .exit)) (now («file_hash» .exit)) (now («file_table» .exit))) (now (opens .exit)))) ⌝ }
+    ensures { λ p. ⌜ Exported (p .answer) (λ a. First (makeRows (tables (now («dir_hash» .entry)) (now («dir_table» .entry)) (now («file_hash» .entry)) (now («file_table» .entry))) (files (tables (now («dir_hash» .entry)) (now («dir_table» .entry)) (now («file_hash» .entry)) (now («file_table» .entry)))) (now (opens .entry)) parent (now (name .entry))) (makeDone File (tables (now («dir_hash» .entry)) (now («dir_table» .entry)) (now («file_hash» .entry)) (now («file_table» .entry))) (now (opens .entry)) parent (now (name .entry)) (now (carried .entry))) (makeGives a (p .inode) (tables (now («dir_hash» .entry)) (now («dir_table» .exit)) (now («file_hash» .exit)) (now («file_table» .exit))) (now (opens .exit)))) ⌝ }
 {
     let r = tree_inner::make::make_file(
         dir_hash,

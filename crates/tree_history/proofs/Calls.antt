@@ -7,7 +7,6 @@ use Rattle.order.specs.Beside.{Beside}
 use Rattle.order.specs.declared.Answer.{Answer}
 use Rattle.order.specs.declared.Answer.the-variants.{Done}
 use Rattle.words.specs.Word.{AreBytes}
-use Rattle.tree_key.specs.Key.{nameKey}
 use Rattle.tree_table.specs.View.{LiveIn}
 use Rattle.tree_sound.specs.Tables.{Tables, SoundIn}
 use Rattle.tree_promises.specs.declared.Kind.{Kind}
@@ -30,7 +29,8 @@ use Rattle.tree_history.specs.Whole.{Lent, Whole}
 use Rattle.tree_history.specs.Call.{State, state, opensOf, changed}
 use Rattle.tree_history.specs.May.{MayMake, MayRename, MayDelete}
 use Rattle.tree_history.proofs.Stable.{live-stable}
-use Rattle.tree_history.proofs.May.{may-make, may-rename, may-delete}
+use Rattle.tree_history.proofs.May.{may-make, may-rename, rename-named, may-delete}
+use Rattle.tree_history.proofs.Names.{legal-sure, legal-make, legal-rename, legal-delete, legal-carry}
 use Rattle.tree_history.proofs.Sizes.{are-bytes, whole-step, fine, after-wrote}
 use Rattle.tree_history.proofs.Steps.{after-carried, after-made, after-deleted, after-renamed}
 use Rattle.tree_history.proofs.Good.{Good, Refusals, good-done, good-tree, good-opens}
@@ -88,10 +88,11 @@ module _ (s : State) (L : Lent (s .tables)) (work : List ℕ) (kind : Kind) wher
       → Good s (o .given .answer) (changed kind s (o .given .tables) (o .given .opens))
   good-make p name bytes bn bb o =
       good-opens s L (λ (x : calls.Make). x .answer) (λ (x : calls.Make). changed kind s (x .tables) (x .opens)) (λ a. calls.makeGives a 0 t opens) unchanged
-      work (calls.makeTests t (kindView kind t) p (nameKey p name)) (calls.makeDone kind t opens p name bytes) o refl
+      work (calls.makeTests t (kindView kind t) p name) (calls.makeDone kind t opens p name bytes) o refl
       (λ w n.
       good-done s (changed kind s (made kind t p name bytes) (calls.makeDone kind t opens p name bytes .opens))
-      (whole-step t w (made kind t p name bytes) (after-made kind t p name bytes) (kept-make t w kind p name bytes bn bb (may-make kind t p name n))))
+      (whole-step t w (made kind t p name bytes) (after-made kind t p name bytes) (kept-make t w kind p name bytes bn bb (may-make kind t p name n)))
+      (λ a. legal-make t w a kind p name bytes bn bb (may-make kind t p name n)))
       kind opens
 
   pub good-rename : (x p : ℕ) (name : List ℕ) → AreBytes name → (o : Beside calls.Change) → RenamePromise kind t opens work x p name o
@@ -101,7 +102,8 @@ module _ (s : State) (L : Lent (s .tables)) (work : List ℕ) (kind : Kind) wher
       work (calls.renameTests kind t opens x p name) (calls.renameDone kind t opens x p name) o (rename-refuses kind t opens x p name)
       (λ w n.
       good-done s (changed kind s (renamed kind t x p name) opens)
-      (whole-step t w (renamed kind t x p name) (after-renamed kind t x p name) (kept-rename t w kind x p name bn (may-rename kind t opens x p name n))))
+      (whole-step t w (renamed kind t x p name) (after-renamed kind t x p name) (kept-rename t w kind x p name bn (may-rename kind t opens x p name n)))
+      (λ a. legal-rename t w a kind x p name bn (may-rename kind t opens x p name n) (legal-sure name (rename-named kind t opens x p name n))))
       kind opens
 
   pub good-delete : (x : ℕ) (o : Beside calls.Change) → DeletePromise kind t opens work x o
@@ -111,12 +113,13 @@ module _ (s : State) (L : Lent (s .tables)) (work : List ℕ) (kind : Kind) wher
       work (calls.deleteTests kind t opens x) (calls.deleteDone kind t opens x) o (delete-refuses kind t opens x)
       (λ w n.
       good-done s (changed kind s (deleted kind t x) (calls.deleteDone kind t opens x .opens))
-      (whole-step t w (deleted kind t x) (after-deleted kind t x) (kept-delete t w kind opens x (may-delete kind t opens x n))))
+      (whole-step t w (deleted kind t x) (after-deleted kind t x) (kept-delete t w kind opens x (may-delete kind t opens x n)))
+      (λ a. legal-delete t w a kind opens x (may-delete kind t opens x n)))
       kind opens
 
   -- a call that leaves the tables as they were
   counted : (u : List ℕ) → Whole t → Good s Done (changed kind s t u)
-  counted u w = good-done s (changed kind s t u) (whole-step t w t (after-wrote t [] [] [] []) (w .sound))
+  counted u w = good-done s (changed kind s t u) (whole-step t w t (after-wrote t [] [] [] []) (w .sound)) (λ a. a)
 
   pub good-open : (x : ℕ) (o : Beside calls.Opening) → OpenPromise kind t opens work x o → Good s (o .given .answer) (changed kind s t (o .given .opens))
   good-open x o =
@@ -136,4 +139,5 @@ module _ (s : State) (L : Lent (s .tables)) (work : List ℕ) (kind : Kind) wher
       work (calls.liveTests (kindView kind t) x) (calls.carryDone kind t x bytes) o refl
       (λ w n.
       good-done s (state (withCarried kind t x bytes) (s .dirOpens) (s .fileOpens))
-      (whole-step t w (withCarried kind t x bytes) (after-carried kind t x bytes) (kept-carry t w kind x bytes bb (live-stable (kindView kind t) x (n .0)))))
+      (whole-step t w (withCarried kind t x bytes) (after-carried kind t x bytes) (kept-carry t w kind x bytes bb (live-stable (kindView kind t) x (n .0))))
+      (λ a. legal-carry t w a kind x bytes bb (live-stable (kindView kind t) x (n .0))))

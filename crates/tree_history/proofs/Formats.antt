@@ -13,6 +13,7 @@ use lib.Seq.{getD-append-add, getD-drop}
 use Rattle.words.specs.Word.{word}
 use Rattle.words.proofs.Laws.{Bytes}
 use Rattle.order.specs.Gate.{cleared}
+use Rattle.order.specs.Answer.{numberOf}
 use Rattle.order.specs.declared.Answer.the-variants.{Done, SizeMismatch, InvalidValue}
 use Rattle.links.specs.Links.{_∈_, Distinct, Links, Holds}
 use Rattle.links.specs.Change.{pick, upd}
@@ -34,6 +35,7 @@ use Rattle.tree_history.specs.Call.{State, state}
 use Rattle.tree_history.proofs.Rows.{of-first}
 use Rattle.tree_history.proofs.Stable.{le-stable}
 use Rattle.tree_history.proofs.Sizes.{are-bytes, After, whole-after}
+use Rattle.tree_history.specs.Names.{AllLegal}
 use Rattle.tree_history.proofs.Good.{Good, good-refused, good-done}
 
 -- zeros ------------------------------------------------------------------------------------------------------------------------------------------------
@@ -296,6 +298,10 @@ module _ (s : Tables) (dm fm : ℕ) (M : Maxima s dm fm) where
     };
   }
 
+  -- no entry but the root, so none with a bad name
+  pub formatted-legal : AllLegal (formatted s dm fm)
+  formatted-legal = record { of-dirs = λ y l n. absurd (n (only y l)); of-files = λ y l n. absurd (no-file y l) }
+
   -- the same lengths, and bytes
   pub formatted-after : After s (formatted s dm fm)
   formatted-after = record {
@@ -335,8 +341,16 @@ good-format s L dm fm o p =
     (λ n.
     good-done s (state (formatted t dm fm) (s .dirOpens) (s .fileOpens))
     (whole-after t (λ m. n .0 (inl m)) (λ m. n .1 .0 (inl m)) L (formatted t dm fm) (formatted-after t dm fm (maxima t dm fm (n .0) (n .1 .0)))
-    (formatted-sound t dm fm (maxima t dm fm (n .0) (n .1 .0)))))
+    (formatted-sound t dm fm (maxima t dm fm (n .0) (n .1 .0))))
+    (λ _. formatted-legal t dm fm (maxima t dm fm (n .0) (n .1 .0))))
     p
   where
     t : Tables
     t = s .tables
+
+-- a format that is answered Done leaves no bad name
+pub format-named : (s : Tables) (dm fm : ℕ) (o : Carry) → FormatPromise s dm fm o → o .answer ≡ Done → AllLegal (o .tables)
+format-named s dm fm o =
+    of-first (λ (x : Carry). x .answer ≡ Done → AllLegal (x .tables)) (formatRows s dm fm) (carryGives Done (formatted s dm fm)) o
+    (λ _ e. absurd (omega (arith, ap numberOf e)), (λ _ e. absurd (omega (arith, ap numberOf e)), tt))
+    (λ n _. formatted-legal s dm fm (maxima s dm fm (n .0) (n .1 .0)))

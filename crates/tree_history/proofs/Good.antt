@@ -18,6 +18,7 @@ use Rattle.tree_promises.specs.declared.Kind.{Kind}
 use Rattle.tree_promises.specs.Promise.{TreePromise, OpensPromise}
 use Rattle.tree_history.specs.Whole.{Lent, Whole, SameSizes}
 use Rattle.tree_history.specs.Call.{State}
+use Rattle.tree_history.specs.Names.{AllLegal}
 use Rattle.tree_history.proofs.Rows.{Each, each-giving, none-giving, Gate, of-tree, of-opens}
 
 -- a call with the answer a led from the state s to the state u
@@ -25,6 +26,7 @@ pub record Good (s : State) (a : Answer) (u : State) : Type 0 where
   pub done : a ≡ Done → Whole (u .tables) × SameSizes (s .tables) (u .tables)
   pub same : (a ≡ Done → ⊥) → u ≡ s
   pub stays : Whole (s .tables) → Whole (u .tables)
+  pub named : AllLegal (s .tables) → AllLegal (u .tables)
   pub unbroken : SoundIn (s .tables) → a ≡ BrokenTree → ⊥
 
 -- a refusal, but BrokenTree, by its number
@@ -36,14 +38,15 @@ good-refused s a r = record {
   done = λ e. absurd (let h : 0 < numberOf a = r .0 in omega (arith, ap numberOf e));
   same = λ _. refl;
   stays = λ w. w;
+  named = λ a. a;
   unbroken = λ _ e. r .1 (ap numberOf e);
 }
 
 pub good-broken : (s : State) → (SoundIn (s .tables) → ⊥) → Good s BrokenTree s
-good-broken s n = record { done = λ e. absurd (omega (arith, ap numberOf e)); same = λ _. refl; stays = λ w. w; unbroken = λ S _. n S }
+good-broken s n = record { done = λ e. absurd (omega (arith, ap numberOf e)); same = λ _. refl; stays = λ w. w; named = λ a. a; unbroken = λ S _. n S }
 
-pub good-done : (s u : State) → Whole (u .tables) × SameSizes (s .tables) (u .tables) → Good s Done u
-good-done s u w = record { done = λ _. w; same = λ n. absurd (n refl); stays = λ _. w .0; unbroken = λ _ e. omega (arith, ap numberOf e) }
+pub good-done : (s u : State) → Whole (u .tables) × SameSizes (s .tables) (u .tables) → (AllLegal (s .tables) → AllLegal (u .tables)) → Good s Done u
+good-done s u w a = record { done = λ _. w; same = λ n. absurd (n refl); stays = λ _. w .0; named = a; unbroken = λ _ e. omega (arith, ap numberOf e) }
 
 -- rows that refuse: a test, so that a call's rows need no list of their own here
 abbrev refuses : Answer → Bool

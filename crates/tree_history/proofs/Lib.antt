@@ -1,6 +1,7 @@
 pub mod Stable
 pub mod Rows
 pub mod Sizes
+pub mod Names
 pub mod Good
 pub mod Steps
 pub mod May
@@ -10,3 +11,4 @@ pub mod Looks
 pub mod Theorems
 pub mod Reach
 pub mod Space
+pub mod Cures

@@ -31,7 +31,7 @@ module _ (s : State) (L : Lent (s .tables)) (work : List ℕ) where
 
   -- Done, and nothing changed
   looked : Whole t → Good s Done s
-  looked w = good-done s s (whole-step t w t (after-wrote t [] [] [] []) (w .sound))
+  looked w = good-done s s (whole-step t w t (after-wrote t [] [] [] []) (w .sound)) (λ a. a)
 
   pub good-test : (o : Tested × List ℕ) → TestPromise t work o → Good s (o .0 .answer) s
   good-test o =

@@ -1,6 +1,7 @@
 -- Where no row of a call applies, the call may go: one law for each record of specs/May.antt.
 use mathlib.Core.Path.{_≡_}
 use mathlib.Core.List.{List}
+use mathlib.Core.Bool.{false}
 use Prim.Native.Nat.{ℕ}
 use native.Mathlib.Nat.{lt-of-not-le}
 use native.Mathlib.Omega.{arith}
@@ -11,6 +12,7 @@ use Rattle.tree_sound.specs.Tables.{Tables, dirs, files}
 use Rattle.tree_promises.specs.declared.Kind.{Kind}
 use Rattle.tree_promises.specs.declared.Kind.the-variants.{Directory, File}
 use Rattle.tree_promises.specs.Kinds.{kindView}
+use Rattle.tree_promises.specs.Legal.{legal}
 use Rattle.tree_promises.specs.Calls.{makeTests, renameTests, deleteTests, openTests, closeTests}
 use Rattle.tree_history.specs.May.{MayMake, MayRename, MayDelete, MayOpen, MayClose}
 use Rattle.tree_history.proofs.Stable.{live-stable}
@@ -19,24 +21,29 @@ use Rattle.tree_history.proofs.Stable.{live-stable}
 other : {P : Type 0} → File ≡ Directory → P
 other e = let z : _≡_ {A = ℕ} 0 1 = cc in absurd (omega arith)
 
-pub may-make : (kind : Kind) (s : Tables) (p : ℕ) (name : List ℕ) → None (makeTests s (kindView kind s) p (nameKey p name)) → MayMake kind s p name
-may-make kind s p name n = record { parent = live-stable (dirs s) p (n .0); new-key = n .1 .0; space = n .1 .1 .0 }
+pub may-make : (kind : Kind) (s : Tables) (p : ℕ) (name : List ℕ) → None (makeTests s (kindView kind s) p name) → MayMake kind s p name
+may-make kind s p name n = record { legal-name = n .0; parent = live-stable (dirs s) p (n .1 .0); new-key = n .1 .1 .0; space = n .1 .1 .1 .0 }
 
 pub may-rename : (kind : Kind) (s : Tables) (opens : List ℕ) (x p : ℕ) (name : List ℕ) → None (renameTests kind s opens x p name) → MayRename kind s x p name
 may-rename Directory s opens x p name n = record {
   subject = live-stable (dirs s) x (n .0);
   not-root = λ _. n .1 .1 .0;
-  parent = live-stable (dirs s) p (n .1 .1 .1 .0);
-  not-into-itself = λ _. n .1 .1 .1 .1 .0;
-  free-key = n .1 .1 .1 .1 .1 .0;
+  parent = live-stable (dirs s) p (n .1 .1 .1 .1 .0);
+  not-into-itself = λ _. n .1 .1 .1 .1 .1 .0;
+  free-key = n .1 .1 .1 .1 .1 .1 .0;
 }
 may-rename File s opens x p name n = record {
   subject = live-stable (files s) x (n .0);
   not-root = λ e. other e;
-  parent = live-stable (dirs s) p (n .1 .1 .0);
+  parent = live-stable (dirs s) p (n .1 .1 .1 .0);
   not-into-itself = λ e. other e;
-  free-key = n .1 .1 .1 .0;
+  free-key = n .1 .1 .1 .1 .0;
 }
+
+-- and the new name is legal
+pub rename-named : (kind : Kind) (s : Tables) (opens : List ℕ) (x p : ℕ) (name : List ℕ) → None (renameTests kind s opens x p name) → legal name ≡ false → ⊥
+rename-named Directory s opens x p name n = n .1 .1 .1 .0
+rename-named File s opens x p name n = n .1 .1 .0
 
 pub may-delete : (kind : Kind) (s : Tables) (opens : List ℕ) (x : ℕ) → None (deleteTests kind s opens x) → MayDelete kind s opens x
 may-delete Directory s opens x n = record {

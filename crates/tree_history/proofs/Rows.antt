@@ -29,7 +29,7 @@ of-first P (r ∷ rs) d o g l (inl p) = subst⁻¹ P (p .1) (g .0 (p .0))
 of-first P (r ∷ rs) d o g l (inr p) = of-first P rs d o (g .1) (λ n. l (p .0, n)) (p .1)
 
 -- the same of a call's own rows, beside the work list
-of-within : {A : Type 0} (P : A → Type 0) (work : List ℕ) (own : List (Row A)) (d : A) (o : Beside A) → Each P own → (None own → P d)
+pub of-within : {A : Type 0} (P : A → Type 0) (work : List ℕ) (own : List (Row A)) (d : A) (o : Beside A) → Each P own → (None own → P d)
     → First (within work own) (beside d work) o → P (o .given)
 of-within P work [] d o g l p = subst⁻¹ (λ (x : Beside _). P (x .given)) p (l tt)
 of-within P work (r ∷ rs) d o g l (inl p) = subst⁻¹ (λ (x : Beside _). P (x .given)) (p .1) (g .0 (p .0))
@@ -47,7 +47,7 @@ none-giving refuse (r ∷ rs) n = (n .0, none-giving refuse rs (n .1))
 -- whole promises ---------------------------------------------------------------------------------------------------------------------------------------
 
 -- the rows of sizes, work list and soundness; short is when the work list or the open counts are too short
-abbrev front : {A : Type 0} → (Answer → A) → Tables → Type 0 → List ℕ → List (Row (Beside A))
+abbrev pub front : {A : Type 0} → (Answer → A) → Tables → Type 0 → List ℕ → List (Row (Beside A))
 front refuse s short work =
     entryGate (λ a w. beside (refuse a) w) s
     (OutsideIn s) short work

@@ -38,7 +38,8 @@ use Rattle.tree_history.proofs.Rows.{of-first}
 use Rattle.tree_history.proofs.Good.{Good}
 use Rattle.tree_history.proofs.Calls as changes
 use Rattle.tree_history.proofs.Looks as looks
-use Rattle.tree_history.proofs.Formats.{good-format}
+use Rattle.tree_history.specs.Names.{AllLegal}
+use Rattle.tree_history.proofs.Formats.{good-format, format-named}
 
 good : (s : State) → Lent (s .tables) → {a : Answer} {u : State} → Call s a u → Good s a u
 good s L (format dm fm o p) = good-format s L dm fm o p
@@ -88,3 +89,14 @@ test-accepts s t work o w r h =
       (λ m. absurd (v .inside m), (λ (k : length work < roomsIn (t .tables)). absurd (omega arith), (λ n. absurd (n (v .sound)), tt))),
     )
     (λ _. refl)
+
+-- run-legal: over any history from sound tables with legal names alone, whatever names the calls are given and whatever they answer, every name stays legal
+pub run-legal : (s t : State) → Whole (s .tables) → AllLegal (s .tables) → Run s t → AllLegal (t .tables)
+run-legal s t w a none = a
+run-legal s t w a (calls r u answer run c) = good r (run-sound s r w run .lent) c .named (run-legal s r w a run)
+
+-- format-legal: and so from a format that is answered Done, whatever stood there before
+pub format-legal : (s t : State) (dm fm : ℕ) (o : Carry) → Lent (s .tables) → FormatPromise (s .tables) dm fm o → o .answer ≡ Done
+    → Run (state (o .tables) (s .dirOpens) (s .fileOpens)) t → AllLegal (t .tables)
+format-legal s t dm fm o L p e r =
+    run-legal (state (o .tables) (s .dirOpens) (s .fileOpens)) t (good-format s L dm fm o p .done e .0) (format-named (s .tables) dm fm o p e) r

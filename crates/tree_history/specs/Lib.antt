@@ -3,3 +3,4 @@ pub mod Call
 pub mod Run
 pub mod May
 pub mod Room
+pub mod Names

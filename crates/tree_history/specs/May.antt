@@ -2,6 +2,7 @@
 use mathlib.Core.Path.{_≡_}
 use mathlib.Core.List.{List}
 use mathlib.Core.Logic.{_⊎_}
+use mathlib.Core.Bool.{false}
 use Prim.Native.Nat.{ℕ, _<_}
 use Rattle.links.specs.Links.{_∈_}
 use Rattle.tree_key.specs.Key.{nameKey}
@@ -11,16 +12,18 @@ use Rattle.tree_sound.specs.Tables.{Tables, dirs, files}
 use Rattle.tree_opens.specs.Opens.{opened}
 use Rattle.tree_promises.specs.declared.Kind.{Kind}
 use Rattle.tree_promises.specs.declared.Kind.the-variants.{Directory}
+use Rattle.tree_promises.specs.Legal.{legal}
 use Rattle.tree_promises.specs.Has.{Has, HasOther, above}
 use Rattle.tree_promises.specs.Kinds.{kindView}
 
 -- an entry may be made in directory p with the name
 pub record MayMake (kind : Kind) (s : Tables) (p : ℕ) (name : List ℕ) : Type 0 where
+  pub legal-name : legal name ≡ false → ⊥
   pub parent : LiveIn (dirs s) p
   pub new-key : Has (kindView kind s) (nameKey p name) → ⊥
   pub space : freeOf (kindView kind s) ≡ 0 → ⊥
 
--- entry x may get the parent p and the name: the rows of rename that ask for the tables alone do not apply
+-- entry x may get the parent p and the name: the rows of rename that ask for the tables alone do not apply. Nothing is said of the name that it has
 pub record MayRename (kind : Kind) (s : Tables) (x p : ℕ) (name : List ℕ) : Type 0 where
   pub subject : LiveIn (kindView kind s) x
   pub not-root : kind ≡ Directory → x ≡ 1 → ⊥

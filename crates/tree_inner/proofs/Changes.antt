@@ -1,15 +1,16 @@
 -- The calls that change sound tables, by the places of their code.
 use mathlib.Core.Path.{_≡_, refl, sym, ap, ap₂, _∙_, subst}
-use mathlib.Core.Bool.{Bool, true, false}
+use mathlib.Core.Bool.{Bool, true, false, not, false≢true}
 use mathlib.Core.List.{List, [], _∷_}
 use mathlib.Core.Logic.{_⊎_, inl, inr, ⊎-elim, _≢_}
 use Prim.Native.Nat.{ℕ, _+_, _-_, _*_, _/_, _≤_, _<_}
 use native.Mathlib.Omega.{arith}
 use lib.ListN.{length}
+use borrow.Author.Tests.{not-true, not-false}
 use Rattle.order.specs.First.{Row, First}
 use Rattle.order.specs.Given.{Given, None}
 use Rattle.order.specs.declared.Answer.{Answer}
-use Rattle.order.specs.declared.Answer.the-variants.{Done, NotFound, DeletingRoot, IntoItself, AlreadyExist, NoSpace}
+use Rattle.order.specs.declared.Answer.the-variants.{Done, InvalidValue, NotFound, DeletingRoot, IntoItself, AlreadyExist, NoSpace}
 use Rattle.links.specs.Links.{_∈_, Links, Holds}
 use Rattle.links.proofs.Laws.{walked, fewer}
 use Rattle.links.proofs.Held.{same-or}
@@ -26,6 +27,7 @@ use Rattle.tree_opens.specs.Opens.{withOpen, Counted, AllCounted}
 use Rattle.tree_promises.specs.Kinds.{kindRoom}
 use Rattle.tree_sound.specs.Tables.{Tables, tables, dirs, files}
 use Rattle.tree_promises.specs.declared.Kind.the-variants.{Directory, File}
+use Rattle.tree_promises.specs.Legal.{legal}
 use Rattle.tree_promises.specs.Has.{above, Has, HasOther}
 use Rattle.tree_promises.specs.Steps.{unlinkedFrom, linkedTo}
 use Rattle.order.specs.Giving.{giving}
@@ -130,69 +132,74 @@ module _ (s : Tables) (R : Ready s) where
 
 -- ---- the tests of rename and make
 
+-- what the code found of the new name
+pub bad-name : (name : List ℕ) {r : Bool} → r ≡ legal name → not r ≡ true → legal name ≡ false
+bad-name name {r} e h = sym e ∙ not-true r h
+
+pub good-name : (name : List ℕ) {r : Bool} → r ≡ legal name → not r ≡ false → legal name ≡ false → ⊥
+good-name name {r} e h z = false≢true (sym z ∙ sym e ∙ not-false r h)
+
 module _ (s : Tables) (opens : List ℕ) (x p : ℕ) (name : List ℕ) where
   module _ (held : None (heldTests (files s) opens x)) where
-    pub file-parent : {r : Bool} → Tells (LiveIn (dirs s) p) r → r ≡ false → Given (renameTests File s opens x p name) NotFound
-    file-parent T e = inr (held .0, inr (held .1 .0, inl (tells-not T e, refl)))
+    pub file-named : legal name ≡ false → Given (renameTests File s opens x p name) InvalidValue
+    file-named e = inr (held .0, inr (held .1 .0, inl (e, refl)))
 
-    pub file-exists : {r q : Bool} → Tells (LiveIn (dirs s) p) r → r ≡ true → Tells (HasOther (files s) x (nameKey p name)) q → q ≡ true
-        → Given (renameTests File s opens x p name) AlreadyExist
-    file-exists T e O f = inr (held .0, inr (held .1 .0, inr (λ n. n (T .yes e), inl (O .yes f, refl))))
+    module _ (ok : legal name ≡ false → ⊥) {r : Bool} (T : Tells (LiveIn (dirs s) p) r) where
+      pub file-parent : r ≡ false → Given (renameTests File s opens x p name) NotFound
+      file-parent e = inr (held .0, inr (held .1 .0, inr (ok, inl (tells-not T e, refl))))
 
-    pub file-go : {r q : Bool} → Tells (LiveIn (dirs s) p) r → r ≡ true → Tells (HasOther (files s) x (nameKey p name)) q → q ≡ false
-        → None (renameTests File s opens x p name)
-    file-go T e O f = (held .0, (held .1 .0, (λ n. n (T .yes e), (tells-not O f, tt))))
+      pub file-exists : {q : Bool} → r ≡ true → Tells (HasOther (files s) x (nameKey p name)) q → q ≡ true → Given (renameTests File s opens x p name) AlreadyExist
+      file-exists e O f = inr (held .0, inr (held .1 .0, inr (ok, inr (λ n. n (T .yes e), inl (O .yes f, refl)))))
+
+      pub file-go : {q : Bool} → r ≡ true → Tells (HasOther (files s) x (nameKey p name)) q → q ≡ false → None (renameTests File s opens x p name)
+      file-go e O f = (held .0, (held .1 .0, (ok, (λ n. n (T .yes e), (tells-not O f, tt)))))
 
   module _ (held : None (heldTests (dirs s) opens x)) where
     pub dir-first : x ≡ 1 → Given (renameTests Directory s opens x p name) DeletingRoot
     dir-first e = inr (held .0, inr (held .1 .0, inl (e, refl)))
 
-    module _ (n1 : x ≡ 1 → ⊥) {r : Bool} (T : Tells (LiveIn (dirs s) p) r) where
+    pub dir-named : (x ≡ 1 → ⊥) → legal name ≡ false → Given (renameTests Directory s opens x p name) InvalidValue
+    dir-named n1 e = inr (held .0, inr (held .1 .0, inr (n1, inl (e, refl))))
+
+    module _ (n1 : x ≡ 1 → ⊥) (ok : legal name ≡ false → ⊥) {r : Bool} (T : Tells (LiveIn (dirs s) p) r) where
       pub dir-parent : r ≡ false → Given (renameTests Directory s opens x p name) NotFound
-      dir-parent e = inr (held .0, inr (held .1 .0, inr (n1, inl (tells-not T e, refl))))
+      dir-parent e = inr (held .0, inr (held .1 .0, inr (n1, inr (ok, inl (tells-not T e, refl)))))
 
       module _ (e : r ≡ true) {m : Bool} (em : m ≡ member x (listAt (s .dirTable) 40 0 p)) (R : Ready s) where
+        into : m ≡ true → x ∈ above (dirs s) p
+        into f = subst (λ z. x ∈ z) (above-list s R p (T .yes e)) (member-in x (listAt (s .dirTable) 40 0 p) (sym em ∙ f))
+
         pub dir-into : m ≡ true → Given (renameTests Directory s opens x p name) IntoItself
-        dir-into f =
-            inr (
-              held .0,
-              inr (
-                held .1 .0,
-                inr (
-                  n1,
-                  inr (
-                    λ n. n (T .yes e),
-                    inl (subst (λ z. x ∈ z) (above-list s R p (T .yes e)) (member-in x (listAt (s .dirTable) 40 0 p) (sym em ∙ f)), refl),
-                  ),
-                ),
-              ),
-            )
+        dir-into f = inr (held .0, inr (held .1 .0, inr (n1, inr (ok, inr (λ n. n (T .yes e), inl (into f, refl))))))
 
         apart : m ≡ false → x ∈ above (dirs s) p → ⊥
         apart f i = not-member x (listAt (s .dirTable) 40 0 p) (sym em ∙ f) (subst (λ z. x ∈ z) (sym (above-list s R p (T .yes e))) i)
 
         pub dir-exists : {q : Bool} → m ≡ false → Tells (HasOther (dirs s) x (nameKey p name)) q → q ≡ true → Given (renameTests Directory s opens x p name) AlreadyExist
-        dir-exists f O g = inr (held .0, inr (held .1 .0, inr (n1, inr (λ n. n (T .yes e), inr (apart f, inl (O .yes g, refl))))))
+        dir-exists f O g = inr (held .0, inr (held .1 .0, inr (n1, inr (ok, inr (λ n. n (T .yes e), inr (apart f, inl (O .yes g, refl)))))))
 
         pub dir-free : {q : Bool} → m ≡ false → Tells (HasOther (dirs s) x (nameKey p name)) q → q ≡ false → None (renameTests Directory s opens x p name)
-        dir-free f O g = (held .0, (held .1 .0, (n1, (λ n. n (T .yes e), (apart f, (tells-not O g, tt))))))
+        dir-free f O g = (held .0, (held .1 .0, (n1, (ok, (λ n. n (T .yes e), (apart f, (tells-not O g, tt)))))))
 
-module _ (s : Tables) (v : View) (p : ℕ) (k : List ℕ) {r : Bool} (T : Tells (LiveIn (dirs s) p) r) where
-  pub make-parent : r ≡ false → Given (makeTests s v p k) NotFound
-  make-parent e = inl (tells-not T e, refl)
+pub make-named : (s : Tables) (v : View) (p : ℕ) (name : List ℕ) → legal name ≡ false → Given (makeTests s v p name) InvalidValue
+make-named s v p name e = inl (e, refl)
 
-  module _ (e : r ≡ true) {q : Bool} (O : Tells (HasOther v 0 k) q) where
-    pub make-exists : q ≡ true → Given (makeTests s v p k) AlreadyExist
-    make-exists f = let o = O .yes f in inr (λ n. n (T .yes e), inl ((o .0, o .1, o .3), refl))
+module _ (s : Tables) (v : View) (p : ℕ) (name : List ℕ) (ok : legal name ≡ false → ⊥) {r : Bool} (T : Tells (LiveIn (dirs s) p) r) where
+  pub make-parent : r ≡ false → Given (makeTests s v p name) NotFound
+  make-parent e = inr (ok, inl (tells-not T e, refl))
 
-    fresh : q ≡ false → Has v k → ⊥
+  module _ (e : r ≡ true) {q : Bool} (O : Tells (HasOther v 0 (nameKey p name)) q) where
+    pub make-exists : q ≡ true → Given (makeTests s v p name) AlreadyExist
+    make-exists f = let o = O .yes f in inr (ok, inr (λ n. n (T .yes e), inl ((o .0, o .1, o .3), refl)))
+
+    fresh : q ≡ false → Has v (nameKey p name) → ⊥
     fresh f h = tells-not O f (h .0, h .1, (λ (z : h .0 ≡ 0). let u : 0 < h .0 = h .1 .0 in omega arith), h .2)
 
-    pub make-full : {u : Bool} → q ≡ false → Tells (freeOf v ≡ 0) u → u ≡ true → Given (makeTests s v p k) NoSpace
-    make-full f F g = inr (λ n. n (T .yes e), inr (fresh f, inl (F .yes g, refl)))
+    pub make-full : {u : Bool} → q ≡ false → Tells (freeOf v ≡ 0) u → u ≡ true → Given (makeTests s v p name) NoSpace
+    make-full f F g = inr (ok, inr (λ n. n (T .yes e), inr (fresh f, inl (F .yes g, refl))))
 
-    pub make-go : {u : Bool} → q ≡ false → Tells (freeOf v ≡ 0) u → u ≡ false → None (makeTests s v p k)
-    make-go f F g = (λ n. n (T .yes e), (fresh f, (tells-not F g, tt)))
+    pub make-go : {u : Bool} → q ≡ false → Tells (freeOf v ≡ 0) u → u ≡ false → None (makeTests s v p name)
+    make-go f F g = (ok, (λ n. n (T .yes e), (fresh f, (tells-not F g, tt))))
 
 -- ---- what the calls give
 
@@ -295,7 +302,7 @@ module _ (s : Tables) (R : Ready s) (opens : List ℕ) (x : ℕ) where
       moved-file = live-sure 48 (s .fileTable) x (n .0)
 
       file-goal : LiveIn (dirs s) p
-      file-goal = live-sure 40 (s .dirTable) p (n .1 .1 .0)
+      file-goal = live-sure 40 (s .dirTable) p (n .1 .1 .1 .0)
 
       pub rename-file-asks : Single (s .fileHash) (s .fileTable) 48 × LiveAt 48 (s .fileTable) x × InParent (s .dirTable) 28 (s .fileTable) 48 x
       rename-file-asks = (file-single s R, moved-file, file-listed s R x moved-file)
@@ -319,7 +326,7 @@ module _ (s : Tables) (R : Ready s) (opens : List ℕ) (x : ℕ) where
       moved-dir = live-sure 40 (s .dirTable) x (n .0)
 
       dir-goal : LiveIn (dirs s) p
-      dir-goal = live-sure 40 (s .dirTable) p (n .1 .1 .1 .0)
+      dir-goal = live-sure 40 (s .dirTable) p (n .1 .1 .1 .1 .0)
 
       pub rename-dir-asks : Single (s .dirHash) (s .dirTable) 40 × LiveAt 40 (s .dirTable) x × InParent (s .dirTable) 24 (s .dirTable) 40 x
       rename-dir-asks = (dir-single s R, moved-dir, dir-listed s R x moved-dir (n .1 .1 .0))

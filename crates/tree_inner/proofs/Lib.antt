@@ -5,6 +5,7 @@ pub mod Lookups
 pub mod Listings
 pub mod Seats
 pub mod Links
+pub mod Names
 pub mod Judges
 pub mod Changes
 pub mod Makes

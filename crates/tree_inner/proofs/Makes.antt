@@ -13,7 +13,6 @@ use Rattle.order.specs.declared.Answer.the-variants.{Done}
 use Rattle.links.specs.Links.{_∈_, Links}
 use Rattle.links.specs.Change.{pick, walk}
 use Rattle.links.proofs.Laws.{by-eq}
-use Rattle.tree_key.specs.Key.{nameKey}
 use Rattle.tree_table.specs.Field.{field, write, wrote}
 use Rattle.tree_table.specs.View.{removedOf, LiveIn}
 use Rattle.tree_table.specs.Steps.{taken, takeWrites, freeOf}
@@ -82,24 +81,24 @@ module _ {h t : List ℕ} {w : ℕ} (S : Single h t w) (free : freeOf (alone w t
   }
 
 -- what passed tests give
-module _ (s : Tables) (R : Ready s) (p : ℕ) (k : List ℕ) where
-  goal : None (makeTests s (files s) p k) → LiveIn (dirs s) p
-  goal n = live-sure 40 (s .dirTable) p (n .0)
+module _ (s : Tables) (R : Ready s) (p : ℕ) (name : List ℕ) where
+  goal : None (makeTests s (files s) p name) → LiveIn (dirs s) p
+  goal n = live-sure 40 (s .dirTable) p (n .1 .0)
 
   parent-fits : LiveIn (dirs s) p → p * 40 + 40 ≤ length (s .dirTable)
   parent-fits l = inside (s .dirTable) 40 p (field 40 (s .dirTable) 0 1) (l .1) (all-fit (s .dirHash) (s .dirTable) 40 (dir-single s R))
 
-  pub new-file-asks : None (makeTests s (files s) p k) → Takes 48 (s .fileTable) × (p * 40 + 40 ≤ length (s .dirTable)) × (0 < length (s .fileHash) / 4)
-  new-file-asks n = (takes (file-single s R) (n .1 .1 .0), parent-fits (live-sure 40 (s .dirTable) p (n .0)), R .file-buckets)
+  pub new-file-asks : None (makeTests s (files s) p name) → Takes 48 (s .fileTable) × (p * 40 + 40 ≤ length (s .dirTable)) × (0 < length (s .fileHash) / 4)
+  new-file-asks n = (takes (file-single s R) (n .1 .1 .1 .0), parent-fits (live-sure 40 (s .dirTable) p (n .1 .0)), R .file-buckets)
 
-  pub new-dir-asks : None (makeTests s (dirs s) p k) → Takes 40 (s .dirTable) × (p * 40 + 40 ≤ length (s .dirTable)) × (0 < length (s .dirHash) / 4)
-  new-dir-asks n = (takes (dir-single s R) (n .1 .1 .0), parent-fits (live-sure 40 (s .dirTable) p (n .0)), R .dir-buckets)
+  pub new-dir-asks : None (makeTests s (dirs s) p name) → Takes 40 (s .dirTable) × (p * 40 + 40 ≤ length (s .dirTable)) × (0 < length (s .dirHash) / 4)
+  new-dir-asks n = (takes (dir-single s R) (n .1 .1 .1 .0), parent-fits (live-sure 40 (s .dirTable) p (n .1 .0)), R .dir-buckets)
 
-  pub new-file-counted : None (makeTests s (files s) p k) → (opens : List ℕ) → AllCounted opens (kindRoom File s) → (x : ℕ) → x ≡ taken (files s) → Counted opens x
-  new-file-counted n opens room x ex = omega (arith, takes (file-single s R) (n .1 .1 .0) .low)
+  pub new-file-counted : None (makeTests s (files s) p name) → (opens : List ℕ) → AllCounted opens (kindRoom File s) → (x : ℕ) → x ≡ taken (files s) → Counted opens x
+  new-file-counted n opens room x ex = omega (arith, takes (file-single s R) (n .1 .1 .1 .0) .low)
 
-  pub new-dir-counted : None (makeTests s (dirs s) p k) → (opens : List ℕ) → AllCounted opens (kindRoom Directory s) → (x : ℕ) → x ≡ taken (dirs s) → Counted opens x
-  new-dir-counted n opens room x ex = omega (arith, takes (dir-single s R) (n .1 .1 .0) .low)
+  pub new-dir-counted : None (makeTests s (dirs s) p name) → (opens : List ℕ) → AllCounted opens (kindRoom Directory s) → (x : ℕ) → x ≡ taken (dirs s) → Counted opens x
+  new-dir-counted n opens room x ex = omega (arith, takes (dir-single s R) (n .1 .1 .1 .0) .low)
 
 -- what the code has made
 
@@ -160,38 +159,38 @@ gave-dir h d fh f h′ d′ opens opens′ x p name padding ex eh ed eo =
 -- ---- the ends of make, for `search`
 
 module _ (dh d h f opens : List ℕ) (p : ℕ) (name : List ℕ) (j : Judged) (x : ℕ) where
-  pub make-file-counted : ReadyOpens File (tables dh d h f) opens → JudgedBy (makeTests (tables dh d [] []) (hashed 48 h f) p (nameKey p name)) j → j ≡ Go
+  pub make-file-counted : ReadyOpens File (tables dh d h f) opens → JudgedBy (makeTests (tables dh d [] []) (hashed 48 h f) p name) j → j ≡ Go
       → x ≡ taken (alone 48 f) → Counted opens x
   make-file-counted R J go e =
-      new-file-counted (tables dh d h f) (R .ready) p (nameKey p name) (passed (makeTests (tables dh d [] []) (hashed 48 h f) p (nameKey p name)) j J go) opens
+      new-file-counted (tables dh d h f) (R .ready) p name (passed (makeTests (tables dh d [] []) (hashed 48 h f) p name) j J go) opens
       (R .counted) x e
 
-  pub make-dir-counted : ReadyOpens Directory (tables dh d h f) opens → JudgedBy (makeTests (tables dh d [] []) (hashed 40 dh d) p (nameKey p name)) j → j ≡ Go
+  pub make-dir-counted : ReadyOpens Directory (tables dh d h f) opens → JudgedBy (makeTests (tables dh d [] []) (hashed 40 dh d) p name) j → j ≡ Go
       → x ≡ taken (alone 40 d) → Counted opens x
   make-dir-counted R J go e =
-      new-dir-counted (tables dh d h f) (R .ready) p (nameKey p name) (passed (makeTests (tables dh d [] []) (hashed 40 dh d) p (nameKey p name)) j J go) opens
+      new-dir-counted (tables dh d h f) (R .ready) p name (passed (makeTests (tables dh d [] []) (hashed 40 dh d) p name) j J go) opens
       (R .counted) x e
 
 module _ (dh d h f opens : List ℕ) (p : ℕ) (name : List ℕ) (j : Judged) (go : j ≡ Go) where
   abbrev here : Tables
   here = tables dh d h f
 
-  module _ (J : JudgedBy (makeTests here (files here) p (nameKey p name)) j) (d′ h′ f′ : List ℕ) (x : ℕ) (carried : List ℕ)
+  module _ (J : JudgedBy (makeTests here (files here) p name) j) (d′ h′ f′ : List ℕ) (x : ℕ) (carried : List ℕ)
       (new : (x ≡ taken (alone 48 f)) × (d′ ≡ made File (tables [] d h f) p name carried .dirTable)
       × (h′ ≡ made File (tables [] d h f) p name carried .fileHash) × (f′ ≡ made File (tables [] d h f) p name carried .fileTable)) where
     pub make-file-done : (opens′ : List ℕ) → opens′ ≡ withOpen opens x 1
-        → First (makeRows here (files here) opens p (nameKey p name)) (makeDone File here opens p name carried) (makeGives Done x (tables dh d′ h′ f′) opens′)
+        → First (makeRows here (files here) opens p name) (makeDone File here opens p name carried) (makeGives Done x (tables dh d′ h′ f′) opens′)
     make-file-done opens′ eo =
         call-done (λ a. makeGives a 0 here opens) (makeDone File here opens p name carried) (makeGives Done x (tables dh d′ h′ f′) opens′)
-        (makeTests here (files here) p (nameKey p name)) (passed (makeTests here (files here) p (nameKey p name)) j J go)
+        (makeTests here (files here) p name) (passed (makeTests here (files here) p name) j J go)
         (gave-file dh d h f d′ h′ f′ opens opens′ x p name carried (new .0) (new .1) (new .2) (new .3) eo)
 
-  module _ (J : JudgedBy (makeTests here (dirs here) p (nameKey p name)) j) (h′ d′ : List ℕ) (x : ℕ) (padding : List ℕ)
+  module _ (J : JudgedBy (makeTests here (dirs here) p name) j) (h′ d′ : List ℕ) (x : ℕ) (padding : List ℕ)
       (new : (x ≡ taken (alone 40 d)) × (h′ ≡ made Directory (tables dh d [] []) p name padding .dirHash)
       × (d′ ≡ made Directory (tables dh d [] []) p name padding .dirTable)) where
     pub make-dir-done : (opens′ : List ℕ) → opens′ ≡ withOpen opens x 1
-        → First (makeRows here (dirs here) opens p (nameKey p name)) (makeDone Directory here opens p name padding) (makeGives Done x (tables h′ d′ h f) opens′)
+        → First (makeRows here (dirs here) opens p name) (makeDone Directory here opens p name padding) (makeGives Done x (tables h′ d′ h f) opens′)
     make-dir-done opens′ eo =
         call-done (λ a. makeGives a 0 here opens) (makeDone Directory here opens p name padding) (makeGives Done x (tables h′ d′ h f) opens′)
-        (makeTests here (dirs here) p (nameKey p name)) (passed (makeTests here (dirs here) p (nameKey p name)) j J go)
+        (makeTests here (dirs here) p name) (passed (makeTests here (dirs here) p name) j J go)
         (gave-dir dh d h f h′ d′ opens opens′ x p name padding (new .0) (new .1) (new .2) eo)

@@ -14,6 +14,7 @@ ghost use Rattle.tree_promises.specs.Calls.{heldTests, onceTests, deleteTests, 
 ghost use Rattle.tree_promises.specs.inner.Ready.{ReadyOpens, Single, SingleOpens, alone, hashed};
 ghost use Rattle.tree_inner.specs.inner.Judge.{JudgedBy};
 use crate::look::live;
+use crate::name::is_legal;
 use order::Answer;
 use tree_key::SaveExtDirEntry;
 use tree_key::SaveExtFileEntry;
@@ -112,7 +113,8 @@ pub fn full(table: &[u8], w: usize) -> bool
     tree_table::link_of(table, w, 4, 0) <= tree_table::link_of(table, w, 0, 0)
 }
 
-// Whether file x can be renamed, where key is that of the new parent and name: as judge_held, then NotFound of the new parent, AlreadyExist.
+// Whether file x can be renamed, where key is that of the new parent and name: as judge_held, then InvalidValue of the new
+// name, NotFound of the new parent, AlreadyExist.
 pub fn judge_rename_file(
     dir_hash: &[u8],
     dirs: &[u8],
@@ -132,6 +134,11 @@ pub fn judge_rename_file(
     let Judged::Go = held else {
         return held;
     };
+    if !is_legal(name) {
+        return Judged::Refused {
+            answer: Answer::InvalidValue,
+        };
+    }
     if !live(dir_hash, dirs, SaveExtDirEntry::WIDTH, parent) {
         return Judged::Refused {
             answer: Answer::NotFound,
@@ -145,8 +152,8 @@ pub fn judge_rename_file(
     Judged::Go
 }
 
-// Whether directory x can be renamed, where key is that of the new parent and name: as judge_held, then DeletingRoot, NotFound of the new parent,
-// IntoItself, AlreadyExist.
+// Whether directory x can be renamed, where key is that of the new parent and name: as judge_held, then DeletingRoot, InvalidValue of the
+// new name, NotFound of the new parent, IntoItself, AlreadyExist.
 pub fn judge_rename_dir(
     hash: &[u8],
     dirs: &[u8],
@@ -171,6 +178,11 @@ pub fn judge_rename_dir(
             answer: Answer::DeletingRoot,
         };
     }
+    if !is_legal(name) {
+        return Judged::Refused {
+            answer: Answer::InvalidValue,
+        };
+    }
     if !live(hash, dirs, SaveExtDirEntry::WIDTH, parent) {
         return Judged::Refused {
             answer: Answer::NotFound,
@@ -189,7 +201,7 @@ pub fn judge_rename_dir(
     Judged::Go
 }
 
-// Whether an entry with a key can be made in a table: NotFound of the parent, AlreadyExist, NoSpace.
+// Whether an entry with a parent and a name can be made in a table: InvalidValue of the name, NotFound of the parent, AlreadyExist, NoSpace.
 pub fn judge_make(
     dir_hash: &[u8],
     dirs: &[u8],
@@ -201,8 +213,13 @@ pub fn judge_make(
 ) -> Judged
     requires { ⌜ Single (now «dir_hash») (now dirs) 40 × Single (now hash) (now table) w ⌝ }
     ensures { λ r. ⌜ (let s : Tables = tables (now («dir_hash» .entry)) (now (dirs .entry)) [] [] in
-        JudgedBy (makeTests s (hashed w (now (hash .entry)) (now (table .entry))) parent (nameKey parent (now (name .entry)))) r) ⌝ }
+        JudgedBy (makeTests s (hashed w (now (hash .entry)) (now (table .entry))) parent (now (name .entry))) r) ⌝ }
 {
+    if !is_legal(name) {
+        return Judged::Refused {
+            answer: Answer::InvalidValue,
+        };
+    }
     if !live(dir_hash, dirs, SaveExtDirEntry::WIDTH, parent) {
         return Judged::Refused {
             answer: Answer::NotFound,

@@ -5,4 +5,5 @@ pub mod change;
 pub mod judge;
 pub mod look;
 pub mod make;
+pub mod name;
 pub mod step;

@@ -4,7 +4,6 @@ ghost use mathlib.Core.List.{[], _∷_};
 ghost use Prim.Native.Nat.{_+_, _*_, _/_, _≤_, _<_};
 ghost use lib.ListN.{length};
 ghost use Rattle.order.specs.First.{First};
-ghost use Rattle.tree_key.specs.Key.{nameKey};
 ghost use Rattle.tree_table.specs.Field.{write, wrote, subDirField, subFileField};
 ghost use Rattle.tree_table.specs.Steps.{taken};
 ghost use Rattle.tree_sound.specs.Tables.{Tables, tables};
@@ -94,7 +93,7 @@ pub fn make_file(
 ) -> Made
     requires { ⌜ ReadyOpens File (tables (now «dir_hash») (now dirs) (now hash) (now files)) (now opens) ⌝ }
     ensures { λ r. ⌜ (let s : Tables = tables (now («dir_hash» .entry)) (now (dirs .entry)) (now (hash .entry)) (now (files .entry)) in
-        First (makeRows s (views.files s) (now (opens .entry)) parent (nameKey parent (now (name .entry))))
+        First (makeRows s (views.files s) (now (opens .entry)) parent (now (name .entry)))
         (makeDone File s (now (opens .entry)) parent (now (name .entry)) (now (carried .entry)))
         (makeGives (r .answer) (r .inode) (tables (now («dir_hash» .entry)) (now (dirs .exit)) (now (hash .exit)) (now (files .exit))) (now (opens .exit)))) ⌝ }
 {
@@ -133,7 +132,7 @@ pub fn make_dir(
 ) -> Made
     requires { ⌜ ReadyOpens Directory (tables (now hash) (now dirs) (now «file_hash») (now files)) (now opens) ⌝ }
     ensures { λ r. ⌜ (let s : Tables = tables (now (hash .entry)) (now (dirs .entry)) (now («file_hash» .entry)) (now (files .entry)) in
-        First (makeRows s (views.dirs s) (now (opens .entry)) parent (nameKey parent (now (name .entry))))
+        First (makeRows s (views.dirs s) (now (opens .entry)) parent (now (name .entry)))
         (makeDone Directory s (now (opens .entry)) parent (now (name .entry)) (now (padding .entry)))
         (makeGives (r .answer) (r .inode) (tables (now (hash .exit)) (now (dirs .exit)) (now («file_hash» .entry)) (now (files .entry))) (now (opens .exit)))) ⌝ }
 {

@@ -100,6 +100,10 @@ module _ (dh d fh f : List ℕ) (Q : Fine dh d fh f) (RD RF : List ℕ) (T : Tre
   count-same : D2 .count ≡ D .count
   count-same = same .count ∙ A .count
 
+  -- the key of another entry afterwards
+  pub deleted-dir-key : (y : ℕ) → 0 < y → y ≢ x → D2 .key y ≡ D .key y
+  deleted-dir-key y h n = same .key y h ∙ upd-other (D1 .key) x (D1 .key 0) y n ∙ A .key y h
+
   -- one more entry is free, whether or not x has children
   pub deleted-dir-removed : removedOf D2 ≡ x ∷ RD
   deleted-dir-removed = removed-agree (give D1 x) D2 (Live (D .count) RD) (x ∷ RD) (gave D1 (Live (D .count) RD) RD x still loose) (same .count) (same .coll)

@@ -11,6 +11,7 @@ use lib.ListN.{length}
 use Rattle.words.specs.Word.{word}
 use Rattle.words.proofs.Laws.{Bytes, word-lt}
 use Rattle.links.specs.Change.{pick, upd}
+use Rattle.links.proofs.Held.{upd-other}
 use Rattle.tree_key.specs.Key.{nameKey}
 use Rattle.tree_key.specs.Hash.{hashOf}
 use Rattle.tree_table.specs.Field.{field, Write, write, wrote}
@@ -231,6 +232,10 @@ module _ (dh d fh f : List ℕ) (Q : Fine dh d fh f) (RD RF : List ℕ) (T : Tre
       refl (ap (λ n. n / 48) (length-wrote 48 (giveWrites 48 (field 48 (t1 .fileTable)) x) (t1 .fileTable)))
       (λ y g h. after 48 (t1 .fileTable) (giveWrites 48 (field 48 (t1 .fileTable)) x) give-fit y g (omega arith)) (λ b. refl) (λ q. refl))
 
+  -- the key of another entry afterwards
+  pub deleted-file-key : (y : ℕ) → 0 < y → y ≢ x → G2 .key y ≡ fileView d fh f .key y
+  deleted-file-key y h n = gave-same .key y h ∙ upd-other (G .key) x (G .key 0) y n ∙ same .key y h
+
   pub deleted-file-kept : Tree (dirView dh (deleted File (tables dh d fh f) x .dirTable))
       (fileView (deleted File (tables dh d fh f) x .dirTable) (deleted File (tables dh d fh f) x .fileHash) (deleted File (tables dh d fh f) x .fileTable)) RD (x ∷ RF)
   deleted-file-kept =
@@ -258,14 +263,21 @@ module _ (dh d fh f : List ℕ) (Q : Fine dh d fh f) (RD RF : List ℕ) (T : Tre
         let A = unlinked-dirs dh d fh f Q RD RF T x lx in
         subst (λ n. p < n) (sym (A .room)) (dir-low dh d fh f Q RD RF T p (lp .1))
 
+    -- the files afterwards, and the directories
+    pub renamed-file-agrees : Agree (link G x (nameKey p name)) (fileView (t2 .dirTable) (t2 .fileHash) (t2 .fileTable))
+    renamed-file-agrees = linked-files dh (t1 .dirTable) (t1 .fileHash) (t1 .fileTable) fine x p name bn (lx .0) in-room p-room
+
+    pub renamed-file-dirs : Agree (dirView dh d) (dirView dh (t2 .dirTable))
+    renamed-file-dirs =
+        agree-trans (dirView dh d) (dirView dh (t1 .dirTable)) (dirView dh (t2 .dirTable)) (unlinked-dirs dh d fh f Q RD RF T x lx)
+        (linked-dirs dh (t1 .dirTable) (t1 .fileHash) (t1 .fileTable) fine x p name bn (lx .0) in-room p-room)
+
     pub renamed-file-kept : Tree (dirView dh (t2 .dirTable)) (fileView (t2 .dirTable) (t2 .fileHash) (t2 .fileTable)) RD RF
     renamed-file-kept =
         tree-files (dirView dh d) (dirView dh (t2 .dirTable)) (fileView d fh f) (fileView (t2 .dirTable) (t2 .fileHash) (t2 .fileTable)) RD RF RF T
-        (agree-trans (dirView dh d) (dirView dh (t1 .dirTable)) (dirView dh (t2 .dirTable)) (unlinked-dirs dh d fh f Q RD RF T x lx)
-        (linked-dirs dh (t1 .dirTable) (t1 .fileHash) (t1 .fileTable) fine x p name bn (lx .0) in-room p-room))
-        refl
+        renamed-file-dirs refl
         (sound-agree (link G x (nameKey p name)) (fileView (t2 .dirTable) (t2 .fileHash) (t2 .fileTable))
-        (linked-files dh (t1 .dirTable) (t1 .fileHash) (t1 .fileTable) fine x p name bn (lx .0) in-room p-room) RF 0
+        renamed-file-agrees RF 0
         (Live (dirView dh d .count) RD) (Live (dirView dh d .count) RD) (λ q. (λ l. l, λ l. l)) (λ q l. l .0)
         (linked G RF x (nameKey p name) still (Live (dirView dh d .count) RD) loose
         (λ y h e. fresh y (live-agree (unlink (fileView d fh f) x) G same RF y .1 (h .0)) (h .1) (sym (same .key y (h .0 .0)) ∙ e)) lp))

@@ -34,7 +34,7 @@ walk-zero next zero h e = refl
 walk-zero next (suc k) h e = ap (walk next (suc k)) e
 
 -- an entry that make can use is a removed one or a new one
-space : (v : View) → (freeOf v ≡ 0 → ⊥) → Space v
+pub space : (v : View) → (freeOf v ≡ 0 → ⊥) → Space v
 space v n =
     ⊎-elim
     (λ (e : v .coll 0 ≡ 0).
@@ -92,7 +92,7 @@ module _ (s : Tables) (Q : Fine (s .dirHash) (s .dirTable) (s .fileHash) (s .fil
       (deleted-file-kept (s .dirHash) (s .dirTable) (s .fileHash) (s .fileTable) Q (removedOf (dirs s)) (removedOf (files s)) T x lx)
 
   -- the way up from p is the list that `above` walks: so what is not in it is not above p
-  not-above : (x p : ℕ) → LiveIn (dirs s) p → (x ∈ above (dirs s) p → ⊥) → (qs : List ℕ) → Links (up (dirs s)) p qs → x ∈ qs → ⊥
+  pub not-above : (x p : ℕ) → LiveIn (dirs s) p → (x ∈ above (dirs s) p → ⊥) → (qs : List ℕ) → Links (up (dirs s)) p qs → x ∈ qs → ⊥
   not-above x p lp free qs l m = free (subst (λ zs. x ∈ zs) (sym (way-up (dirs s) (S .dirs) p lp qs l)) m)
 
   pub kept-rename-dir : (x p : ℕ) (name : List ℕ) → Bytes name → LiveIn (dirs s) x → (x ≡ 1 → ⊥) → LiveIn (dirs s) p → (x ∈ above (dirs s) p → ⊥)

@@ -6,3 +6,4 @@ pub mod Dirs
 pub mod MakeDir
 pub mod DeleteDir
 pub mod Kept
+pub mod Keys

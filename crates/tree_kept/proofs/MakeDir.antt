@@ -122,14 +122,19 @@ module _ (dh d fh f : List ℕ) (Q : Fine dh d fh f) (RD RF : List ℕ) (T : Tre
   last-fit : Fit 40 (length (s3 .dirTable)) (write x 9 (word padding 0) ∷ [])
   last-fit = ((entry-fits 40 (s3 .dirTable) x x-in3, omega arith, word-lt padding bp 0), tt)
 
+  -- the directories afterwards
+  pub made-dir-agrees : Agree (makeDir D k) (dirView (s4 .dirHash) (s4 .dirTable))
+  made-dir-agrees =
+      agree-trans (makeDir D k) (link (dirView dh d2) x k) (dirView (s4 .dirHash) (s4 .dirTable)) (link-agree (heads (take D) (upd (D .head) x 0)) (dirView dh d2) x k (lp .0) dirs-2)
+      (agree-trans (link (dirView dh d2) x k) (dirView (s3 .dirHash) (s3 .dirTable)) (dirView (s4 .dirHash) (s4 .dirTable))
+      (linked-dir dh d2 fh f fine-2 x p name bn (Tk .0 .0) x-in2 p-in2)
+      (dirs-past (s3 .dirHash) (s3 .dirTable) x 9 (word padding 0) (omega arith) (omega arith) (entry-fits 40 (s3 .dirTable) x x-in3) (word-lt padding bp 0)))
+
   pub made-dir-kept : Tree (dirView (s4 .dirHash) (s4 .dirTable)) (fileView (s4 .dirTable) fh f) (rest RD) RF
   made-dir-kept =
       tree-agree (makeDir D k) (dirView (s4 .dirHash) (s4 .dirTable)) (makeDirFiles D F) (fileView (s4 .dirTable) fh f) (rest RD) RF
       (made-dir D F RD RF T k sp lp fresh)
-      (agree-trans (makeDir D k) (link (dirView dh d2) x k) (dirView (s4 .dirHash) (s4 .dirTable)) (link-agree (heads (take D) (upd (D .head) x 0)) (dirView dh d2) x k (lp .0) dirs-2)
-      (agree-trans (link (dirView dh d2) x k) (dirView (s3 .dirHash) (s3 .dirTable)) (dirView (s4 .dirHash) (s4 .dirTable))
-      (linked-dir dh d2 fh f fine-2 x p name bn (Tk .0 .0) x-in2 p-in2)
-      (dirs-past (s3 .dirHash) (s3 .dirTable) x 9 (word padding 0) (omega arith) (omega arith) (entry-fits 40 (s3 .dirTable) x x-in3) (word-lt padding bp 0))))
+      made-dir-agrees
       (agree-trans (makeDirFiles D F) (fileView d2 fh f) (fileView (s4 .dirTable) fh f) files-2
       (files-same d2 (s4 .dirTable) fh f
       (λ y. after 40 (s3 .dirTable) (write x 9 (word padding 0) ∷ []) last-fit y 8 (omega arith) ∙ linked-heads dh d2 fh f fine-2 x p name bn (Tk .0 .0) x-in2 p-in2 y)))

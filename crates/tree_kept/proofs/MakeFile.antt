@@ -17,7 +17,7 @@ use Rattle.tree_table.specs.View.{View, viewOf, hashAt, dirView, fileView, Live
 use Rattle.tree_table.specs.Steps.{taken, takeWrites}
 use Rattle.tree_table.proofs.Field.{Has, Fit, putAt, reads, length-wrote}
 use Rattle.tree_table.proofs.Table.{Sound, link, linked, take, took, took-live, rest, Space, Took, not-zero}
-use Rattle.tree_table.proofs.Agree.{Agree, agree-refl, table-alike, live-agree, sound-agree}
+use Rattle.tree_table.proofs.Agree.{Agree, agree-refl, table-alike, live-agree, sound-agree, agree-trans}
 use Rattle.tree_table.proofs.Steps.{takeT}
 use Rattle.tree_sound.proofs.Tree.{Tree}
 use Rattle.tree_sound.specs.Tables.{Tables, tables}
@@ -173,15 +173,31 @@ module _ (dh d fh f : List ℕ) (Q : Fine dh d fh f) (RD RF : List ℕ) (T : Tre
         (λ (k : (y ≢ taken F) × Live (F .count) RF y). fresh y (k .1) (sym (same .key y (h .0 .0)) ∙ e))
         (Tk .2 y .0 (live-agree (take F) G same (rest RF) y .1 (h .0)))) lp)
 
+    in-file : x < length (t2 .fileTable) / 48
+    in-file =
+        let a = linked-sound .count-max in
+        let b = linked-sound .max-room in
+        let c : x < fileView (t2 .dirTable) (t2 .fileHash) (t2 .fileTable) .count =
+        subst (λ n. x < n) (sym (linked-files dh d fh f1 fine x p name bn (Tk .0 .0) in-room p-room .count)) (still .1) in
+        omega arith
+
+    -- the files afterwards, and the directories
+    pub made-file-agrees : Agree (link G x (nameKey p name)) (fileView (t3 .dirTable) (t3 .fileHash) (t3 .fileTable))
+    made-file-agrees =
+        agree-trans (link G x (nameKey p name)) (fileView (t2 .dirTable) (t2 .fileHash) (t2 .fileTable)) (fileView (t3 .dirTable) (t3 .fileHash) (t3 .fileTable))
+        (linked-files dh d fh f1 fine x p name bn (Tk .0 .0) in-room p-room)
+        (carried-files (t2 .dirTable) (t2 .fileHash) (t2 .fileTable) x in-file carried bc)
+
+    pub made-file-taken : Agree (take F) G
+    made-file-taken = same
+
+    pub made-file-dirs : Agree (dirView dh d) (dirView dh (t3 .dirTable))
+    made-file-dirs = linked-dirs dh d fh f1 fine x p name bn (Tk .0 .0) in-room p-room
+
     pub made-file-kept : Tree (dirView dh (t3 .dirTable)) (fileView (t3 .dirTable) (t3 .fileHash) (t3 .fileTable)) RD (rest RF)
     made-file-kept =
         tree-files (dirView dh d) (dirView dh (t3 .dirTable)) F (fileView (t3 .dirTable) (t3 .fileHash) (t3 .fileTable)) RD RF (rest RF) T
-        (linked-dirs dh d fh f1 fine x p name bn (Tk .0 .0) in-room p-room) refl
+        made-file-dirs refl
         (sound-agree (fileView (t2 .dirTable) (t2 .fileHash) (t2 .fileTable)) (fileView (t3 .dirTable) (t3 .fileHash) (t3 .fileTable))
-        (carried-files (t2 .dirTable) (t2 .fileHash) (t2 .fileTable) x
-        (let a = linked-sound .count-max in let b = linked-sound .max-room in let c = in-file in omega arith) carried bc)
+        (carried-files (t2 .dirTable) (t2 .fileHash) (t2 .fileTable) x in-file carried bc)
         (rest RF) 0 (Live (dirView dh d .count) RD) (Live (dirView dh d .count) RD) (λ q. (λ l. l, λ l. l)) (λ q l. l .0) linked-sound)
-      where
-        in-file : x < fileView (t2 .dirTable) (t2 .fileHash) (t2 .fileTable) .count
-        in-file =
-            subst (λ n. x < n) (sym (linked-files dh d fh f1 fine x p name bn (Tk .0 .0) in-room p-room .count)) (still .1)

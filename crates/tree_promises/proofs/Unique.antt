@@ -66,7 +66,7 @@ module _ (kind : Kind) (s : Tables) (work : List ℕ) where
   module _ (opens : List ℕ) where
     pub one-make : (p : ℕ) (name bytes : List ℕ) → One (promised.MakePromise kind s opens work p name bytes)
     one-make p name bytes =
-        one-opens (λ a. calls.makeGives a 0 s opens) s kind opens work (calls.makeRows s (kindView kind s) opens p (nameKey p name))
+        one-opens (λ a. calls.makeGives a 0 s opens) s kind opens work (calls.makeRows s (kindView kind s) opens p name)
         (calls.makeDone kind s opens p name bytes)
 
     pub one-rename : (x p : ℕ) (name : List ℕ) → One (promised.RenamePromise kind s opens work x p name)

@@ -2,6 +2,7 @@
 -- that the call is about, x an inode, p a parent's inode, k a key. These rows are decided where sizes, work list and soundness have passed.
 use mathlib.Core.Path.{_≡_}
 use mathlib.Core.List.{List, [], _∷_, _++_}
+use mathlib.Core.Bool.{false}
 use mathlib.Core.Logic.{_⊎_}
 use Prim.Native.Nat.{ℕ, _+_, _-_, _*_, _<_, _≤_}
 use lib.ListN.{length, take, drop}
@@ -10,6 +11,7 @@ use Rattle.order.specs.Giving.{giving}
 use Rattle.order.specs.declared.Answer.{Answer}
 use Rattle.order.specs.declared.Answer.the-variants.{
   Done,
+  InvalidValue,
   NoSpace,
   ListTooShort,
   NotFound,
@@ -30,6 +32,7 @@ use Rattle.tree_sound.specs.Tables.{Tables, dirs, files}
 use Rattle.tree_opens.specs.Opens.{opened, withOpen}
 use Rattle.tree_promises.specs.declared.Kind.{Kind}
 use Rattle.tree_promises.specs.declared.Kind.the-variants.{Directory, File}
+use Rattle.tree_promises.specs.Legal.{legal}
 use Rattle.tree_promises.specs.Has.{Has, HasOther, above}
 use Rattle.tree_promises.specs.Kinds.{width, carriedAt, carriedMany, kindTable, kindView}
 use Rattle.tree_promises.specs.Steps.{withCarried, made, deleted, renamed}
@@ -70,16 +73,17 @@ pub record Make : Type 0 where
 abbrev pub makeGives : (answer : Answer) (inode : ℕ) (tables : Tables) (opens : List ℕ) → Make
 makeGives answer inode tables opens = record { answer = answer; inode = inode; tables = tables; opens = opens }
 
--- no entry never used and none removed: freeOf counts both
-abbrev pub makeTests : (s : Tables) (v : View) (p : ℕ) (key : List ℕ) → List (Row Answer)
-makeTests s v p k =
-    row (LiveIn (dirs s) p → ⊥) NotFound
-    ∷ row (Has v k) AlreadyExist
+-- the new name is judged before all else; in the last row no entry is left, never used or removed: freeOf counts both
+abbrev pub makeTests : (s : Tables) (v : View) (p : ℕ) (name : List ℕ) → List (Row Answer)
+makeTests s v p name =
+    row (legal name ≡ false) InvalidValue
+    ∷ row (LiveIn (dirs s) p → ⊥) NotFound
+    ∷ row (Has v (nameKey p name)) AlreadyExist
     ∷ row (freeOf v ≡ 0) NoSpace
     ∷ []
 
-abbrev pub makeRows : (s : Tables) (v : View) (opens : List ℕ) (p : ℕ) (key : List ℕ) → List (Row Make)
-makeRows s v opens p k = giving (λ a. makeGives a 0 s opens) (makeTests s v p k)
+abbrev pub makeRows : (s : Tables) (v : View) (opens : List ℕ) (p : ℕ) (name : List ℕ) → List (Row Make)
+makeRows s v opens p name = giving (λ a. makeGives a 0 s opens) (makeTests s v p name)
 
 -- bytes are those that the entry carries
 abbrev pub makeDone : (kind : Kind) (s : Tables) (opens : List ℕ) (p : ℕ) (name bytes : List ℕ) → Make
@@ -110,12 +114,14 @@ abbrev pub ringTests : (kind : Kind) (s : Tables) (x p : ℕ) → List (Row Answ
 ringTests Directory s x p = row (x ∈ above (dirs s) p) IntoItself ∷ []
 ringTests File s x p = []
 
--- rename needs no entry but the subject's own, so it can't run out of room (tree_history/proofs/Space.antt): no row asks for one
+-- the new name is judged once the subject is, and before the parent. Rename needs no entry but the subject's own, so it can't run out of room
+-- (tree_history/proofs/Space.antt): no row asks for one
 abbrev pub renameTests : (kind : Kind) (s : Tables) (opens : List ℕ) (x p : ℕ) (name : List ℕ) → List (Row Answer)
 renameTests kind s opens x p name =
     heldTests (kindView kind s) opens x
     ++ (rootTests kind x
-    ++ (row (LiveIn (dirs s) p → ⊥) NotFound
+    ++ (row (legal name ≡ false) InvalidValue
+    ∷ row (LiveIn (dirs s) p → ⊥) NotFound
     ∷ (ringTests kind s x p
     ++ (row (HasOther (kindView kind s) x (nameKey p name)) AlreadyExist
     ∷ []))))

@@ -1,6 +1,7 @@
 pub mod Has
 pub mod Kinds
 pub mod Steps
+pub mod Legal
 pub mod Calls
 pub mod Promise
 pub mod Format

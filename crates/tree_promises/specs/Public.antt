@@ -42,7 +42,7 @@ module _ (kind : Kind) (s : Tables) where
   -- make, of a parent, a name and the carried bytes
   abbrev pub MakePromise : (opens work : List ℕ) (p : ℕ) (name bytes : List ℕ) → Beside calls.Make → Type 0
   MakePromise opens work p name bytes =
-      OpensPromise kind (λ a. calls.makeGives a 0 s opens) s opens work (calls.makeRows s (kindView kind s) opens p (nameKey p name))
+      OpensPromise kind (λ a. calls.makeGives a 0 s opens) s opens work (calls.makeRows s (kindView kind s) opens p name)
       (calls.makeDone kind s opens p name bytes)
 
   -- rename of x to a parent and a name

@@ -90,7 +90,7 @@ impl Session {
 /// Whether the original may be asked to follow: on the other refusals it does something else, as docs/DIFFERENCES.md lists.
 fn followed(call: &TreeCall, number: u32) -> bool {
     match call {
-        // NoSpace and AlreadyExist; a dead parent is taken there.
+        // NoSpace and AlreadyExist; a dead parent is taken there, and any name.
         TreeCall::Make { .. } => matches!(number, 0 | 6 | 11),
         // A refused rename has removed the entry already.
         TreeCall::Rename { .. } => number == 0,
@@ -199,7 +199,8 @@ pub fn any_call(chance: &mut Chance, lent: &mut Tree) -> TreeCall {
     let kind = chance.pick(&[Kind::Dir, Kind::File]);
     let parent = any_inode(chance, lent, Kind::Dir);
     let inode = any_inode(chance, lent, kind);
-    let name = any_name(chance);
+    // Mostly a name that a new entry may have: the original takes the others.
+    let name = if chance.one_in(12) { any_bytes_name(chance) } else { any_name(chance) };
     let carried: [u8; 20] = chance.bytes(20).try_into().unwrap();
     let len = chance.pick(&[0, 1, 2, 8, 50, 50]);
     lent.list = chance.words(len);

@@ -221,6 +221,29 @@ fn rename_that_meets_a_key() {
 }
 
 #[test]
+fn names_that_no_new_entry_may_have() {
+    let lent = with_dir(tables(4, 2), 1, b'a');
+    let mut behind = name(b'a');
+    behind[2] = b'x';
+    let whole = [b'z'; 16];
+    for (bad, wanted) in [([0; 16], 2), (behind, 2), (whole, 0)] {
+        let make = TreeCall::Make { kind: Kind::Dir, parent: 1, name: bad, carried: [0; 20] };
+        assert_eq!(tree_number(make, &lent), wanted);
+        let rename = TreeCall::Rename { kind: Kind::Dir, inode: 2, parent: 1, name: bad };
+        assert_eq!(tree_number(rename, &lent), wanted);
+        // Before the parent is looked at, and after the subject is.
+        let parent = TreeCall::Make { kind: Kind::Dir, parent: 9, name: bad, carried: [0; 20] };
+        assert_eq!(tree_number(parent, &lent), if wanted == 2 { 2 } else { 10 });
+        let dead = TreeCall::Rename { kind: Kind::Dir, inode: 3, parent: 9, name: bad };
+        assert_eq!(tree_number(dead, &lent), 10);
+        if original::PRESENT {
+            assert_eq!(beside(&lent).make_dir(1, bad, [0; 4]), Ok(3));
+            assert_eq!(beside(&lent).rename_dir(2, 1, bad), Ok(()));
+        }
+    }
+}
+
+#[test]
 fn directory_into_itself() {
     let lent = with_dir(with_dir(tables(4, 2), 1, b'a'), 2, b'b');
     for parent in [2, 3] {

@@ -53,6 +53,11 @@ fn with_key(four: Four, tree: &Tree, kind: Kind, key: &Key) -> Option<u32> {
     bucket.iter().copied().find(|x| view.key(*x) == *key)
 }
 
+/// "A new name is legal when its first byte is not zero and no nonzero byte follows a zero one."
+pub fn legal(name: &Name) -> bool {
+    name[0] != 0 && name.windows(2).all(|pair| pair[0] != 0 || pair[1] == 0)
+}
+
 // The two halves of make, delete and rename.
 
 /// Puts an entry under its key: "to the front of their bucket and of their parent's list".
@@ -144,6 +149,7 @@ pub fn make(
     carried: &[u8],
 ) -> Outcome<u32> {
     let tree = gate(four.four(), work, Some(Opens { kind, len: opens.len() }))?;
+    refuse(!legal(name), InvalidValue)?;
     live(&tree, Kind::Dir, parent)?;
     let other = with_key(four.four(), &tree, kind, &key(parent, name));
     refuse(other.is_some(), AlreadyExist)?;
@@ -182,6 +188,7 @@ pub fn rename(
     live(&tree, kind, inode)?;
     refuse(opens[inode as usize] == 0, NotOpen)?;
     refuse(is_root(kind, inode), DeletingRoot)?;
+    refuse(!legal(name), InvalidValue)?;
     live(&tree, Kind::Dir, parent)?;
     refuse(kind == Kind::Dir && at_or_below(four.four(), parent, inode), IntoItself)?;
     let other = with_key(four.four(), &tree, kind, &key(parent, name));

@@ -52,7 +52,7 @@ macro_rules! refusals {
 
 refusals! {
     SizeMismatch = 1, "a table, the hash buckets or the data have a length that does not fit";
-    InvalidValue = 2, "a size or a number is outside its bounds, or no blocks were asked for";
+    InvalidValue = 2, "a size or a number is outside its bounds, no blocks were asked for, or a new name is not legal";
     WorkTooShort = 3, "the work list or the open counts have too few places";
     BrokenFat = 4, "the block table is not sound: its chains can't be trusted";
     NotAFile = 5, "the block is not the first block of a file";

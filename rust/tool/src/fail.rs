@@ -1,7 +1,8 @@
 //! Exit codes, as fsck has them, and the one line that says what went wrong.
 
+use crate::name::wrong;
 use mukthiban::folder::FolderError;
-use mukthiban::Refusal;
+use mukthiban::{Name, Refusal};
 use std::io;
 use std::path::Path;
 
@@ -64,6 +65,14 @@ impl Fail {
     /// A call of the library that was refused, about the thing named.
     pub fn refused(about: &str, refusal: Refusal) -> Fail {
         Fail::failed(format!("{about}: {} [{} {}]", refusal.meaning(), refusal.name(), refusal.number()))
+    }
+
+    /// A name that no new entry may have, before anything is changed.
+    pub fn new_name(about: &str, name: &Name) -> Outcome<()> {
+        match wrong(name) {
+            None => Ok(()),
+            Some(what) => Err(Fail::failed(format!("{about}: {what} [InvalidValue 2]"))),
+        }
     }
 
     /// Standard output can't be written. A reader that has gone away is no fault.

@@ -89,6 +89,7 @@ fn dir(
     if let Ok(found) = change.session.volume.lookup_dir(parent, name) {
         return Ok(found.inode);
     }
+    Fail::new_name(&path, name)?;
     let inode = change.make_dir(parent, name, carried).map_err(|r| full(&path, r, Kind::Dir))?;
     taken.dirs.push(path);
     Ok(inode)
@@ -108,6 +109,9 @@ fn file(call: &Call, change: &mut Change, parent: u32, name: &Name, source: &Sou
     if there.is_some() && !call.has("--replace") {
         let line = format!("{path}: there is such a file; --replace would change it [AlreadyExist 11]");
         return Err(Fail::failed(line));
+    }
+    if there.is_none() {
+        Fail::new_name(&path, name)?;
     }
     let volume = &change.session.volume;
     let before = there.and_then(|inode| volume.carried_file(inode).ok()).map(|carried| Record::of(&carried));

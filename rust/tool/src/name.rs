@@ -64,6 +64,15 @@ pub fn parse(written: &[u8]) -> Result<Name, String> {
     Ok(bytes.try_into().expect("16 bytes"))
 }
 
+/// What is wrong with a name for a new entry. One that is there already may have any.
+pub fn wrong(name: &Name) -> Option<&'static str> {
+    match (name[0], mukthiban::name::is_legal(name)) {
+        (_, true) => None,
+        (0, _) => Some("a new name can't be empty or begin with a zero byte"),
+        _ => Some("a new name can't have a byte behind a zero one"),
+    }
+}
+
 fn hex(after: &[u8]) -> Option<(u8, &[u8])> {
     let [b'x', high, low, rest @ ..] = after else { return None };
     let digit = |b: &u8| (*b as char).to_digit(16);
@@ -160,6 +169,15 @@ mod tests {
         assert!(parse(b"a\\b").is_err());
         assert!(parse(b"a\\x1").is_err());
         assert_eq!(parse(b"0123456789abcdef\\x00"), Ok(*b"0123456789abcdef"));
+    }
+
+    #[test]
+    fn new_names() {
+        assert_eq!(wrong(&name(b"slot 1")), None);
+        assert_eq!(wrong(&name(b"0123456789abcdef")), None);
+        assert!(wrong(&name(b"")).is_some_and(|what| what.contains("empty")));
+        assert!(wrong(&name(b"\0a")).is_some_and(|what| what.contains("begin")));
+        assert!(wrong(&name(b"a\0b")).is_some_and(|what| what.contains("behind")));
     }
 
     #[test]

@@ -27,6 +27,11 @@ impl Entry {
         Entry { kind, inode, name, parent, record, chain: None, faults: Vec::new(), inside: 0..0 }
     }
 
+    /// The root has a name of its own, of zeros alone.
+    pub fn is_root(&self) -> bool {
+        self.kind == Kind::Dir && self.inode == ROOT
+    }
+
     /// A file's blocks in chain order.
     pub fn blocks(&self) -> &[u32] {
         self.chain.as_ref().map_or(&[], |c| &c.blocks)

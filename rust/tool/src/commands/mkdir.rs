@@ -26,6 +26,7 @@ fn run(call: &Call) -> Outcome<u8> {
     let Some((parents, name)) = path.split() else {
         return Err(Fail::refused("/", Refusal::AlreadyExist));
     };
+    Fail::new_name(&about, name)?;
     let session = &change.session;
     let parent = session.entries[session.dir(parents)?].inode;
     let made = change.make_dir(parent, name, [0; 4]);

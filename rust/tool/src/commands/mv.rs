@@ -15,7 +15,7 @@ pub const COMMAND: Command = Command {
     options: &[],
     short: "rename or move a file or a directory",
     long: "FROM is a file, or else a directory; with a slash at its end a directory. Where TO is a directory, or\n\
-           ends with a slash, it keeps its name.",
+           ends with a slash, it keeps its name. A bad name that check counts is cured by a new one.",
     run,
 };
 
@@ -33,6 +33,7 @@ fn run(call: &Call) -> Outcome<u8> {
     session.named_below(&mut to, || Ok(own))?;
     let about = joined(&to.names);
     let (parents, name) = to.split().expect("a name was added");
+    Fail::new_name(&about, name)?;
     let dir = session.dir(parents)?;
     if session.child(dir, kind, name) == Some(at) {
         return Err(Fail::failed(format!("{before}: it is there already")));

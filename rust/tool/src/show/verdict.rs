@@ -3,6 +3,7 @@
 use crate::args::Call;
 use crate::diagnose::{self, Found, Hints};
 use crate::fail::{Outcome, NOT_SOUND, SOUND};
+use crate::name::wrong;
 use crate::records::{Remark, Remarkable};
 use crate::session::Session;
 use crate::show::json;
@@ -22,6 +23,8 @@ struct Counts {
     empty: usize,
     fragments: usize,
     directories: usize,
+    /// Entries but the root whose name no new entry may have.
+    bad_names: usize,
 }
 
 impl Counts {
@@ -32,6 +35,7 @@ impl Counts {
             empty: of_kind(Kind::File).filter(|e| e.record.size == 0).count(),
             fragments: of_kind(Kind::File).map(|e| e.pieces().len()).sum(),
             directories: of_kind(Kind::Dir).count(),
+            bad_names: session.entries.iter().filter(|e| !e.is_root() && wrong(&e.name).is_some()).count(),
         }
     }
 }
@@ -88,6 +92,9 @@ fn tested_text(call: &Call, session: &Session) -> String {
     line("files", counts.files, if counts.empty > 0 { empty } else { String::new() });
     line("fragments", counts.fragments, String::new());
     line("directories", counts.directories, "the root included".into());
+    if counts.bad_names > 0 {
+        line("bad names", counts.bad_names, "no new entry may have such a one; mv gives another".into());
+    }
     if !account.lost.is_empty() {
         let blocks: usize = account.lost.iter().map(|l| l.chain.blocks.len()).sum();
         let note = format!("no file names them; {}; lift writes them to lost+found/", count(blocks as u64, "block"));
@@ -143,6 +150,7 @@ fn tested_json(path: &Path, session: &Session) -> String {
             ("empty_files", counts.empty.to_string()),
             ("fragments", counts.fragments.to_string()),
             ("directories", counts.directories.to_string()),
+            ("bad_names", counts.bad_names.to_string()),
             ("lost_chains", json::list(lost)),
             ("findings", json::list(account.findings.iter().map(finding))),
             ("remarks", json::list(account.remarks.iter().map(remark_json))),
@@ -216,6 +224,7 @@ fn refused_json(path: &Path, refusal: Refusal, sizes: &Sizes, hints: &Hints) -> 
             unknown("empty_files"),
             unknown("fragments"),
             unknown("directories"),
+            unknown("bad_names"),
             ("lost_chains", json::list([])),
             ("findings", json::list([])),
             ("remarks", json::list([])),

@@ -186,26 +186,77 @@ fn full_tables() {
 fn names_that_are_no_text() {
     let b = Bench::with_volume();
     b.host("f", b"12345");
-    b.done(&["put", "v", "f", "a\\x00b\\xff"]);
+    b.done(&["put", "v", "f", "a\\x01b\\xff"]);
     b.done(&["put", "v", "f", "\\x2e\\x2e"]);
     b.done(&["mkdir", "v", "\\x2f"]);
     b.done(&["put", "v", "f", "\\x2f/größe"]);
-    b.done(&["put", "v", "f", "\\x00"]);
     let text = b.done(&["ls", "--all", "v"]);
-    for name in ["/\\x2f/\n", "/\\x2f/größe\n", "/\\x2e\\x2e\n", "/a\\x00b\\xff\n", "/\\x00\n"] {
+    for name in ["/\\x2f/\n", "/\\x2f/größe\n", "/\\x2e\\x2e\n", "/a\\x01b\\xff\n"] {
         assert!(text.contains(name), "{name} in {text}");
     }
-    assert_eq!(b.done(&["cat", "v", "a\\x00b\\xff"]), "12345");
+    assert_eq!(b.done(&["cat", "v", "a\\x01b\\xff"]), "12345");
     assert_eq!(b.done(&["cat", "v", "\\x2f/gr\\xc3\\xb6\\xc3\\x9fe"]), "12345");
-    assert_eq!(b.done(&["cat", "v", "\\x00"]), "12345");
     b.done(&["lift", "v", "out"]);
     assert_eq!(fs::read(b.at("out/\\x2e\\x2e")).unwrap(), b"12345");
     assert_eq!(fs::read(b.at("out/\\x2f/größe")).unwrap(), b"12345");
-    assert_eq!(fs::read(b.at("out/a\\x00b\\xff")).unwrap(), b"12345");
+    assert_eq!(fs::read(b.at("out/a\\x01b\\xff")).unwrap(), b"12345");
     // What lift named, put reads back.
-    b.done(&["rm", "v", "a\\x00b\\xff"]);
-    b.done(&["put", "v", "out/a\\x00b\\xff", "/"]);
-    assert_eq!(b.done(&["cat", "v", "a\\x00b\\xff"]), "12345");
+    b.done(&["rm", "v", "a\\x01b\\xff"]);
+    b.done(&["put", "v", "out/a\\x01b\\xff", "/"]);
+    assert_eq!(b.done(&["cat", "v", "a\\x01b\\xff"]), "12345");
+}
+
+/// A volume with the files a, b and c and the directory d, all hashed to one bucket, so that a name can be changed in place.
+fn one_bucket() -> Bench {
+    let b = Bench::new();
+    b.done(&["new", "v", "--blocks", "9", "--block-len", "16", "--dirs", "3", "--files", "5", "--buckets", "1"]);
+    b.host("f", b"12345");
+    ["a", "b", "c"].iter().for_each(|name| drop(b.done(&["put", "v", "f", name])));
+    b.done(&["mkdir", "v", "d"]);
+    b
+}
+
+#[test]
+fn new_names_are_judged() {
+    let b = one_bucket();
+    b.done(&["new", "w", "--blocks", "9", "--block-len", "16", "--dirs", "3", "--files", "5", "--buckets", "1"]);
+    for (name, what) in [("\\x00", "empty or begin with a zero byte"), ("x\\x00y", "a byte behind a zero one")] {
+        for words in [
+            &["put", "v", "f", name][..],
+            &["mkdir", "v", name],
+            &["mv", "v", "a", name],
+            &["mv", "v", "d/", name],
+            &["cp", "v", "a", "w", name],
+            &["cp", "v", "d/", "w", name],
+        ] {
+            let line = b.fails(words, 8);
+            assert!(line.contains(what) && line.contains("[InvalidValue 2]"), "{line}");
+        }
+    }
+    b.done(&["mv", "v", "a", "0123456789abcdef"]);
+}
+
+#[test]
+fn bad_names_that_are_there() {
+    let b = one_bucket();
+    assert!(!b.done(&["check", "v"]).contains("bad names"));
+    b.poke("v/file_table.bin", 48 + 4, b"a\0x");
+    b.poke("v/file_table.bin", 2 * 48 + 4, &[0]);
+    b.poke("v/dir_table.bin", 2 * 40 + 4, b"d\0\0y");
+    let text = b.done(&["check", "v"]);
+    assert!(text.starts_with("SOUND") && text.contains("bad names              3"), "{text}");
+    assert!(b.done(&["check", "--json", "v"]).contains("\"bad_names\": 3"));
+    // They can be listed, read, lifted, changed and removed, and a new name cures them.
+    assert!(b.done(&["ls", "v"]).contains("a\\x00x"));
+    assert_eq!(b.done(&["cat", "v", "a\\x00x"]), "12345");
+    b.done(&["lift", "v", "out"]);
+    assert_eq!(fs::read(b.at("out/a\\x00x")).unwrap(), b"12345");
+    b.done(&["put", "--replace", "v", "f", "a\\x00x"]);
+    b.done(&["rm", "v", "\\x00"]);
+    b.done(&["mv", "v", "a\\x00x", "a"]);
+    b.done(&["mv", "v", "d\\x00\\x00y", "d"]);
+    assert!(!b.done(&["check", "v"]).contains("bad names"));
+    assert_eq!(b.done(&["cat", "v", "a"]), "12345");
 }
 
 #[test]

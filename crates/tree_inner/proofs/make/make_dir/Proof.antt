@@ -1,5 +1,4 @@
 use Rattle.tree_inner.proofs.Makes.{make-dir-counted, make-dir-done, new-dir-asks}
-use Rattle.tree_key.specs.Key.{nameKey}
 use Rattle.tree_sound.specs.Tables.{tables, dirs}
 use Rattle.tree_promises.specs.declared.Kind.the-variants.{Directory}
 use Rattle.tree_promises.specs.Calls.{makeTests, makeGives, makeDone}
@@ -23,7 +22,7 @@ new-dir-requires c κs =
     let args = c .before .before .before .before .before .before .before .before .before .before .before .before .args in
     let at-pre = c .before .before .before .before .before .before .before .before .before .before .before .before .pre in
     let at-judge-make = c .before .before .before .before .judge-make in
-    new-dir-asks (tables (args .hash .now) (args .dirs .now) (args .file-hash .now) (args .files .now)) (at-pre .ready) (args .parent) (nameKey (args .parent) (args .name .now)) (passed (makeTests (tables (args .hash .now) (args .dirs .now) (args .file-hash .now) (args .files .now)) (dirs (tables (args .hash .now) (args .dirs .now) (args .file-hash .now) (args .files .now))) (args .parent) (nameKey (args .parent) (args .name .now))) _ (at-judge-make .ensures) (c .before .before .enum-told .given .1))
+    new-dir-asks (tables (args .hash .now) (args .dirs .now) (args .file-hash .now) (args .files .now)) (at-pre .ready) (args .parent) (args .name .now) (passed (makeTests (tables (args .hash .now) (args .dirs .now) (args .file-hash .now) (args .files .now)) (dirs (tables (args .hash .now) (args .dirs .now) (args .file-hash .now) (args .files .now))) (args .parent) (args .name .now)) _ (at-judge-make .ensures) (c .before .before .enum-told .given .1))
 
 put-record-requires : tie.Need-put-record-requires
 put-record-requires c κs = search (make-dir-counted)
@@ -38,7 +37,7 @@ returns : tie.Need-returns
 returns c =
     let args = c .before .before .before .before .before .before .before .before .before .before .before .args in
     let at-judge-make = c .before .before .before .judge-make in
-    call-refused (λ a. makeGives a 0 (tables (args .hash .now) (args .dirs .now) (args .file-hash .now) (args .files .now)) (args .opens .now)) (makeDone Directory (tables (args .hash .now) (args .dirs .now) (args .file-hash .now) (args .files .now)) (args .opens .now) (args .parent) (args .name .now) (args .padding .now)) (makeTests (tables (args .hash .now) (args .dirs .now) (args .file-hash .now) (args .files .now)) (dirs (tables (args .hash .now) (args .dirs .now) (args .file-hash .now) (args .files .now))) (args .parent) (nameKey (args .parent) (args .name .now))) (at-judge-make .result) _ (at-judge-make .ensures) (c .before .judged .given .1)
+    call-refused (λ a. makeGives a 0 (tables (args .hash .now) (args .dirs .now) (args .file-hash .now) (args .files .now)) (args .opens .now)) (makeDone Directory (tables (args .hash .now) (args .dirs .now) (args .file-hash .now) (args .files .now)) (args .opens .now) (args .parent) (args .name .now) (args .padding .now)) (makeTests (tables (args .hash .now) (args .dirs .now) (args .file-hash .now) (args .files .now)) (dirs (tables (args .hash .now) (args .dirs .now) (args .file-hash .now) (args .files .now))) (args .parent) (args .name .now)) (at-judge-make .result) _ (at-judge-make .ensures) (c .before .judged .given .1)
 
 same-length-3 : tie.Need-same-length-3
 same-length-3 c = search needs

@@ -1,5 +1,4 @@
 use Rattle.tree_inner.proofs.Makes.{make-file-counted, make-file-done, new-file-asks}
-use Rattle.tree_key.specs.Key.{nameKey}
 use Rattle.tree_sound.specs.Tables.{tables, files}
 use Rattle.tree_promises.specs.declared.Kind.the-variants.{File}
 use Rattle.tree_promises.specs.Calls.{makeTests, makeGives, makeDone}
@@ -23,7 +22,7 @@ new-file-requires c κs =
     let args = c .before .before .before .before .before .before .before .before .before .before .before .before .before .before .args in
     let at-pre = c .before .before .before .before .before .before .before .before .before .before .before .before .before .before .pre in
     let at-judge-make = c .before .before .before .before .before .judge-make in
-    new-file-asks (tables (args .dir-hash .now) (args .dirs .now) (args .hash .now) (args .files .now)) (at-pre .ready) (args .parent) (nameKey (args .parent) (args .name .now)) (passed (makeTests (tables (args .dir-hash .now) (args .dirs .now) (args .hash .now) (args .files .now)) (files (tables (args .dir-hash .now) (args .dirs .now) (args .hash .now) (args .files .now))) (args .parent) (nameKey (args .parent) (args .name .now))) _ (at-judge-make .ensures) (c .before .before .before .enum-told .given .1))
+    new-file-asks (tables (args .dir-hash .now) (args .dirs .now) (args .hash .now) (args .files .now)) (at-pre .ready) (args .parent) (args .name .now) (passed (makeTests (tables (args .dir-hash .now) (args .dirs .now) (args .hash .now) (args .files .now)) (files (tables (args .dir-hash .now) (args .dirs .now) (args .hash .now) (args .files .now))) (args .parent) (args .name .now)) _ (at-judge-make .ensures) (c .before .before .before .enum-told .given .1))
 
 put-record-requires : tie.Need-put-record-requires
 put-record-requires c κs = search (make-file-counted)
@@ -41,7 +40,7 @@ returns : tie.Need-returns
 returns c =
     let args = c .before .before .before .before .before .before .before .before .before .before .before .before .args in
     let at-judge-make = c .before .before .before .judge-make in
-    call-refused (λ a. makeGives a 0 (tables (args .dir-hash .now) (args .dirs .now) (args .hash .now) (args .files .now)) (args .opens .now)) (makeDone File (tables (args .dir-hash .now) (args .dirs .now) (args .hash .now) (args .files .now)) (args .opens .now) (args .parent) (args .name .now) (args .carried .now)) (makeTests (tables (args .dir-hash .now) (args .dirs .now) (args .hash .now) (args .files .now)) (files (tables (args .dir-hash .now) (args .dirs .now) (args .hash .now) (args .files .now))) (args .parent) (nameKey (args .parent) (args .name .now))) (at-judge-make .result) _ (at-judge-make .ensures) (c .before .judged .given .1)
+    call-refused (λ a. makeGives a 0 (tables (args .dir-hash .now) (args .dirs .now) (args .hash .now) (args .files .now)) (args .opens .now)) (makeDone File (tables (args .dir-hash .now) (args .dirs .now) (args .hash .now) (args .files .now)) (args .opens .now) (args .parent) (args .name .now) (args .carried .now)) (makeTests (tables (args .dir-hash .now) (args .dirs .now) (args .hash .now) (args .files .now)) (files (tables (args .dir-hash .now) (args .dirs .now) (args .hash .now) (args .files .now))) (args .parent) (args .name .now)) (at-judge-make .result) _ (at-judge-make .ensures) (c .before .judged .given .1)
 
 same-length-4 : tie.Need-same-length-4
 same-length-4 c = search needs
