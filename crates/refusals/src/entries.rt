@@ -46,10 +46,11 @@ fn opens(dir_opens: &mut [u32], file_opens: &mut [u32], x: usize) {
     tell::fill(file_opens, count);
 }
 
-// A name of one letter.
+// A name of one letter; a number from 65,536 on has another one behind a zero byte, and 0 has none.
 fn named(letter: usize) -> [u8; 16] {
     let mut name = [0u8; 16];
     name[0] = tell::byte(letter);
+    name[2] = tell::byte(letter / 65536);
     name
 }
 
