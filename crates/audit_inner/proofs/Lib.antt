@@ -1,0 +1,5 @@
+pub mod Chains
+pub mod Writing
+pub mod Judging
+pub mod Marking
+pub mod Sweeping

@@ -1,0 +1,4 @@
+pub mod Findings
+pub mod Volume
+pub mod Calls
+pub mod inner
