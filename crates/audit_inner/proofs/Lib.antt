@@ -3,3 +3,4 @@ pub mod Writing
 pub mod Judging
 pub mod Marking
 pub mod Sweeping
+pub mod Counted

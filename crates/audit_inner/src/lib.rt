@@ -1,5 +1,6 @@
 // The audit of the two layers together, on sound tables: it requires soundness and tests nothing. Each chain's length is counted once, each inode and
 // each block looked at twice: the findings are counted, and then written.
+use fat_inner::walk::Sought;
 use order::Answer;
 ghost use mathlib.Core.Path.{_≡_};
 ghost use mathlib.Core.Bool.{false};
@@ -7,8 +8,9 @@ ghost use mathlib.Core.List.{List, [], _∷_, _++_};
 ghost use Prim.Native.Nat.{ℕ, _+_, _*_, _/_, _≤_, _<_};
 ghost use lib.ListN.{length};
 ghost use Rattle.fat_table.specs.Sound.{IsNode};
-ghost use Rattle.fat_table.specs.Chain.{headAt};
+ghost use Rattle.fat_table.specs.Chain.{headAt, total, chainAt};
 ghost use Rattle.fat_inner.specs.Volume.{Volume};
+ghost use Rattle.fat_inner.specs.inner.Chains.{ChainFrom};
 ghost use Rattle.audit_inner.specs.Findings.{Finding, finding, when};
 ghost use Rattle.audit_inner.specs.Volume.{recordSize, countOf, chainOf};
 ghost use Rattle.audit_inner.specs.Calls.{auditGives};
@@ -26,6 +28,18 @@ const SIZE_HIGH: usize = tree_key::SaveExtFileEntry::CARRIED + 12;
 // The flag in the mark of a chain that a file names.
 const NAMED: u32 = 2147483648;
 
+// The number of blocks of the chain that index first starts.
+fn count_of(table: &[u8], n: usize, first: usize) -> usize
+    requires { ⌜ ChainFrom n (now table) first ⌝ }
+    ensures { λ r. ⌜ r ≡ total (chainAt (now (table .entry)) n first) ⌝ }
+{
+    let sought = fat_inner::walk::seek(table, n, first, n + 1);
+    match sought {
+        Sought::Within { node: _, part: _ } => 0,
+        Sought::Past { last: _, part } => n + 1 - part,
+    }
+}
+
 // The number of blocks of the file chain that the node at block b starts, 0 where it starts none.
 fn chain_at(table: &[u8], n: usize, head: usize, b: usize) -> u32
     requires { ⌜ Volume n (now table) ⌝ }
@@ -39,7 +53,7 @@ fn chain_at(table: &[u8], n: usize, head: usize, b: usize) -> u32
     if head == b + 1 {
         return 0;
     }
-    fat_inner::walk::count_of(table, n, b + 1) as u32
+    count_of(table, n, b + 1) as u32
 }
 
 // Marks each block where a file chain starts with the chain's length, hopping by node.

@@ -5,7 +5,6 @@ use Rattle.audit_inner.proofs.chain_at.Statement.{statement}
 use Rattle.audit_inner.proofs.chain_at.Tie as tie
 use Rattle.audit_inner.proofs.chain_at.Reads as reads
 use Rattle.audit_inner.proofs.chain_at.Lts as lts
-use Rattle.fat_inner.proofs.walk.count_of.Reads as count-of-reads
 use Rattle.fat_node.proofs.prev_of.Reads as prev-of-reads
 
 -- src/lib.rt:38:8
