@@ -1,0 +1,3 @@
+pub mod Public
+pub mod Unique
+pub mod Times
