@@ -1,3 +1,4 @@
 pub mod Public
 pub mod Unique
 pub mod Times
+pub mod Reader
