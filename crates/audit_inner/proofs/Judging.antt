@@ -254,11 +254,8 @@ pub size-sum : (f : Bytes) (y low high : ℕ) → low ≡ linkAt f 48 32 y → h
 size-sum f y low high e q = omega (arith, e, q, size-words f y)
 
 -- a chain's bytes are a number of the code
-pub product-fits : (m l : ℕ) → l ≤ 65536 → Fits w64 (m % 2147483648 * l)
-product-fits m l h = omega (arith, mul-le-mul-right l (le-top m), h)
-  where
-    le-top : (m : ℕ) → m % 2147483648 ≤ 2147483648
-    le-top m = omega arith
+pub product-fits : (m l : ℕ) → m ≤ 4294967296 → l ≤ 65536 → Fits w64 (m * l)
+product-fits m l k h = omega (arith, mul-le-mul-right l k, h)
 
 -- each way out of the judging of a chain, and of an inode
 module _ (n l b size : ℕ) (work : List ℕ) (r : Judged) where

@@ -30,7 +30,7 @@ judge-file-requires c κs = search (inode-some, inode-below, inode-inside, inode
 
 -- src/lib.rt:221:9
 put-file-requires : tie.Need-put-file-requires Inv-loop μ-loop
-put-file-requires c κs = search (files-fits)
+put-file-requires c κs = search (files-fits, needs)
 
 -- src/lib.rt:222:9
 add-y : tie.Need-add-y Inv-loop μ-loop

@@ -41,7 +41,7 @@ cast-t9 c = search needs
 
 -- src/lib.rt:127:15
 mul-t13 : tie.Need-mul-t13
-mul-t13 c = product-fits _ _ (omega arith)
+mul-t13 c = product-fits _ _ (omega arith) (omega arith)
 
 -- src/lib.rt:102:1
 same-length : tie.Need-same-length

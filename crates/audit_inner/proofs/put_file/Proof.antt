@@ -16,7 +16,7 @@ put-requires-2 c κs = search (put-fits-2)
 
 -- src/lib.rt:199:5
 put-requires-3 : tie.Need-put-requires-3
-put-requires-3 c κs = search (put-fits-3)
+put-requires-3 c κs = search (put-fits-2, put-fits-3)
 
 -- src/lib.rt:193:1
 same-length : tie.Need-same-length
