@@ -312,6 +312,21 @@ mukthiban_plain mukthiban_tree_close_file(const uint8_t *dir_hash, size_t dir_ha
                                           uint32_t *opens, size_t opens_len,
                                           uint32_t inode);
 
+/* ---- Both layers ---- */
+
+/* Writes the findings to list, two places each: the kind, then the inode (1 to 3) or the first block (4). In the order
+ * of inodes, and of one file in this order: 1, its block is no file chain's first; 2, a file of lower inode and size
+ * above 0 names the same chain; 3, its size is over the chain's blocks x block_len. Then, by first block: 4, a chain
+ * that no file names. The work list needs n places and as many as the two rooms. Answers 1, 2, 3, 4, 9, 8. */
+mukthiban_audited mukthiban_volume_audit(const uint8_t *table, size_t table_len,
+                                         const uint8_t *data, size_t data_len, size_t block_len,
+                                         const uint8_t *dir_hash, size_t dir_hash_len,
+                                         const uint8_t *dir_table, size_t dir_table_len,
+                                         const uint8_t *file_hash, size_t file_hash_len,
+                                         const uint8_t *file_table, size_t file_table_len,
+                                         uint32_t *work, size_t work_len,
+                                         uint32_t *list, size_t list_len);
+
 #ifdef __cplusplus
 }
 #endif

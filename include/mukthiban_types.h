@@ -107,6 +107,14 @@ typedef struct {
     uint32_t rule;
 } mukthiban_opened;
 
+/* Audit: how many findings there are; the lent list holds two places for each. */
+typedef struct {
+    uint32_t answer;
+    size_t count;
+    size_t entry;
+    uint32_t rule;
+} mukthiban_audited;
+
 /* Listing: how many places of the lent list hold the directory's children. */
 typedef struct {
     uint32_t answer;

@@ -2,3 +2,4 @@ pub mod Names
 pub mod One
 pub mod OneInner
 pub mod OneMerge
+pub mod OneVolume

@@ -13,6 +13,7 @@ mod tested_look;
 mod tested_opens;
 mod trees;
 mod version;
+mod volume;
 
 // The answer of both formats, of read and write by a list, and of a tree call that gives nothing else.
 #[repr(C)]
@@ -94,4 +95,13 @@ pub struct Found {
 pub struct Named {
     pub answer: u32,
     pub offset: usize,
+}
+
+// How many findings the audit has, two places of the lent list each.
+#[repr(C)]
+pub struct Audited {
+    pub answer: u32,
+    pub count: usize,
+    pub entry: usize,
+    pub rule: u32,
 }

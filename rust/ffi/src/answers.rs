@@ -24,6 +24,8 @@ answers! {
     Created { answer: u32, first_block: usize, entry: usize, rule: u32 }
     /// Open list.
     Opened { answer: u32, count: usize, entry: usize, rule: u32 }
+    /// Audit.
+    Audited { answer: u32, count: usize, entry: usize, rule: u32 }
     /// Listing.
     Listed { answer: u32, count: usize }
     /// Make.
