@@ -1,7 +1,7 @@
 //! `compare short` or `compare long [seed]`: every comparison, with counts and the seed. It ends at the first difference.
 
 use compare::chance::Chance;
-use compare::{block_history, by_list, check, closure, damage, edges, merged, tree_history};
+use compare::{audited, block_history, by_list, check, closure, damage, edges, merged, tree_history};
 use std::time::{Instant, SystemTime, UNIX_EPOCH};
 
 /// How much of everything.
@@ -56,6 +56,8 @@ fn main() {
     histories("list", by_list::run, seed, run.histories);
     histories("merge", merged::run, seed, run.histories);
     merged::large();
+    histories("audit", audited::run, seed, run.histories);
+    audited::large();
     histories("tree", tree_history::run, seed, run.histories);
     histories("full tree", tree_history::full, seed, run.histories / 10);
     closure::run(&mut Chance::new(seed), run.depth, run.states);
@@ -71,5 +73,8 @@ fn main() {
     let broken = check::broken();
     println!("rules 1 to 7 of broken block tables: {broken:?} times");
     assert!(broken.iter().all(|times| *times > 0), "a rule was never met");
+    let (answers, kinds) = audited::met();
+    println!("audits by their answers 0, 1, 2, 3, 4, 8, 9: {answers:?}; clean {}, findings of kinds 1 to 4: {:?}", kinds[0], &kinds[1..]);
+    assert!(answers.iter().chain(&kinds).all(|times| *times > 0), "an answer or a kind of finding was never met");
     println!("no difference, {} s", start.elapsed().as_secs());
 }

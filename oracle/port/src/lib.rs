@@ -1,5 +1,6 @@
 //! "A port": something that answers the calls of RULES 1.3 over lent bytes. The statement of the rules is one, the proved library another.
 
+mod audit;
 mod by_list;
 mod calls;
 mod inner;
@@ -7,6 +8,7 @@ mod library;
 mod merge;
 mod stated;
 
+pub use audit::Audit;
 pub use by_list::{library_version, ByList, ListCall};
 pub use calls::{Answered, BlockCall, Blocks, Kind, Tree, TreeCall};
 pub use inner::Inner;

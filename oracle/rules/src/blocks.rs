@@ -13,13 +13,13 @@ pub const MOST_BLOCK_LEN: usize = 65_536;
 
 /// Data and block length, which every call but format and the test takes.
 #[derive(Clone, Copy)]
-struct Volume {
-    data_len: usize,
-    block_len: usize,
+pub(crate) struct Volume {
+    pub(crate) data_len: usize,
+    pub(crate) block_len: usize,
 }
 
 /// Rows 1 and 2 for a block table, and for its data where the call takes them: n.
-fn sizes(table: &[u8], volume: Option<Volume>) -> Outcome<usize> {
+pub(crate) fn sizes(table: &[u8], volume: Option<Volume>) -> Outcome<usize> {
     refuse(table.len() < 8 || table.len() % 8 != 0, SizeMismatch)?;
     let n = block_count(table);
     if let Some(v) = volume {

@@ -5,6 +5,7 @@
 //! Speed does not matter, beyond being about linear.
 
 pub mod answer;
+pub mod audit;
 pub mod blocks;
 pub mod by_list;
 pub mod entries;

@@ -12,7 +12,7 @@ const MOST_OPENS: u32 = 65_535;
 // The rows that all tree calls share.
 
 /// Rows 1 and 2 for the four tables.
-fn sizes(four: Four) -> Outcome<()> {
+pub(crate) fn sizes(four: Four) -> Outcome<()> {
     let each = [four.view(Kind::Dir), four.view(Kind::File)];
     for view in each {
         refuse(view.hash.is_empty() || view.hash.len() % 4 != 0, SizeMismatch)?;
