@@ -249,6 +249,83 @@ static void tree(void)
     EXPECT(mukthiban_tree_test(FOUR, WORK).answer == MUKTHIBAN_BROKEN_TREE);
 }
 
+/* Six blocks, four files: the chain of blocks 0 and 1 has two of them, the chains from 2 and from 3 have none. */
+enum { BLOCKS = 6, PLACES = BLOCKS + 4 + 5 };
+static uint8_t fat[8 * (BLOCKS + 1)], bytes[LENGTH * BLOCKS], files[48 * 5];
+static uint32_t places[PLACES], found[10];
+
+#define FILES files, sizeof files
+#define DIRS dir_hash, sizeof dir_hash, dir_table, sizeof dir_table
+#define VOLUME fat, sizeof fat, bytes, sizeof bytes, (size_t)LENGTH
+#define TABLES DIRS, file_hash, sizeof file_hash, FILES
+#define FOUND found, (size_t)10
+
+static void make(uint8_t letter, uint8_t block, uint32_t size)
+{
+    uint32_t opens[5] = {0};
+    uint8_t name[16] = {0}, carried[20] = {0};
+
+    name[0] = letter;
+    carried[4] = block;
+    carried[8] = (uint8_t)size;
+    carried[9] = (uint8_t)(size >> 8);
+    EXPECT(mukthiban_tree_make_file(TABLES, places, PLACES, opens, 5, 1, name, carried).answer == MUKTHIBAN_DONE);
+}
+
+static void disagreeing(void)
+{
+    EXPECT(mukthiban_fat_format(fat, sizeof fat).answer == MUKTHIBAN_DONE);
+    EXPECT(mukthiban_fat_create(VOLUME, places, PLACES, 2).first_block == 0);
+    EXPECT(mukthiban_fat_create(VOLUME, places, PLACES, 1).first_block == 2);
+    EXPECT(mukthiban_fat_create(VOLUME, places, PLACES, 1).first_block == 3);
+    EXPECT(mukthiban_tree_format(DIRS, 4, file_hash, sizeof file_hash, FILES, 5).answer == MUKTHIBAN_DONE);
+    make('a', 0, 2 * LENGTH);
+    make('b', 0, 2 * LENGTH + 1);
+    make('c', 4, 1); /* the free chain's first */
+    make('d', 2, 0); /* of size 0: it names no chain */
+}
+
+/* Each refusal of the audit once, in the order of its rows; none writes to the list. */
+static void audit_refused(void)
+{
+    mukthiban_audited audited;
+    size_t i;
+
+    memset(found, 7, sizeof found);
+    places[0] = 7;
+    EXPECT(mukthiban_volume_audit(fat, 7, bytes, sizeof bytes, LENGTH, TABLES, places, PLACES, FOUND).answer == MUKTHIBAN_SIZE_MISMATCH);
+    EXPECT(mukthiban_volume_audit(fat, 8, bytes, 0, LENGTH, dir_hash, 3, dir_table, sizeof dir_table, file_hash,
+                                  sizeof file_hash, FILES, places, PLACES, FOUND)
+               .answer == MUKTHIBAN_SIZE_MISMATCH);
+    EXPECT(mukthiban_volume_audit(fat, 8, bytes, 0, LENGTH, TABLES, places, PLACES, FOUND).answer == MUKTHIBAN_INVALID_VALUE);
+    EXPECT(mukthiban_volume_audit(VOLUME, TABLES, places, PLACES - 1, FOUND).answer == MUKTHIBAN_WORK_TOO_SHORT);
+    EXPECT(places[0] == 7);
+    audited = mukthiban_volume_audit(VOLUME, TABLES, places, PLACES, found, 9);
+    EXPECT(audited.answer == MUKTHIBAN_LIST_TOO_SHORT && audited.count == 0 && places[0] == 0);
+
+    files[0] = 99;
+    audited = mukthiban_volume_audit(VOLUME, TABLES, places, PLACES, found, 0);
+    EXPECT(audited.answer == MUKTHIBAN_BROKEN_TREE && audited.count == 0 && audited.entry == 0 && audited.rule == 0);
+    fat[0] = 1;
+    audited = mukthiban_volume_audit(VOLUME, TABLES, places, PLACES, FOUND);
+    EXPECT(audited.answer == MUKTHIBAN_BROKEN_FAT && audited.count == 0);
+    EXPECT(audited.entry == 0 && audited.rule == MUKTHIBAN_HEAD);
+    for (i = 0; i < 10; i++)
+        EXPECT(found[i] == 0x07070707);
+}
+
+static void audit(void)
+{
+    static const uint32_t expected[10] = {2, 2, 3, 2, 1, 3, 4, 2, 4, 3};
+    mukthiban_audited audited;
+
+    disagreeing();
+    audited = mukthiban_volume_audit(VOLUME, TABLES, places, PLACES, FOUND);
+    EXPECT(audited.answer == MUKTHIBAN_DONE && audited.count == 5 && audited.entry == 0 && audited.rule == 0);
+    EXPECT(memcmp(found, expected, sizeof found) == 0);
+    audit_refused();
+}
+
 static void texts(void)
 {
     EXPECT(strcmp(mukthiban_text(MUKTHIBAN_DONE), "done") == 0);
@@ -263,5 +340,6 @@ int main(void)
     blocks();
     broken();
     tree();
+    audit();
     return failures == 0 ? 0 : 1;
 }

@@ -1,7 +1,7 @@
 //! A file's blocks at the cost of the file alone, and the free nodes.
 
 use crate::refusal::Refusal;
-use crate::volume::Volume;
+use crate::whole::Volume;
 
 impl Volume {
     /// The blocks of a file, in chain order, as [`Volume::open_list`] gives them. The nodes before the file are not

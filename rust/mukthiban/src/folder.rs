@@ -32,7 +32,7 @@ use crate::disk;
 use crate::journal::{self, tables_digest, Found, Journal, Piece, DATA, FILES};
 use crate::tree;
 use crate::parts::Parts;
-use crate::volume::Volume;
+use crate::whole::Volume;
 use std::borrow::Cow;
 use std::fs::{File, TryLockError};
 use std::io::{self, Read};

@@ -3,7 +3,8 @@
 //! The work is done by a static library whose every call is proved to answer as `docs/RULES.md` says and to leave every
 //! other byte as it was. This crate adds names to its numbers, slices to its pointers, and [`Volume`].
 //!
-//! - [`fat`] and [`tree`] have each call once, over lent slices, any bytes allowed.
+//! - [`fat`], [`tree`] and, for both layers together, [`mod@volume`] have each call once, over lent slices, any bytes
+//!   allowed.
 //! - [`Volume`] owns a whole volume, tests it once, and then works without testing again. It has a walk of its tree,
 //!   lookup by path, and files that are read and written as the standard library's are.
 //! - [`Refusal`] says why a call was refused.
@@ -31,13 +32,14 @@ mod record;
 mod refusal;
 mod tables;
 #[cfg(feature = "std")]
-mod volume;
+mod whole;
 
 pub mod fat;
 #[cfg(all(unix, feature = "std"))]
 pub mod folder;
 pub mod name;
 pub mod tree;
+pub mod volume;
 
 #[cfg(feature = "std")]
 pub use parts::{Parts, Shape};
@@ -45,7 +47,7 @@ pub use record::Record;
 pub use refusal::Refusal;
 pub use tables::{Kind, Name, ROOT};
 #[cfg(feature = "std")]
-pub use volume::{Entry, File, FileMut, NotSound, Volume, Walk};
+pub use whole::{Entry, File, FileMut, NotSound, Volume, Walk};
 
 /// The version of the proved library that is linked: major, minor, patch.
 ///

@@ -2,7 +2,6 @@
 //! without ever leaving it half written.
 
 mod args;
-mod audit;
 mod change;
 mod cli;
 mod commands;

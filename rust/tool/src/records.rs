@@ -1,8 +1,8 @@
 //! What the audit means to a person: what is wrong with which file, and what is only remarkable.
 
-use crate::audit::audit;
 use crate::tree::{path_of, Chain, Entry};
 use crate::words::{count, number};
+use mukthiban::volume::Finding as Found;
 use mukthiban::{Kind, Record, Volume};
 use std::collections::HashMap;
 use std::rc::Rc;
@@ -50,7 +50,6 @@ impl Account {
     pub fn take(volume: &Volume, entries: &mut [Entry]) -> Account {
         let mut files: Vec<usize> = (0..entries.len()).filter(|&e| entries[e].kind == Kind::File).collect();
         files.sort_by_key(|&e| entries[e].inode);
-        let records: Vec<(u32, Record)> = files.iter().map(|&e| (entries[e].inode, entries[e].record)).collect();
         let place: HashMap<u32, usize> = files.iter().map(|&e| (entries[e].inode, e)).collect();
         let full = |e: &&usize| entries[**e].record.size > 0;
         let (sharers, empty) =
@@ -64,12 +63,12 @@ impl Account {
             }
         }
         let mut account = Account::default();
-        for found in audit(volume, &records) {
-            match found.kind {
-                1 => account.begins_nowhere(entries, place[&found.of]),
-                2 => account.shared(entries, place[&found.of], &sharers),
-                3 => account.too_long(entries, place[&found.of], volume.parts().block_len),
-                _ => account.lost_chain(volume, entries, found.of, &empty),
+        for found in volume.audit() {
+            match found {
+                Found::Astray { inode } => account.begins_nowhere(entries, place[&inode]),
+                Found::Shared { inode } => account.shared(entries, place[&inode], &sharers),
+                Found::Over { inode } => account.too_long(entries, place[&inode], volume.parts().block_len),
+                Found::Lost { first_block } => account.lost_chain(volume, entries, first_block, &empty),
             }
         }
         account.unused(volume, entries, &files);

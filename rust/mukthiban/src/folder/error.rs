@@ -1,4 +1,4 @@
-use crate::volume::NotSound;
+use crate::whole::NotSound;
 use std::fmt;
 use std::io;
 use std::path::PathBuf;

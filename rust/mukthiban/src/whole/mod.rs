@@ -1,3 +1,4 @@
+mod audit;
 mod blocks;
 mod counts;
 mod file;
