@@ -30,8 +30,8 @@ use error::{host, unfinished};
 
 use crate::disk;
 use crate::journal::{self, tables_digest, Found, Journal, Piece, DATA, FILES};
-use crate::tree;
 use crate::parts::Parts;
+use crate::tree;
 use crate::whole::Volume;
 use std::borrow::Cow;
 use std::fs::{File, TryLockError};

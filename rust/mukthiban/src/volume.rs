@@ -45,6 +45,14 @@ impl Finding {
         }
     }
 
+    /// The file's inode; none for a lost chain.
+    pub fn inode(self) -> Option<u32> {
+        match self {
+            Finding::Astray { inode } | Finding::Shared { inode } | Finding::Over { inode } => Some(inode),
+            Finding::Lost { .. } => None,
+        }
+    }
+
     /// The rules' number of its kind, 1 to 4.
     pub fn kind(self) -> u32 {
         match self {

@@ -17,6 +17,14 @@ pub struct Finding {
     pub line: String,
 }
 
+/// A finding as it stands in the audit's list, in words.
+pub struct Audited {
+    pub found: Found,
+    /// The file's place in the list of entries; none of a chain that no file names.
+    pub entry: Option<usize>,
+    pub line: String,
+}
+
 /// What is no fault and yet worth a look.
 pub struct Remark {
     pub kind: Remarkable,
@@ -40,6 +48,8 @@ pub struct Lost {
 /// What the records of a volume come to.
 #[derive(Default)]
 pub struct Account {
+    /// The audit's list, whole and in its order.
+    pub audited: Vec<Audited>,
     pub findings: Vec<Finding>,
     pub remarks: Vec<Remark>,
     pub lost: Vec<Lost>,
@@ -64,12 +74,13 @@ impl Account {
         }
         let mut account = Account::default();
         for found in volume.audit() {
-            match found {
+            let line = match found {
                 Found::Astray { inode } => account.begins_nowhere(entries, place[&inode]),
                 Found::Shared { inode } => account.shared(entries, place[&inode], &sharers),
                 Found::Over { inode } => account.too_long(entries, place[&inode], volume.parts().block_len),
                 Found::Lost { first_block } => account.lost_chain(volume, entries, first_block, &empty),
-            }
+            };
+            account.audited.push(Audited { found, entry: found.inode().map(|inode| place[&inode]), line });
         }
         account.unused(volume, entries, &files);
         for (at, finding) in account.findings.iter().enumerate() {
@@ -78,18 +89,20 @@ impl Account {
         account
     }
 
-    fn find(&mut self, kind: u32, entries: &[Entry], entry: usize, what: String) {
+    /// Keeps a finding; its line.
+    fn find(&mut self, kind: u32, entries: &[Entry], entry: usize, what: String) -> String {
         let line = format!("{}: {what}", path_of(entries, entry));
-        self.findings.push(Finding { kind, inode: entries[entry].inode, entry, line });
+        self.findings.push(Finding { kind, inode: entries[entry].inode, entry, line: line.clone() });
+        line
     }
 
-    fn begins_nowhere(&mut self, entries: &[Entry], e: usize) {
+    fn begins_nowhere(&mut self, entries: &[Entry], e: usize) -> String {
         let block = entries[e].record.first_block;
-        self.find(1, entries, e, format!("block {block}, where it should begin, is no file's first block"));
+        self.find(1, entries, e, format!("block {block}, where it should begin, is no file's first block"))
     }
 
     /// Of files on one chain, who is right can't be told: all are named, the one of lowest inode with the second.
-    fn shared(&mut self, entries: &[Entry], e: usize, sharers: &HashMap<u32, Vec<usize>>) {
+    fn shared(&mut self, entries: &[Entry], e: usize, sharers: &HashMap<u32, Vec<usize>>) -> String {
         let block = entries[e].record.first_block;
         let all = &sharers[&block];
         let claim = |other: usize| match all.len() - 2 {
@@ -102,24 +115,31 @@ impl Account {
         if all[1] == e {
             self.find(2, entries, all[0], claim(e));
         }
-        self.find(2, entries, e, claim(all[0]));
+        self.find(2, entries, e, claim(all[0]))
     }
 
-    fn too_long(&mut self, entries: &[Entry], e: usize, block_len: usize) {
+    fn too_long(&mut self, entries: &[Entry], e: usize, block_len: usize) -> String {
         let blocks = entries[e].blocks().len() as u64;
         let (size, room) = (number(entries[e].record.size), number(blocks * block_len as u64));
-        self.find(3, entries, e, format!("{size} bytes, but its {} can hold only {room}", count(blocks, "block")));
+        self.find(3, entries, e, format!("{size} bytes, but its {} can hold only {room}", count(blocks, "block")))
     }
 
-    fn lost_chain(&mut self, volume: &Volume, entries: &[Entry], first_block: u32, empty: &HashMap<u32, Vec<usize>>) {
+    fn lost_chain(
+        &mut self,
+        volume: &Volume,
+        entries: &[Entry],
+        first_block: u32,
+        empty: &HashMap<u32, Vec<usize>>,
+    ) -> String {
         let blocks = volume.chain(first_block as usize).expect("a file's first block");
         let mut line =
             format!("no file names the chain from block {first_block}, {}", count(blocks.len() as u64, "block"));
         if let Some(files) = empty.get(&first_block) {
             line += &format!("; {} is empty, but begins there", path_of(entries, files[0]));
         }
-        self.remarks.push(Remark { kind: Remarkable::LostChain(first_block), line });
+        self.remarks.push(Remark { kind: Remarkable::LostChain(first_block), line: line.clone() });
         self.lost.push(Lost { first_block, chain: Chain::new(blocks) });
+        line
     }
 
     /// Files whose size leaves whole blocks unused.

@@ -1,5 +1,6 @@
 //! The commands, a file each.
 
+mod audit;
 mod cat;
 mod check;
 mod cp;
@@ -19,6 +20,7 @@ use crate::args::Command;
 /// All commands, in the order of the help.
 pub const ALL: &[Command] = &[
     check::COMMAND,
+    audit::COMMAND,
     ls::COMMAND,
     cat::COMMAND,
     lift::COMMAND,

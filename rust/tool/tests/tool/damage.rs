@@ -133,6 +133,38 @@ fn records_that_fit_no_chain() {
 }
 
 #[test]
+fn the_audit_lists_every_kind() {
+    let b = two_files();
+    assert_eq!(b.done(&["audit", "v"]), "0 findings  v\n");
+    assert_eq!(b.done(&["audit", "v", "--quiet"]), "");
+    for name in ["three", "four", "five"] {
+        b.done(&["put", "v", "two", name]);
+    }
+    let record = |inode: usize, block: u8, size: u64| {
+        b.poke("v/file_table.bin", inode * 48 + 28, &[block, 0, 0, 0]);
+        b.poke("v/file_table.bin", inode * 48 + 32, &size.to_le_bytes());
+    };
+    record(2, 0, 129);
+    record(3, 10, 1); // the free chain's first
+    record(4, 6, (1 << 32) + 1);
+    record(5, 2, 0); // empty: it names no chain
+    let out = b.run(&["audit", "v"]);
+    assert_eq!(out.status.code(), Some(4));
+    let expected = "7 findings  v
+  2 /two: two files claim block 0: this one and /one
+  3 /two: 129 bytes, but its 2 blocks can hold only 128
+  1 /three: block 10, where it should begin, is no file's first block
+  3 /four: 4,294,967,297 bytes, but its 2 blocks can hold only 128
+  4 no file names the chain from block 2, 2 blocks; /five is empty, but begins there
+  4 no file names the chain from block 4, 2 blocks
+  4 no file names the chain from block 8, 2 blocks
+";
+    assert_eq!(String::from_utf8(out.stdout).unwrap(), expected);
+    b.poke("v/fat.bin", 0, &[1]);
+    assert!(b.fails(&["audit", "v"], 4).contains("[BrokenFat 4]"));
+}
+
+#[test]
 fn what_is_remarkable_is_said_first_and_strict_counts_it() {
     let b = two_files();
     assert!(b.done(&["check", "--strict", "v"]).starts_with("SOUND  v\n"));

@@ -51,6 +51,7 @@ fn answers_have_the_shapes_of_the_paper() {
     let b = muddled();
     let mut answers = vec![
         answer(&b, &["check", "v"]),
+        answer(&b, &["audit", "v"]),
         answer(&b, &["ls", "v"]),
         answer(&b, &["map", "v"]),
         answer(&b, &["lift", "v", "out"]),
@@ -66,7 +67,7 @@ fn answers_have_the_shapes_of_the_paper() {
     b.poke("v/fat.bin", 0, &[1]);
     answers.push(answer(&b, &["check", "v"]));
     let examples = examples();
-    assert_eq!(examples.len(), 8);
+    assert_eq!(examples.len(), 9);
     for answer in &answers {
         let of_error = |v: &Value| matches!(v, Value::Object(o) if o.iter().any(|(k, _)| k == "error"));
         let Value::Text(name) = command(answer) else { panic!("a text") };
