@@ -1,7 +1,8 @@
 //! The checks of RULES 8, on the statement of the rules.
 
 use rules::answer::Answer::*;
-use rules::blocks::{self, Tested};
+use rules::audit::{audit, Both};
+use rules::blocks::{self, lay_out, Layout, Run, Tested};
 use rules::entries::{hash, key, Kind};
 use rules::tree::{self, Found, Four, FourMut, Stat};
 use rules::word;
@@ -262,4 +263,45 @@ fn tree_refusals() {
     assert_eq!(tree::close(f.four(), work, opens, dir, 1), Ok(()));
     assert_eq!(tree::close(f.four(), work, opens, dir, 1), Err(NotOpen));
     assert_eq!(tree::test(f.four(), work), Ok(()));
+}
+
+/// The carried bytes of a file of that block and size.
+fn record(block: u32, size: u64) -> [u8; 20] {
+    let mut carried = [9; 20];
+    carried[4..8].copy_from_slice(&block.to_le_bytes());
+    carried[8..16].copy_from_slice(&size.to_le_bytes());
+    carried
+}
+
+/// The worked example of `crates/audit/proofs/Examples.antt`, in bytes: six blocks, the chains of files from 0, 2 and 5, and six files, of which 3 is removed.
+#[test]
+fn audits() {
+    let run = |start, size| Run { start, size };
+    let files = vec![vec![run(0, 1)], vec![run(2, 2)], vec![run(5, 1)]];
+    let mut table = vec![9; 8 * 7];
+    lay_out(&mut table, &Layout { free: vec![run(1, 1), run(4, 1)], files });
+    let mut t = Tables::formatted(2, 7);
+    let (mut four, work, opens) = t.lent();
+    let records = [(0, 512), (1, 1), (0, 9), (0, 513), (2, 0), (5, 1)];
+    for (inode, (block, size)) in (1..).zip(records) {
+        let made = tree::make(&mut four, work, opens, Kind::File, 1, &[inode as u8; 16], &record(block, size));
+        assert_eq!(made, Ok(inode));
+    }
+    assert_eq!(tree::delete(&mut four, work, opens, Kind::File, 3), Ok(()));
+    let data = vec![0; 6 * LEN];
+    let found = |four: Four, places: usize| {
+        let (mut work, mut list) = (vec![8; 6 + 2 + 7 + 1], vec![8; places]);
+        let count = audit(Both { table: &table, data: &data, block_len: LEN, four }, &mut work, &mut list);
+        assert_eq!((&work[..15], work[15]), (&[0; 15][..], 8));
+        (count, list)
+    };
+    assert_eq!(found(four.four(), 9), (Ok(4), vec![1, 2, 2, 4, 3, 4, 4, 2, 8]));
+    assert_eq!(found(four.four(), 7), (Err(ListTooShort), vec![8; 7]));
+    // Without inodes 2 and 4, and with a size for 5, nothing is found.
+    assert_eq!(tree::delete(&mut four, work, opens, Kind::File, 2), Ok(()));
+    assert_eq!(tree::delete(&mut four, work, opens, Kind::File, 4), Ok(()));
+    assert_eq!(tree::set_carried(&mut four, work, Kind::File, 5, &record(2, 1024)), Ok(()));
+    assert_eq!(found(four.four(), 1), (Ok(0), vec![8]));
+    assert_eq!(tree::set_carried(&mut four, work, Kind::File, 5, &record(2, (1 << 32) + 1)), Ok(()));
+    assert_eq!(found(four.four(), 2), (Ok(1), vec![3, 5]));
 }
