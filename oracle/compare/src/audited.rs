@@ -88,13 +88,13 @@ fn any_records(chance: &mut Chance, held: &Layout, lent: &mut Audit) {
     }
 }
 
-/// A chain for each inode as long as there are some, whole or short of a byte; the others are empty and say any block. Nothing is found where every inode is
-/// live and every chain dealt.
+/// A chain for each inode below the count as long as there are some, filled or a byte short of it; the others are empty and say any block. Nothing is found
+/// where all these inodes are live and every chain is dealt.
 fn fitting_records(chance: &mut Chance, held: &Layout, lent: &mut Audit) {
     let mut chains = held.files.iter();
-    let live = rules::word(&lent.file_table, 0) as usize;
+    let count = rules::word(&lent.file_table, 0) as usize;
     for inode in 1..lent.file_table.len() / 48 {
-        let (block, size) = match chains.next().filter(|_| inode < live) {
+        let (block, size) = match chains.next().filter(|_| inode < count) {
             Some(chain) => (chain[0].start as u32, (blocks(chain) * lent.block_len - chance.below(2)) as u64),
             None => (chance.next() as u32, 0),
         };

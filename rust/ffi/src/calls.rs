@@ -79,11 +79,6 @@ calls! {
         dir_hash: &[u8], dir_table: &[u8], file_hash: &[u8], file_table: &[u8],
         work: &mut [u32], inode: u32, list: &mut [u32],
     ) -> Listed;
-    fn mukthiban_volume_audit(
-        table: &[u8], data: &[u8], block_len: usize,
-        dir_hash: &[u8], dir_table: &[u8], file_hash: &[u8], file_table: &[u8],
-        work: &mut [u32], list: &mut [u32],
-    ) -> Audited;
     fn mukthiban_tree_stat(
         dir_hash: &[u8], dir_table: &[u8], file_hash: &[u8], file_table: &[u8],
         work: &mut [u32],
@@ -124,4 +119,9 @@ calls! {
         dir_hash: &[u8], dir_table: &[u8], file_hash: &[u8], file_table: &[u8],
         work: &mut [u32], opens: &mut [u32], inode: u32,
     ) -> Plain;
+    fn mukthiban_volume_audit(
+        table: &[u8], data: &[u8], block_len: usize,
+        dir_hash: &[u8], dir_table: &[u8], file_hash: &[u8], file_table: &[u8],
+        work: &mut [u32], list: &mut [u32],
+    ) -> Audited;
 }
