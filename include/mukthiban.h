@@ -110,14 +110,14 @@ mukthiban_answered mukthiban_fat_write(const uint8_t *table, size_t table_len,
  * looked at, so that a read costs nothing of the file's length. n is data_len / block_len here. Answers 1, 2, 7 (the list's
  * end), 2 (a block that the bytes lie in is n or more). */
 mukthiban_plain mukthiban_fat_read_blocks(const uint8_t *data, size_t data_len, size_t block_len,
-                                             const uint32_t *list, size_t list_len, size_t pos,
-                                             uint8_t *buf, size_t buf_len);
+                                          const uint32_t *list, size_t list_len, size_t pos,
+                                          uint8_t *buf, size_t buf_len);
 
 /* Writes buf's bytes from position pos on into what a block list names, byte after byte: where the list names a block
  * twice, the later byte stays. Answers as mukthiban_fat_read_blocks. */
 mukthiban_plain mukthiban_fat_write_blocks(uint8_t *data, size_t data_len, size_t block_len,
-                                              const uint32_t *list, size_t list_len, size_t pos,
-                                              const uint8_t *buf, size_t buf_len);
+                                           const uint32_t *list, size_t list_len, size_t pos,
+                                           const uint8_t *buf, size_t buf_len);
 
 /* ---- The entry tables ---- */
 
@@ -171,8 +171,8 @@ mukthiban_made mukthiban_tree_make_file(const uint8_t *dir_hash, size_t dir_hash
                                         uint32_t *opens, size_t opens_len,
                                         uint32_t parent, const uint8_t name[16], const uint8_t carried[20]);
 
-/* Gives an open directory another parent and name (legal as for make; the name that it has is not judged); inode, carried bytes, children and open count stay.
- * opens: the directories'. Answers 1, 2, 3, 9, 10 (subject), 16, 13, 2 (name), 10 (parent), 15, 11:
+/* Gives an open directory another parent and name (legal as for make; the name that it has is not judged); inode, carried
+ * bytes, children and open count stay. opens: the directories'. Answers 1, 2, 3, 9, 10 (subject), 16, 13, 2 (name), 10 (parent), 15, 11:
  * never 6, since the entry keeps its place in the table. */
 mukthiban_plain mukthiban_tree_rename_dir(uint8_t *dir_hash, size_t dir_hash_len,
                                           uint8_t *dir_table, size_t dir_table_len,
