@@ -91,6 +91,16 @@ module _ {t : List ℕ} {n b : ℕ} {w : List ℕ} {k : ℕ} (st : State t n b w
           let y : getD w j 0 / span ≡ getD (st .g) z 0 = head-says sums-packed-j (c .1) in
           more apart-h-z (omega (arith, c .0, c .2)) (omega (arith, c .0, c .2))
 
+  pub join-sunk : (w′ : List ℕ) (s : ℕ) → s ≡ getD w z 0 / span + getD w b 0 / span → (2048 ≤ getD w z 0 / span) × (getD w b 0 / span < 2048) × (getD w z 0 / span + getD w b 0 / span < 4096) × (j ≡ z → ⊥) → TiedEnds w w′ h z (getD w j 0 / span) s → State t n (b + 1) w′ (k + 1)
+  join-sunk w′ s q c d = done w′ (getD w j 0 / span) s (sunk sums-packed-j) d
+    where
+      sunk : Packed t n j z (getD w j 0 / span) (getD w z 0 / span) (getD (st .g) z 0) → Packed t n h z (getD w j 0 / span) s (getD (st .g) b 0 + getD (st .g) z 0)
+      sunk (small l e f) = absurd (omega (arith, c .0))
+      sunk (one e f g′ i) = absurd (c .3 e)
+      sunk (more e f g′) =
+          let x : getD w b 0 / span ≡ getD (st .g) b 0 = tail-says sums-packed-i (c .1) in
+          more apart-h-z (omega (arith, c .0, c .2)) (omega (arith, c .0, c .2))
+
   pub join-large : (w′ : List ℕ) (m m₁ m₂ : ℕ) → m ≡ m₁ + m₂ → ((s : ℕ) → Packed t n h b (getD w h 0 / span) (getD w b 0 / span) s → m₁ ≡ s) → ((s : ℕ) → Packed t n j z (getD w j 0 / span) (getD w z 0 / span) s → m₂ ≡ s) → TiedEnds w w′ h z (2048 + m / 2048) (2048 + m % 2048) → State t n (b + 1) w′ (k + 1)
   join-large w′ m m₁ m₂ q f₁ f₂ d =
       let x : m₁ ≡ getD (st .g) b 0 = f₁ _ sums-packed-i in
@@ -122,6 +132,9 @@ module _ {t : List ℕ} {n b : ℕ} {w : List ℕ} {j h z : ℕ} (J : Joinable t
 
   pub merged-grown : {w′ : List ℕ} {s : ℕ} → s ≡ getD w b 0 / span + getD w j 0 / span → (2048 ≤ getD w b 0 / span) × (getD w j 0 / span < 2048) × (getD w b 0 / span + getD w j 0 / span < 4096) × (h ≡ b → ⊥) → TiedEnds w w′ h z (getD w h 0 / span) s → Joined t n b w w′
   merged-grown {w′} {s} q c d k st = join-grown st (J .node) j h z (J .next) (J .mark) (J .back) (J .first) (J .last) (J .ring) w′ s q c d
+
+  pub merged-sunk : {w′ : List ℕ} {s : ℕ} → s ≡ getD w z 0 / span + getD w b 0 / span → (2048 ≤ getD w z 0 / span) × (getD w b 0 / span < 2048) × (getD w z 0 / span + getD w b 0 / span < 4096) × (j ≡ z → ⊥) → TiedEnds w w′ h z (getD w j 0 / span) s → Joined t n b w w′
+  merged-sunk {w′} {s} q c d k st = join-sunk st (J .node) j h z (J .next) (J .mark) (J .back) (J .first) (J .last) (J .ring) w′ s q c d
 
   pub merged-large : {w′ : List ℕ} {m m₁ m₂ : ℕ} → m ≡ m₁ + m₂ → ((s : ℕ) → Packed t n h b (getD w h 0 / span) (getD w b 0 / span) s → m₁ ≡ s) → ((s : ℕ) → Packed t n j z (getD w j 0 / span) (getD w z 0 / span) s → m₂ ≡ s) → TiedEnds w w′ h z (2048 + m / 2048) (2048 + m % 2048) → Joined t n b w w′
   merged-large {w′} {m} {m₁} {m₂} q f g d k st = join-large st (J .node) j h z (J .next) (J .mark) (J .back) (J .first) (J .last) (J .ring) w′ m m₁ m₂ q f g d

@@ -5,3 +5,4 @@ pub mod Joins
 pub mod Ends
 pub mod Cover
 pub mod Counts
+pub mod Wipes

@@ -2,12 +2,12 @@
 use Rattle.fat_ends.proofs.Ends.{links-ready, head-is, head-fits, tile-covered, free-ready, all-good, sound-long, backs-long}
 use Rattle.fat_node.proofs.Cases.{untrue}
 use Rattle.fat_ends.specs.inner.Ends.{TiledAs}
-use Rattle.fat_table.specs.Sound.{Counted, File}
+use Rattle.fat_table.specs.Sound.{Counted, File, IsNode}
 use Rattle.fat_node.specs.inner.Reads.{HeadReads}
 use lib.ListN.{length}
 use native.Mathlib.Omega.{arith}
 use Prim.Native.Nat.{ℕ}
-use mathlib.Core.Path.{_≡_, sym, subst, subst⁻¹, _∙_}
+use mathlib.Core.Path.{_≡_, refl, sym, subst, subst⁻¹, _∙_}
 use borrow.Author.Needs.{needs}
 use Rattle.fat_ends.proofs.Counts.{counted, headless}
 use Rattle.fat_ends.proofs.judge.Statement.{statement}
@@ -25,7 +25,7 @@ enum-told c = search needs
 returns : tie.Need-returns
 returns c =
     let args = c .before .before .before .before .before .args in
-    λ s. subst (HeadReads (args .table .now)) (c .enum-told .given .1) (c .before .before .get-head .ensures) (s .head)
+    ((λ s. subst (HeadReads (args .table .now)) (c .enum-told .given .1) (c .before .before .get-head .ensures) (s .head)), refl)
 
 tile-requires : tie.Need-tile-requires
 tile-requires c κs =
@@ -47,7 +47,7 @@ returns-2 : tie.Need-returns-2
 returns-2 c =
     let args = c .before .before .before .before .before .before .before .before .before .before .before .before .args in
     let at-tile = c .before .before .before .before .tile in
-    λ s. subst (TiledAs (args .table .now) (length (args .work .now)) (at-tile .last .1 .0)) (c .enum-told2 .given .1) (at-tile .ensures) (s .covered)
+    ((λ s. subst (TiledAs (args .table .now) (length (args .work .now)) (at-tile .last .1 .0)) (c .enum-told2 .given .1) (at-tile .ensures) (s .covered)), refl)
 
 headless-requires : tie.Need-headless-requires
 headless-requires c κs = search needs
@@ -64,7 +64,7 @@ returns-3 c =
     let at-tile = c .before .before .before .before .before .before .before .tile in
     let q = subst (TiledAs (args .table .now) (length (args .work .now)) (at-tile .last .1 .0)) (c .before .before .before .r .given .1) (at-tile .ensures) in
     let hd = subst (HeadReads (args .table .now)) (at-head .given .1) (at-get-head .ensures) in
-    headless (at-pre .1 .0 .0) (q .2) (hd .1) (c .before .headless .ensures (c .if1 .taken))
+    (headless (at-pre .1 .0 .0) (q .2) (hd .1) (c .before .headless .ensures (c .if1 .taken)), refl)
 
 head-fits-requires : tie.Need-head-fits-requires
 head-fits-requires c κs = search needs
@@ -99,9 +99,12 @@ returns-4 c =
     let l : length (at-tile .last .1 .0) ≡ length (args .work .now) = at-tile .kept .1 .0 in
     let q = subst (TiledAs (args .table .now) (length (args .work .now)) (at-tile .last .1 .0)) (at-r .given .1) (at-tile .ensures) in
     let hd = subst (HeadReads (args .table .now)) (at-head .given .1) (at-get-head .ensures) in
-    counted (all-good l
-    (at-links .ensures .0 (c .before .before .if3 .taken), subst⁻¹ (λ (y : ℕ). Counted (File (args .table .now) y) y (at-r .given .0 .0)) l (q .2))
-    (hd .0) (tile-covered (q .0)) (hd .1) (head-is l (q .0) (at-head-fits .ensures .0 (at-if1 .taken))) (c .free-of .ensures))
+    let linked = at-links .ensures .0 (c .before .before .if3 .taken) in (
+      counted (all-good l
+          (linked, subst⁻¹ (λ (y : ℕ). Counted (File (args .table .now) y) y (at-r .given .0 .0)) l (q .2))
+          (hd .0) (tile-covered (q .0)) (hd .1) (head-is l (q .0) (at-head-fits .ensures .0 (at-if1 .taken))) (c .free-of .ensures)),
+      λ x m. subst (λ (y : ℕ). IsNode (args .table .now) y x) l (linked .1 .0 .node x m),
+    )
 
 same-length-4 : tie.Need-same-length-4
 same-length-4 c = search needs
@@ -111,7 +114,7 @@ returns-5 c =
     let args = c .before .before .before .before .before .before .before .before .before .before .before .before .before .before .before .before .before .before .before .before .before .before .before .args in
     let at-tile = c .before .before .before .before .before .before .before .before .before .before .before .before .before .before .before .tile in
     let l : length (at-tile .last .1 .0) ≡ length (args .work .now) = at-tile .kept .1 .0 in
-    λ s. untrue (sym (c .if3 .left) ∙ c .before .before .before .links .ensures .1 (sound-long l s))
+    ((λ s. untrue (sym (c .if3 .left) ∙ c .before .before .before .links .ensures .1 (sound-long l s))), refl)
 
 same-length-5 : tie.Need-same-length-5
 same-length-5 c = search needs
@@ -125,7 +128,7 @@ returns-6 c =
     let l : length (at-tile .last .1 .0) ≡ length (args .work .now) = at-tile .kept .1 .0 in
     let q = subst (TiledAs (args .table .now) (length (args .work .now)) (at-tile .last .1 .0)) (c .before .before .before .before .before .before .r .given .1) (at-tile .ensures) in
     let hd = subst (HeadReads (args .table .now)) (at-head .given .1) (at-get-head .ensures) in
-    λ s. untrue (sym (c .if2 .left) ∙ c .before .head-fits .ensures .1 (head-fits l (q .0) (hd .1) s))
+    ((λ s. untrue (sym (c .if2 .left) ∙ c .before .head-fits .ensures .1 (head-fits l (q .0) (hd .1) s))), refl)
 
 pub judge-spec : {M : Type 1} → statement M
 judge-spec =

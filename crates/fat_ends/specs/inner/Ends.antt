@@ -11,6 +11,8 @@ use Rattle.fat_node.specs.Node.{NodeAt, prevAt, nextAt}
 use Rattle.fat_table.specs.Sound.{IsNode, Path, Along, Covered, Counted, File, Sound}
 use Rattle.fat_ends.specs.declared.Tiles.{Tiles}
 use Rattle.fat_ends.specs.declared.Tiles.the-variants.{Whole, Ragged}
+use Rattle.fat_ends.specs.declared.Verdict.{Verdict}
+use Rattle.fat_ends.specs.declared.Verdict.the-variants.{Good, Broken}
 use Rattle.fat_ends.specs.inner.Marks.{sum, SizesAt}
 
 -- the low 20 bits of a word count so many
@@ -64,6 +66,15 @@ pub record State (t : List ℕ) (n b : ℕ) (w : List ℕ) (k : ℕ) : Type 0 wh
   pub reach : (x : ℕ) → IsNode t n x → (h : ℕ) × (IsNode t n h × (getD a h 0 ≡ 0) × Path (nextAt t) h x)
   pub joined : (x : ℕ) → 0 < getD a x 0 → (p : ℕ) × (IsNode t n p × (p < b) × (prevAt t x ≡ p + 1) × (nextAt t p ≡ x + 1) × (getD a x 0 ≡ 1) × IsNode t n x)
   pub forth : (i j : ℕ) → IsNode t n i → i < b → nextAt t i ≡ j + 1 → IsNode t n j × (prevAt t j ≡ i + 1) × (getD a j 0 ≡ 1)
+
+-- only the places where nodes start are not 0
+abbrev pub AtNodes : List ℕ → ℕ → List ℕ → Type 0
+AtNodes t n w = (x : ℕ) → 0 < getD w x 0 → IsNode t n x
+
+-- so on a sound table
+abbrev pub LeftAs : List ℕ → ℕ → List ℕ → Verdict → Type 0
+LeftAs t n w (Good free files) = AtNodes t n w
+LeftAs t n w Broken = _≡_ {A = ℕ} 0 0
 
 -- k of the nodes below b have a previous
 pub record Backs (t : List ℕ) (n b k : ℕ) : Type 0 where
