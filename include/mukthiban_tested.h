@@ -18,7 +18,7 @@
  *
  * Each answers what the call of the same name in mukthiban.h answers on such
  * input, with the same bytes changed, in the order that stands at it. There is
- * no work list, but for the merge.
+ * no work list, but for the merge and the audit.
  */
 #ifndef MUKTHIBAN_TESTED_H
 #define MUKTHIBAN_TESTED_H
@@ -68,6 +68,18 @@ mukthiban_answered mukthiban_tested_fat_write(const uint8_t *table, size_t table
                                               uint8_t *data, size_t data_len, size_t block_len,
                                               size_t first_block, size_t pos,
                                               const uint8_t *buf, size_t buf_len);
+
+/* ---- Both layers ---- */
+
+/* Writes where the files' records and the chains of the block table disagree to
+ * list, as mukthiban_volume_audit does. Answers 8.
+ * Requires: a sound table of n blocks, block_len from 1 to 65,536, sound tables
+ * of which file_table is one; work_len is at least n and the room of the files,
+ * and every place of work is 0. They are 0 on return. */
+mukthiban_audited mukthiban_tested_volume_audit(const uint8_t *table, size_t table_len, size_t n, size_t block_len,
+                                                const uint8_t *file_table, size_t file_table_len,
+                                                uint32_t *work, size_t work_len,
+                                                uint32_t *list, size_t list_len);
 
 /* ---- The entry tables ---- */
 

@@ -116,6 +116,20 @@ static void blocks(void)
     EXPECT(a.table[4] == 1 && a.table[20] == BLOCKS);
 }
 
+/* The audit by both, with a list of so many places. The public call wants a work list of all rooms, and leaves it 0. */
+static void audit(uint32_t number, size_t places)
+{
+    static uint32_t wide[BLOCKS + 2 * ENTRIES];
+    memset(a.list, 0x33, sizeof a.list);
+    memset(b.list, 0x33, sizeof b.list);
+    mukthiban_audited x = mukthiban_volume_audit(TABLE(a), DATA(a), TREE(a), wide, BLOCKS + 2 * ENTRIES, a.list, places);
+    mukthiban_audited y = mukthiban_tested_volume_audit(TABLE(b), BLOCKS, LENGTH, b.file_table, sizeof b.file_table, wide,
+                                                        BLOCKS + ENTRIES, b.list, places);
+    SAME(number, x, y);
+    EXPECT(x.count == y.count);
+    for (size_t i = 0; i < BLOCKS + 2 * ENTRIES; i++) EXPECT(wide[i] == 0);
+}
+
 static void made(uint32_t number, mukthiban_made x, mukthiban_made y)
 {
     SAME(number, x, y);
@@ -203,6 +217,18 @@ static void changes(void)
          mukthiban_tested_tree_delete_file(TREE(b), FILE_OPENS(b), 1));
 }
 
+/* Every block is free: file 1 names no chain once it has a size. */
+static void audits(void)
+{
+    static const uint8_t sized[20] = {0, 0, 0, 0, 1, 0, 0, 0, 5};
+    audit(MUKTHIBAN_DONE, BLOCKS);
+    SAME(MUKTHIBAN_DONE, mukthiban_tree_set_carried_file(TREE(a), WORK, 1, sized),
+         mukthiban_tested_tree_set_carried_file(TREE(b), 1, sized));
+    audit(MUKTHIBAN_DONE, BLOCKS);
+    EXPECT(a.list[0] == 1 && a.list[1] == 1);
+    audit(MUKTHIBAN_LIST_TOO_SHORT, 1);
+}
+
 static void tree(void)
 {
     mukthiban_plain formatted =
@@ -214,6 +240,7 @@ static void tree(void)
     makes();
     looks();
     carried();
+    audits();
     changes();
 }
 

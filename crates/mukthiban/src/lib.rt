@@ -11,6 +11,7 @@ mod tested_carried;
 mod tested_change;
 mod tested_look;
 mod tested_opens;
+mod tested_volume;
 mod trees;
 mod version;
 mod volume;

@@ -137,11 +137,7 @@ pub fn machine(load_before: &str) -> String {
         .filter_map(|level| Some(format!("{level} {}", field(&cpus, &format!("{level} cache"))?)))
         .collect();
     let named = std::env::var_os("MUKTHIBAN_LIB").is_some_and(|named| !named.is_empty());
-    let library = match std::env::consts::ARCH {
-        "x86_64" if named => "The library is the archive that MUKTHIBAN_LIB named.",
-        "x86_64" => "The library is the proved archive in dist/.",
-        _ => "The library is the proved LLVM module compiled for this processor (tools/native), not the x86-64 archive of dist/.",
-    };
+    let library = if named { "The library is the archive that MUKTHIBAN_LIB named." } else { "The library is the archive in dist/." };
     let busy = load_before.parse().is_ok_and(|load: f64| load > 1.0);
     format!(
         "{}, {} processors ({processor}; {}), Linux {}, {}. Load {load_before} at the beginning of the run and {} at its end, of which the run itself is 1{}. {library}{}",

@@ -23,7 +23,7 @@ pub fn met() -> (Vec<u64>, Vec<u64>) {
 /// Both answer the same and leave the same in everything that is lent: the answer.
 fn same(lent: &mut Audit) -> Answered {
     let before = lent.clone();
-    let mut library = lent.clone();
+    let (mut library, mut inner) = (lent.clone(), lent.clone());
     let stated = lent.stated();
     let answered = library.library();
     assert!(
@@ -32,6 +32,10 @@ fn same(lent: &mut Audit) -> Answered {
         short(&before), lent.list, lent.work, library.list, library.work
     );
     assert!(stated.number == 0 || lent.list == before.list, "the rules changed the list and refused");
+    if matches!(stated.number, 0 | 8) {
+        let answered = inner.inner();
+        assert!(answered == stated && inner == *lent, "the inner call differs\nlent {}\nrules {stated:?}\ninner {answered:?}", short(&before));
+    }
     ANSWERS[stated.number as usize].fetch_add(1, Ordering::Relaxed);
     if stated.number == 0 {
         KINDS[0].fetch_add(u64::from(stated.fields[0] == 0), Ordering::Relaxed);
@@ -103,7 +107,7 @@ fn fitting_records(chance: &mut Chance, held: &Layout, lent: &mut Audit) {
 }
 
 /// A sound volume over junk, whose records disagree with its chains or fit them. The list has a place for every finding that there can be.
-fn any_volume(chance: &mut Chance) -> Audit {
+pub fn any_volume(chance: &mut Chance) -> Audit {
     let n = volumes::any_size(chance);
     let held = volumes::any_layout(chance, n);
     let mut table = chance.bytes(8 * (n + 1));

@@ -1,8 +1,9 @@
-//! The audit of both layers: by the rules and by the library.
+//! The audit of both layers: by the rules, by the library and by its inner call.
 
 use crate::stated::located;
 use crate::Answered;
 use mukthiban_ffi::mukthiban_volume_audit;
+use mukthiban_ffi::tested::mukthiban_tested_volume_audit;
 use rules::audit::{audit, Both};
 use rules::tree::Four;
 
@@ -45,6 +46,23 @@ impl Audit {
                 self.file_hash.as_ptr(), self.file_hash.len(),
                 self.file_table.as_ptr(), self.file_table.len(),
                 self.work.as_mut_ptr(), self.work.len(),
+                self.list.as_mut_ptr(), self.list.len(),
+            )
+        };
+        Answered::with(a.answer, &[a.count as u64]).at(a.entry, a.rule)
+    }
+    /// The same by the inner call, to be used only on sound tables: its places of the work list are 0.
+    pub fn inner(&mut self) -> Answered {
+        let n = self.table.len() / 8 - 1;
+        let rooms = self.dir_table.len() / 40 + self.file_table.len() / 48;
+        self.work[..n + rooms].fill(0);
+        // SAFETY: as above, and the tables are sound.
+        let a = unsafe {
+            mukthiban_tested_volume_audit(
+                self.table.as_ptr(), self.table.len(), n,
+                self.block_len,
+                self.file_table.as_ptr(), self.file_table.len(),
+                self.work.as_mut_ptr(), n + self.file_table.len() / 48,
                 self.list.as_mut_ptr(), self.list.len(),
             )
         };

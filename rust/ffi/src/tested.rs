@@ -15,6 +15,9 @@ calls! {
     fn mukthiban_tested_fat_write(
         table: &[u8], n: usize, data: &mut [u8], block_len: usize, first_block: usize, pos: usize, buf: &[u8],
     ) -> Answered;
+    fn mukthiban_tested_volume_audit(
+        table: &[u8], n: usize, block_len: usize, file_table: &[u8], work: &mut [u32], list: &mut [u32],
+    ) -> Audited;
     fn mukthiban_tested_tree_lookup_dir(
         dir_hash: &[u8], dir_table: &[u8], file_hash: &[u8], file_table: &[u8],
         parent: u32, name: &[u8; 16],

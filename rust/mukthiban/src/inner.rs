@@ -4,7 +4,7 @@
 //! the rest of what `include/mukthiban_tested.h` requires holds. [`Volume`](crate::Volume) sees to it.
 
 use crate::parts::Parts;
-use mukthiban_ffi::{tested, Answered, Created, Opened};
+use mukthiban_ffi::{tested, Answered, Audited, Created, Opened};
 
 pub unsafe fn create(p: &mut Parts, block_count: usize) -> Created {
     tested::mukthiban_tested_fat_create(p.fat.as_mut_ptr(), p.fat.len(), p.blocks(), block_count)
@@ -21,6 +21,22 @@ pub unsafe fn delete(p: &mut Parts, first: usize) -> Answered {
 /// `work` has a place for each block, all 0.
 pub unsafe fn merge(p: &mut Parts, work: &mut [u32]) -> Answered {
     tested::mukthiban_tested_fat_merge(p.fat.as_mut_ptr(), p.fat.len(), p.blocks(), work.as_mut_ptr(), work.len())
+}
+
+/// `work` has a place for each block and each place of the file table, all 0.
+pub unsafe fn audit(p: &Parts, work: &mut [u32], list: &mut [u32]) -> Audited {
+    tested::mukthiban_tested_volume_audit(
+        p.fat.as_ptr(),
+        p.fat.len(),
+        p.blocks(),
+        p.block_len,
+        p.file_table.as_ptr(),
+        p.file_table.len(),
+        work.as_mut_ptr(),
+        work.len(),
+        list.as_mut_ptr(),
+        list.len(),
+    )
 }
 
 pub unsafe fn open_list(p: &Parts, first: usize, list: &mut [u32]) -> Opened {

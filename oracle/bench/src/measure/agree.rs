@@ -1,10 +1,11 @@
 //! Peers are no peers if they do less: on small tables of every kind, sound and damaged, they must answer as the library does.
 
 use super::sides::library_merge;
-use crate::peers::{calls, careful, ends, merge, sorted, walks};
+use crate::peers::nodes::entries;
+use crate::peers::{audit, calls, careful, ends, fault, merge, sorted, walks};
 use compare::chance::Chance;
-use compare::{trees, volumes};
-use port::{BlockCall, Blocks, Library, Port, Tree, TreeCall};
+use compare::{audited, trees, volumes};
+use port::{Audit, BlockCall, Blocks, Library, Port, Tree, TreeCall};
 use rules::put_word;
 
 /// A word that a table might wrongly hold.
@@ -44,6 +45,11 @@ fn block_tests(lent: &Blocks) -> bool {
         assert_eq!(peer(&lent.table, &mut work), ours, "the block test of {:?}", lent.table);
         assert!(work[..lent.table.len() / 8 - 1].iter().all(|place| *place == 0));
     }
+    if ours.is_none() {
+        let n = lent.table.len() / 8 - 1;
+        let place = fault::locate(entries(&lent.table), n, &mut vec![0; n]);
+        assert_eq!(place, (test.fault.0 as u64, test.fault.1.into()), "where {:?} is broken", lent.table);
+    }
     ours.is_some()
 }
 
@@ -54,6 +60,17 @@ fn block_merges(lent: &Blocks) {
         let mut theirs = lent.clone();
         assert_eq!(merge::merge(&mut theirs.table, &mut theirs.work, test), number, "the merge of {:?}", lent.table);
         assert!(theirs.table == ours.table, "the merge of {:?}", lent.table);
+    }
+}
+
+fn audits(lent: &Audit) {
+    let mut ours = lent.clone();
+    let answer = ours.library();
+    let tests: [(audit::BlockTest, audit::TreeTest); 2] = [(careful::blocks, careful::tree), (walks::blocks, sorted::tree)];
+    for (blocks, tree) in tests {
+        let mut theirs = lent.clone();
+        let told = audit::audit(&mut theirs, blocks, tree);
+        assert!(told == (answer.number.into(), answer.fields[0]) && theirs == ours, "the audit: {told:?} beside {answer:?}");
     }
 }
 
@@ -116,6 +133,11 @@ pub fn run(quick: bool) {
         tables += block_tests(&lent) as usize;
         block_merges(&lent);
         block_call(&mut chance, &lent);
+        let mut lent = audited::any_volume(&mut chance);
+        audits(&lent);
+        damage(&mut chance, &mut lent.table, 8);
+        damage(&mut chance, &mut lent.file_table, 8);
+        audits(&lent);
         let mut lent = trees::any_sound(&mut chance);
         let n = lent.work.len();
         if chance.one_in(2) {
@@ -126,5 +148,5 @@ pub fn run(quick: bool) {
         damage(&mut chance, bytes.into_iter().nth(part).expect("four"), n);
         trees_sound += tree_tests(&lent) as usize;
     }
-    println!("On {cases} small block tables ({tables} sound) and {cases} trees ({trees_sound} sound) every peer answers as the library does.");
+    println!("On {cases} small block tables ({tables} sound), {cases} trees ({trees_sound} sound) and {} volumes of both every peer answers as the library does.", 2 * cases);
 }

@@ -1,10 +1,11 @@
 //! The jobs of the first table, each beside every peer that does the same.
 
 use super::handles::{self, OpenFile};
-use super::sides::{OnBlocks, OnTree};
+use super::sides::{OnBlocks, OnBoth, OnTree};
 use super::whole::{with, Step};
 use super::{commas, race, Side, JOB};
 use crate::report::Report;
+use crate::shapes::both::{self, Findings};
 use crate::shapes::blocks::{ring, singly, volume, Order, Shape, SHAPES};
 use crate::shapes::tree::{planned, Names, Order as Buckets, Plan};
 use port::{BlockCall, Blocks};
@@ -47,6 +48,16 @@ fn merges(report: &mut Report, n: usize) {
     for shape in [Shape::Fresh, Shape::Mixed] {
         let on = OnBlocks::new(volume(shape, n, 1).lent);
         job(report, &format!("merge, {} blocks, {}", commas(n), shape.said()), on.merges());
+    }
+}
+
+/// Every file in its place, or one in a hundred astray, over another's chain, too long or without a size.
+fn audits(report: &mut Report, n: usize, files: usize) {
+    for (findings, said) in [(Findings::None, "no finding"), (Findings::OneIn(100), "one file in a hundred has a finding")] {
+        let what = format!("audit, {} files on {} blocks: {said}", commas(files), commas(n));
+        if !left_out(&what) {
+            job(report, &what, OnBoth::new(both::volume(n, files, findings)).audits());
+        }
     }
 }
 
@@ -156,6 +167,7 @@ pub fn run(report: &mut Report, quick: bool) {
     tree_tests(report, entries);
     block_tests(report, n);
     merges(report, n);
+    audits(report, n, if quick { 500 } else { 65_000 });
     long_file(report, n);
     volumes(report, n);
     open_files(report, quick);

@@ -1,9 +1,10 @@
 //! The sides that lines are made of: the library's calls, the peers' and the original's, over volumes that are put back before each run.
 
 use super::{digest, digest_list, Answer, Side};
-use crate::peers::{calls, careful, ends, merge, sorted, walks};
+use crate::peers::nodes::entries;
+use crate::peers::{audit, calls, careful, ends, fault, merge, sorted, walks};
 use original::Volume;
-use port::{Answered, BlockCall, Blocks, Inner, Library, Merge, Port, Tree, TreeCall};
+use port::{Answered, Audit, BlockCall, Blocks, Inner, Library, Merge, Port, Tree, TreeCall};
 use std::cell::RefCell;
 
 fn answer(answered: Answered) -> Answer {
@@ -73,14 +74,25 @@ impl OnBlocks {
         Side { ready: Box::new(|| {}), times: (65_536 / n).max(1), ..self.side(name, &BlockCall::Test, run) }
     }
 
-    /// The tests in plain Rust, then the library's.
+    /// The tests in plain Rust, then the library's. Of a table that is refused all say the entry and the rule.
     pub fn tests(&self) -> Vec<Side<'_>> {
-        let told = |tested: Option<(usize, usize)>| tested.map_or([4, 0, 0], |(free, files)| [0, free as u64, files as u64]);
+        let peer = |name, test: merge::Test| {
+            self.test(name, move |s| match test(&s.table, &mut s.work) {
+                Some((free, files)) => [0, free as u64, files as u64],
+                None => {
+                    let (entry, rule) = fault::locate(entries(&s.table), s.table.len() / 8 - 1, &mut s.work);
+                    [4, entry, rule]
+                }
+            })
+        };
         vec![
-            self.test("careful", move |s| told(careful::blocks(&s.table, &mut s.work))),
-            self.test("several walks", move |s| told(walks::blocks(&s.table, &mut s.work))),
-            self.test("by ends", move |s| told(ends::blocks(&s.table, &mut s.work))),
-            self.test("library", |s| answer(Library.block_call(&BlockCall::Test, s))),
+            peer("careful", careful::blocks),
+            peer("several walks", walks::blocks),
+            peer("by ends", ends::blocks),
+            self.test("library", |s| {
+                let told = Library.block_call(&BlockCall::Test, s);
+                if told.number == 4 { [4, told.fault.0 as u64, told.fault.1.into()] } else { answer(told) }
+            }),
         ]
     }
 
@@ -246,5 +258,48 @@ impl OnTree {
     }
     pub fn inner<'a>(&'a self, call: &'a TreeCall) -> Side<'a> {
         self.side("inner", |s| answer(Inner.tree_call(call, s).expect("an inner call")))
+    }
+}
+
+/// Both layers, which an audit only reads.
+pub struct OnBoth {
+    state: RefCell<Audit>,
+}
+
+impl OnBoth {
+    pub fn new(lent: Audit) -> OnBoth {
+        OnBoth { state: RefCell::new(lent) }
+    }
+
+    fn side<'a>(&'a self, name: &'static str, run: impl Fn(&mut Audit) -> Answer + 'a) -> Side<'a> {
+        Side {
+            name,
+            spoil: Box::new(|| self.state.borrow_mut().list.fill(SPOILED)),
+            ready: Box::new(|| {}),
+            run: Box::new(move || run(&mut self.state.borrow_mut())),
+            left: Box::new(move || {
+                let s = self.state.borrow();
+                assert!(s.work.iter().all(|place| *place == 0), "{name}: the work list is not 0");
+                digest_list(&s.list)
+            }),
+            times: 1,
+            apart: false,
+        }
+    }
+
+    /// The audits in plain Rust, behind each pair of tests, then the library's.
+    pub fn audits(&self) -> Vec<Side<'_>> {
+        let peer = |name, blocks: audit::BlockTest, tree: audit::TreeTest| {
+            self.side(name, move |s| {
+                let (number, count) = audit::audit(s, blocks, tree);
+                [number, count, 0]
+            })
+        };
+        vec![
+            peer("careful", careful::blocks, careful::tree),
+            peer("several walks", walks::blocks, sorted::tree),
+            peer("by ends", ends::blocks, careful::tree),
+            self.side("library", |s| answer(s.library())),
+        ]
     }
 }

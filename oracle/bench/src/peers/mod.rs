@@ -1,9 +1,11 @@
 //! What the library is measured beside, in plain Rust over the same bytes: the two tests as a careful programmer writes them, and better ones; and files with
 //! handles. None has `unsafe`; they may use the heap, which the library does not.
 
+pub mod audit;
 pub mod calls;
 pub mod careful;
 pub mod ends;
+pub mod fault;
 pub mod files;
 pub mod lookup;
 pub mod merge;

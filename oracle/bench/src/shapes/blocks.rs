@@ -151,3 +151,24 @@ pub fn ring(n: usize, beside: usize, order: Order) -> Blocks {
     }
     lent(table, 1)
 }
+
+/// So many files of equal parts of three quarters of the volume, in runs of 1 to 16 blocks in any order, and the rest free: the table, and each file's first
+/// block and number of blocks.
+pub fn many(n: usize, files: usize) -> (Vec<u8>, Vec<(usize, usize)>) {
+    let mut chance = Chance::new(n as u64);
+    let (mut runs, mut start) = (vec![], 0);
+    while start < n {
+        let size = chance.within(1, 16).min(n - start);
+        runs.push(Run { start, size });
+        start += size;
+    }
+    chance.shuffle(&mut runs);
+    let each = runs.len() * 3 / 4 / files;
+    assert!(each > 0, "more files than runs");
+    let free = runs.split_off(each * files);
+    let files: Vec<Chain> = runs.chunks(each).map(<[Run]>::to_vec).collect();
+    let chains = files.iter().map(|chain| (chain[0].start, rules::blocks::blocks(chain))).collect();
+    let mut table = vec![0; 8 * (n + 1)];
+    lay_out(&mut table, &Layout { free, files });
+    (table, chains)
+}

@@ -1,9 +1,9 @@
 use super::Volume;
-use crate::volume::{audit, Finding};
+use crate::inner;
+use crate::volume::Finding;
 
 impl Volume {
-    /// Where the files' records and the chains disagree: the whole list, by the proved call ([`audit`]), which tests
-    /// both layers again. Nothing is found exactly where every file with bytes has a chain of its own that is long
+    /// Where the files' records and the chains disagree: the whole list, by the proved call. Nothing is found exactly where every file with bytes has a chain of its own that is long
     /// enough, and every chain has its file.
     ///
     /// ```
@@ -23,12 +23,14 @@ impl Volume {
     /// ```
     pub fn audit(&self) -> Vec<Finding> {
         let p = &self.parts;
-        let (dirs, files) = p.rooms();
-        let mut work = vec![0; p.blocks() + dirs + files];
+        let (_, files) = p.rooms();
+        let mut work = vec![0; p.blocks() + files];
         // A file has two findings at most, a chain one, and a finding two places.
         let mut list = vec![0; 2 * (2 * files + self.files())];
-        let count = audit(&p.fat, &p.data, p.block_len, p.tables(), &mut work, &mut list)
-            .expect("both tables are sound, and the list has room for all");
+        // SAFETY: both layers are sound, and the work list has its places, all 0.
+        let audited = unsafe { inner::audit(p, &mut work, &mut list) };
+        assert_eq!(audited.answer, 0, "the list has room for all");
+        let count = audited.count;
         let finding = |two: &[u32]| Finding::of(two[0], two[1]).expect("the kinds are 1 to 4");
         list[..2 * count].chunks_exact(2).map(finding).collect()
     }

@@ -1,0 +1,58 @@
+//! Both layers of a volume: files of the tree with chains of the block table.
+
+use super::blocks::many;
+use super::tree::{planned, Names, Order, Plan};
+use port::Audit;
+use rules::put_word;
+
+/// How a file's record and its chain are to disagree: not at all, or one file in `each` by each kind in turn.
+#[derive(Clone, Copy, PartialEq, Eq)]
+pub enum Findings {
+    None,
+    OneIn(usize),
+}
+
+/// A volume of n blocks with that many files in chains of runs in any order, names that hash well.
+pub fn volume(n: usize, files: usize, findings: Findings) -> Audit {
+    let (table, chains) = many(n, files);
+    let plan = Plan {
+        dirs: files / 64 + 1,
+        files,
+        dir_buckets: files / 64 + 1,
+        file_buckets: files,
+        names: Names::Random,
+        dir_order: Order::Made,
+        file_order: Order::Made,
+        spare: 1,
+    };
+    let lent = planned(plan).lent;
+    let mut file_table = lent.file_table;
+    for (i, (first, count)) in chains.iter().enumerate() {
+        let at = (i + 1) * 48;
+        let (mut block, mut size) = (*first as u32, *count as u64 * 512);
+        match findings {
+            Findings::OneIn(each) if i % each == 1 => match i / each % 4 {
+                0 => block = n as u32 + i as u32,
+                1 => block = chains[i - 1].0 as u32,
+                2 => size += 1,
+                _ => size = 0,
+            },
+            _ => {}
+        }
+        put_word(&mut file_table, at + 28, block);
+        put_word(&mut file_table, at + 32, size as u32);
+        put_word(&mut file_table, at + 36, (size >> 32) as u32);
+    }
+    let work = vec![0; n + lent.dir_table.len() / 40 + file_table.len() / 48];
+    Audit {
+        table,
+        data: vec![0; n * 512],
+        block_len: 512,
+        dir_hash: lent.dir_hash,
+        dir_table: lent.dir_table,
+        file_hash: lent.file_hash,
+        file_table,
+        work,
+        list: vec![0; 2 * n],
+    }
+}
