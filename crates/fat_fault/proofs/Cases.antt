@@ -11,10 +11,11 @@ use borrow.Author.Tests.{eq-eqb, ne-eqb, lt-ltb, le-ltb}
 use Rattle.fat_node.specs.Entry.{Bytes, top, uAt, vAt}
 use Rattle.fat_node.specs.Node.{prevAt, nextAt}
 use Rattle.fat_fault.specs.Fault.{isNode, answered, headFits, loose, named, hop, ringed, untied}
+use Rattle.fat_fault.specs.inner.Ring.{Ring}
 use Rattle.fat_fault.specs.inner.Marks.{round, Marked, Coloured}
 use Rattle.fat_node.proofs.Faults.{yes-and, tell}
 use Rattle.fat_fault.proofs.Standing.{node-below}
-use Rattle.fat_fault.proofs.Ways.{ringed-ring, ring-ringed}
+use Rattle.fat_fault.proofs.Ways.{ringed-ring, ring-ringed, ring-is-node}
 
 -- ---- links
 
@@ -135,7 +136,7 @@ hop-some n t w b i m e h z = named-yes n t i h (one-node n t w m (i - 1) z) ∙ 
 
 -- ---- the lowest
 
-module _ (n : ℕ) (t : Bytes) (w : List ℕ) (b : ℕ) (c : Coloured n t n w) where
+module _ (n : ℕ) (t : Bytes) (w : List ℕ) (b : ℕ) (c : Coloured n t (b + 1) w) where
   pub untied-none : getD w b 0 ≡ 0 → false ≡ untied n t b
   unfolding untied
   untied-none e = sym (ap (λ (x : Bool). x && (loose n t b || ringed n t b)) (not-node n t w (c .marked) b e))
@@ -152,8 +153,17 @@ module _ (n : ℕ) (t : Bytes) (w : List ℕ) (b : ℕ) (c : Coloured n t n w) w
   unfolding untied
   untied-ring e = sym (yes-and (one-node n t w (c .marked) b (λ q. omega (arith, e, q))) (or-right (loose n t b) (ringed n t b) (ring-ringed n t b (c .rings b e))))
 
-  pub untied-loose : (r : Bool) → b < n → (getD w b 0 ≡ 0 → ⊥) → (getD w b 0 ≡ round → ⊥) → r ≡ loose n t b → r ≡ untied n t b
+  pub untied-loose : (r : Bool) → (getD w b 0 ≡ 0 → ⊥) → (getD w b 0 ≡ round → ⊥) → r ≡ loose n t b → r ≡ untied n t b
   unfolding untied
-  untied-loose r l h g e =
-      let f : ringed n t b ≡ false = ⊎-elim (λ q. absurd (g (c .ringed b (c .done b l (omega (arith, h))) (ringed-ring n t b q)))) (λ q. q) (tell (ringed n t b)) in
+  untied-loose r h g e =
+      let f : ringed n t b ≡ false = ⊎-elim (λ q. absurd (g (c .ringed b (c .done b (omega arith) (omega (arith, h))) (ringed-ring n t b q)))) (λ q. q) (tell (ringed n t b)) in
       e ∙ sym (ap (λ (x : Bool). x && (loose n t b || ringed n t b)) (one-node n t w (c .marked) b h) ∙ or-left (loose n t b) (ringed n t b) f)
+
+-- one comes back to it
+pub untied-round : (n : ℕ) (t : Bytes) (b : ℕ) → Ring (hop n t) b → true ≡ untied n t b
+unfolding untied
+untied-round n t b g = sym (yes-and (ring-is-node n t g) (either (loose n t b) (ringed n t b) (ring-ringed n t b g)))
+  where
+    either : (x y : Bool) → y ≡ true → (x || y) ≡ true
+    either true y e = refl
+    either false y e = e

@@ -14,7 +14,8 @@ use Rattle.fat_node.specs.Entry.{Bytes}
 use Rattle.fat_fault.specs.Fault.{isNode, hop}
 use Rattle.fat_fault.specs.inner.Ring.{Way, Ring}
 use Rattle.fat_fault.specs.inner.Ring.Way.{here}
-use Rattle.fat_fault.specs.inner.Marks.{round, Marked, Fresh, Coloured, Closed, Rounded}
+use Rattle.fat_fault.specs.inner.Marks.{round, Marked, Fresh, Coloured, Closed, Rounded, Came}
+use Rattle.fat_node.proofs.Cases.{untrue}
 use Rattle.fat_fault.proofs.Standing.{node-below}
 use Rattle.fat_fault.proofs.Ways.{way-on, way-ring, ring-next, ring-way, ring-back, way-in, hop-named, hop-most, ring-is-node}
 use Rattle.fat_fault.proofs.Passes.{set-cases}
@@ -316,5 +317,10 @@ fresh-coloured n t w f = record {
   ringed = λ x p. let z : ⊥ = omega (arith, p, f .least x) in absurd z;
 }
 
-pub coloured-all : (n : ℕ) (t : Bytes) (b : ℕ) (w : List ℕ) → Coloured n t b w → b ≤ n → n ≤ b → Coloured n t n w
-coloured-all n t b w c h l = subst (λ (x : ℕ). Coloured n t x w) (omega arith) c
+-- ---- what the colouring tells
+
+pub came-back : (n : ℕ) (t : Bytes) (b : ℕ) (u : List ℕ) (j : ℕ) → Ring (hop n t) j → j ≡ b → Came n t b u true
+came-back n t b u j g e = record { yes = λ _. subst (Ring (hop n t)) e g; no = λ q. untrue (sym q) }
+
+pub came-on : (n : ℕ) (t : Bytes) (b : ℕ) (w : List ℕ) → Coloured n t (b + 1) w → Came n t b w false
+came-on n t b w c = record { yes = λ q. untrue q; no = λ _. c }

@@ -3,13 +3,13 @@
 use fat_node::NodeRead;
 use order::Fault;
 ghost use mathlib.Core.Path.{_≡_};
-ghost use mathlib.Core.Bool.{true};
+ghost use mathlib.Core.Bool.{true, false};
 ghost use Prim.Native.Nat.{ℕ, suc, _+_, _*_, _≤_, _<_};
 ghost use lib.ListN.{length, getD, replicate};
 ghost use Rattle.fat_node.specs.Node.{prevAt, nextAt};
 ghost use Rattle.fat_fault.specs.Fault.{answered, headFits, loose, hop, untied, lowest, faultOf};
 ghost use Rattle.fat_fault.specs.inner.Ring.{Ring};
-ghost use Rattle.fat_fault.specs.inner.Marks.{Marked, Fresh, Walked, Coloured, Closed, Rounded};
+ghost use Rattle.fat_fault.specs.inner.Marks.{Marked, Fresh, Walked, Coloured, Closed, Rounded, Came};
 
 // The top bit of a word of an entry.
 const FLAG: u32 = 2147483648;
@@ -153,12 +153,12 @@ fn ring(table: &[u8], n: usize, work: &mut [u32], j: usize)
     }
 }
 
-// Colours what is come to from the node at block b, as far as it was not; where that closes a ring, marks the ring.
-fn colour(table: &[u8], n: usize, work: &mut [u32], b: usize)
+// Colours what is come to from the node at block b, as far as it was not, and tells whether one comes back to b. Where that closes another ring, marks it.
+fn colour(table: &[u8], n: usize, work: &mut [u32], b: usize) -> bool
     requires { ⌜ length (now table) ≡ 8 * (n + 1) ⌝ }
     requires { ⌜ (b < n) × (n ≤ 1000000) ⌝ }
     requires { ⌜ Coloured n (now table) b (now work) ⌝ }
-    ensures { λ _. ⌜ Coloured n (now (table .entry)) (b + 1) (now (work .exit)) ⌝ }
+    ensures { λ r. ⌜ Came n (now (table .entry)) b (now (work .exit)) r ⌝ }
 {
     let own = b as u32 + 2;
     let mut i = b + 1;
@@ -167,36 +167,29 @@ fn colour(table: &[u8], n: usize, work: &mut [u32], b: usize)
         let m = work[j];
         if m != 1 {
             if m == own {
+                if j == b {
+                    return true;
+                }
                 ring(table, n, work, j);
             }
-            return;
+            return false;
         }
         work[j] = own;
         i = hop(table, n, work, j);
     }
+    false
 }
 
-// Colours all nodes: those in a ring have its mark, the others have not.
-fn rings(table: &[u8], n: usize, work: &mut [u32])
-    requires { ⌜ length (now table) ≡ 8 * (n + 1) ⌝ }
-    requires { ⌜ n ≤ 1000000 ⌝ }
-    requires { ⌜ Fresh n (now table) (now work) ⌝ }
-    ensures { λ _. ⌜ Coloured n (now (table .entry)) n (now (work .exit)) ⌝ }
-{
-    let mut b: usize = 0;
-    while b < n {
-        colour(table, n, work, b);
-        b += 1;
-    }
-}
-
-// Whether a node stands at block b that is loose or in a ring.
-fn untied(table: &[u8], n: usize, work: &[u32], b: usize) -> bool
+// Whether a node stands at block b that is loose or in a ring; the nodes below b are coloured.
+fn untied(table: &[u8], n: usize, work: &mut [u32], b: usize) -> bool
     requires { ⌜ length (now table) ≡ 8 * (n + 1) ⌝ }
     requires { ⌜ (b < n) × (n ≤ 1000000) ⌝ }
-    requires { ⌜ Coloured n (now table) n (now work) ⌝ }
-    ensures { λ r. ⌜ r ≡ untied n (now (table .entry)) b ⌝ }
+    requires { ⌜ Coloured n (now table) b (now work) ⌝ }
+    ensures { λ r. ⌜ (r ≡ untied n (now (table .entry)) b) × (r ≡ false → Coloured n (now (table .entry)) (b + 1) (now (work .exit))) ⌝ }
 {
+    if colour(table, n, work, b) {
+        return true;
+    }
     let m = work[b];
     if m == 0 {
         return false;
@@ -207,11 +200,11 @@ fn untied(table: &[u8], n: usize, work: &[u32], b: usize) -> bool
     loose(table, n, work, b)
 }
 
-// The lowest node that is loose or in a ring.
-fn lowest(table: &[u8], n: usize, work: &[u32]) -> Fault
+// The lowest node that is loose or in a ring. It is told as soon as it is come to.
+fn lowest(table: &[u8], n: usize, work: &mut [u32]) -> Fault
     requires { ⌜ length (now table) ≡ 8 * (n + 1) ⌝ }
     requires { ⌜ n ≤ 1000000 ⌝ }
-    requires { ⌜ Coloured n (now table) n (now work) ⌝ }
+    requires { ⌜ Fresh n (now table) (now work) ⌝ }
     ensures { λ r. ⌜ r ≡ lowest n (now (table .entry)) n 0 ⌝ }
 {
     let mut b: usize = 0;
@@ -241,7 +234,6 @@ fn find(table: &[u8], n: usize, work: &mut [u32]) -> Fault
     if !head_fits(table, n, work) {
         return Fault { entry: 0, rule: 6 };
     }
-    rings(table, n, work);
     lowest(table, n, work)
 }
 

@@ -2,7 +2,7 @@
 use borrow.Author.Needs.{needs}
 use Prim.Native.Nat.{_+_, _-_}
 use native.Mathlib.Omega.{arith}
-use Rattle.fat_fault.proofs.Colours.{unseen, seen-less, Colouring, colouring-none, colouring-node, colouring-more, colour-none, colour-met, own-closed, own-ring, colour-round}
+use Rattle.fat_fault.proofs.Colours.{unseen, seen-less, Colouring, colouring-none, colouring-node, colouring-more, colour-none, colour-met, own-closed, own-ring, colour-round, came-back, came-on}
 use Rattle.fat_fault.proofs.colour.Statement.{statement}
 use Rattle.fat_fault.proofs.colour.Tie as tie
 
@@ -33,23 +33,31 @@ mul-m c = search needs
 slice-read-m : tie.Need-slice-read-m Inv-loop μ-loop
 slice-read-m c = search needs
 
-ring-requires : tie.Need-ring-requires Inv-loop μ-loop
-ring-requires c κs =
-    let inv = c .before .before .before .before .before .loop .inv in
-    let nz = c .before .before .before .before .loop-test .taken in
-    (omega arith, ((omega (arith, inv .most), omega arith), (inv .marked, (own-closed _ _ _ _ _ (omega arith) (omega arith) _ inv, own-ring _ _ _ _ _ (omega arith) (omega arith) _ inv nz (c .before .if2 .taken)))))
-
 same-length : tie.Need-same-length Inv-loop μ-loop
 same-length c = search needs
 
 returns : tie.Need-returns Inv-loop μ-loop
-returns c = search colour-round
+returns c =
+    let inv = c .before .before .before .before .before .loop .inv in
+    came-back _ _ _ _ _ (own-ring _ _ _ _ _ (omega arith) (omega arith) _ inv (c .before .before .before .before .loop-test .taken) (c .before .if2 .taken)) (c .if3 .taken)
+
+ring-requires : tie.Need-ring-requires Inv-loop μ-loop
+ring-requires c κs =
+    let inv = c .before .before .before .before .before .before .loop .inv in
+    let nz = c .before .before .before .before .before .loop-test .taken in
+    (omega arith, ((omega (arith, inv .most), omega arith), (inv .marked, (own-closed _ _ _ _ _ (omega arith) (omega arith) _ inv, own-ring _ _ _ _ _ (omega arith) (omega arith) _ inv nz (c .before .before .if2 .taken)))))
 
 same-length-2 : tie.Need-same-length-2 Inv-loop μ-loop
 same-length-2 c = search needs
 
 returns-2 : tie.Need-returns-2 Inv-loop μ-loop
-returns-2 c = search colour-met
+returns-2 c = came-on _ _ _ _ (search colour-round)
+
+same-length-3 : tie.Need-same-length-3 Inv-loop μ-loop
+same-length-3 c = search needs
+
+returns-3 : tie.Need-returns-3 Inv-loop μ-loop
+returns-3 c = came-on _ _ _ _ (search colour-met)
 
 mul-work : tie.Need-mul-work Inv-loop μ-loop
 mul-work c = search needs
@@ -70,11 +78,11 @@ loop-less c =
 loop-again : tie.Need-loop-again Inv-loop μ-loop
 loop-again c = search colouring-more
 
-same-length-3 : tie.Need-same-length-3 Inv-loop μ-loop
-same-length-3 c = search needs
+same-length-4 : tie.Need-same-length-4 Inv-loop μ-loop
+same-length-4 c = search needs
 
-returns-3 : tie.Need-returns-3 Inv-loop μ-loop
-returns-3 c = search colour-none
+returns-4 : tie.Need-returns-4 Inv-loop μ-loop
+returns-4 c = came-on _ _ _ _ (search colour-none)
 
 pub colour-spec : {M : Type 1} → statement M
 colour-spec =
@@ -89,15 +97,17 @@ colour-spec =
     sub-j
     mul-m
     slice-read-m
-    ring-requires
     same-length
     returns
+    ring-requires
     same-length-2
     returns-2
+    same-length-3
+    returns-3
     mul-work
     slice-write-work
     hop-requires
     loop-less
     loop-again
-    same-length-3
-    returns-3)
+    same-length-4
+    returns-4)

@@ -23,11 +23,8 @@ same-length-2 c = search needs
 returns-2 : tie.Need-returns-2
 returns-2 c = search find-head
 
-rings-requires : tie.Need-rings-requires
-rings-requires c κs = (omega arith, (omega arith, c .before .before .before .before .before .before .before .before .walk .ensures .fresh (c .before .before .before .before .if1 .left)))
-
 lowest-requires : tie.Need-lowest-requires
-lowest-requires c κs = search needs
+lowest-requires c κs = (omega arith, (omega arith, c .before .before .before .before .before .before .before .before .walk .ensures .fresh (c .before .before .before .before .if1 .left)))
 
 same-length-3 : tie.Need-same-length-3
 same-length-3 c = search needs
@@ -45,7 +42,6 @@ find-spec =
     head-fits-requires
     same-length-2
     returns-2
-    rings-requires
     lowest-requires
     same-length-3
     returns-3)

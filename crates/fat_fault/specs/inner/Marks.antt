@@ -1,7 +1,7 @@
 -- What the passes say of the work list: 0 where no node starts, 1 at a node that was not come to yet, a colour or the ring's mark at one that was.
 -- Contracts inside the crate.
 use mathlib.Core.Path.{_≡_}
-use mathlib.Core.Bool.{true}
+use mathlib.Core.Bool.{Bool, true, false}
 use mathlib.Core.List.{List}
 use mathlib.Core.Logic.{_⊎_}
 use Prim.Native.Nat.{ℕ, suc, _+_, _<_, _≤_}
@@ -49,3 +49,8 @@ pub record Rounded (n : ℕ) (t : Bytes) (j : ℕ) (w w′ : List ℕ) : Type 0 
   pub long : length w′ ≡ length w
   pub all : (x : ℕ) → Way (hop n t) x j → getD w′ x 0 ≡ round
   pub only : (x : ℕ) → (getD w′ x 0 ≡ getD w x 0) ⊎ (Way (hop n t) x j × (getD w′ x 0 ≡ round))
+
+-- what the colouring from block b tells: one comes back to b, or what b leads to is coloured too
+pub record Came (n : ℕ) (t : Bytes) (b : ℕ) (w : List ℕ) (r : Bool) : Type 0 where
+  pub yes : r ≡ true → Ring (hop n t) b
+  pub no : r ≡ false → Coloured n t (b + 1) w
