@@ -21,6 +21,7 @@ use Rattle.order.specs.declared.Answer.the-variants.{
   IntoItself,
   NotOpen,
   TooManyOpens,
+  ReadOnlyVolume,
 }
 
 -- the number of an answer (RULES 2.1)
@@ -43,6 +44,7 @@ numberOf NotEmpty = 14
 numberOf IntoItself = 15
 numberOf NotOpen = 16
 numberOf TooManyOpens = 17
+numberOf ReadOnlyVolume = 20
 
 -- entry e of a block table breaks rule r (RULES 3.6)
 abbrev pub fault : (e r : ℕ) → Fault
@@ -72,3 +74,4 @@ faultIn NotEmpty = unbroken
 faultIn IntoItself = unbroken
 faultIn NotOpen = unbroken
 faultIn TooManyOpens = unbroken
+faultIn ReadOnlyVolume = unbroken

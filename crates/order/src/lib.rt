@@ -28,6 +28,7 @@ pub enum Answer {
     IntoItself,
     NotOpen,
     TooManyOpens,
+    ReadOnlyVolume,
 }
 
 // The answer's number, as a technician reads it and the C interface gives it.
@@ -53,6 +54,7 @@ pub fn number(answer: Answer) -> u32
         Answer::IntoItself => 15,
         Answer::NotOpen => 16,
         Answer::TooManyOpens => 17,
+        Answer::ReadOnlyVolume => 20,
     }
 }
 

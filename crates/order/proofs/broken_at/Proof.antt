@@ -31,6 +31,7 @@ use Rattle.order.specs.declared.Answer.the-variants.{
   IntoItself,
   NotOpen,
   TooManyOpens,
+  ReadOnlyVolume,
 }
 use borrow.Author.Needs.{needs}
 use Rattle.order.proofs.broken_at.Statement.{statement}
@@ -54,12 +55,12 @@ unlike (m ∷ ks) k h (inl e) = unlike-one k (both (not (eqb 4 k)) (apart m ks) 
 unlike (m ∷ ks) k h (inr e) = unlike ks m (both (not (eqb 4 k)) (apart m ks) h .1) e
 
 -- what is matched is BrokenFat or says nothing
-quiet : (a : Answer) → OneOf (0 ∷ 1 ∷ 2 ∷ 3 ∷ 5 ∷ 6 ∷ 7 ∷ 8 ∷ 9 ∷ 10 ∷ 11 ∷ 12 ∷ 13 ∷ 14 ∷ 15 ∷ 16 ∷ 17 ∷ []) (tagOf the-type a) → unbroken ≡ faultIn a
+quiet : (a : Answer) → OneOf (0 ∷ 1 ∷ 2 ∷ 3 ∷ 5 ∷ 6 ∷ 7 ∷ 8 ∷ 9 ∷ 10 ∷ 11 ∷ 12 ∷ 13 ∷ 14 ∷ 15 ∷ 16 ∷ 17 ∷ 18 ∷ []) (tagOf the-type a) → unbroken ≡ faultIn a
 quiet Done h = refl
 quiet SizeMismatch h = refl
 quiet InvalidValue h = refl
 quiet WorkTooShort h = refl
-quiet (BrokenFat f) h = absurd (unlike (1 ∷ 2 ∷ 3 ∷ 5 ∷ 6 ∷ 7 ∷ 8 ∷ 9 ∷ 10 ∷ 11 ∷ 12 ∷ 13 ∷ 14 ∷ 15 ∷ 16 ∷ 17 ∷ []) 0 refl h)
+quiet (BrokenFat f) h = absurd (unlike (1 ∷ 2 ∷ 3 ∷ 5 ∷ 6 ∷ 7 ∷ 8 ∷ 9 ∷ 10 ∷ 11 ∷ 12 ∷ 13 ∷ 14 ∷ 15 ∷ 16 ∷ 17 ∷ 18 ∷ []) 0 refl h)
 quiet NotAFile h = refl
 quiet NoSpace h = refl
 quiet OutOfBound h = refl
@@ -73,6 +74,7 @@ quiet NotEmpty h = refl
 quiet IntoItself h = refl
 quiet NotOpen h = refl
 quiet TooManyOpens h = refl
+quiet ReadOnlyVolume h = refl
 
 enum-known-answer : tie.Need-enum-known-answer
 enum-known-answer c = search needs
