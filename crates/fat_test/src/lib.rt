@@ -7,10 +7,12 @@ ghost use mathlib.Core.Logic.{_⊎_};
 ghost use Prim.Native.Nat.{_+_, _*_, _≤_, _<_};
 ghost use lib.ListN.{length, replicate};
 ghost use Rattle.order.specs.Gate.{cleared};
+ghost use Rattle.order.specs.Tells.{Tells};
 ghost use Rattle.order.specs.declared.Answer.the-variants.{Done};
 ghost use Rattle.fat_node.specs.Sizes.{blocks, Misfit, Outside};
 ghost use Rattle.fat_test.specs.Promise.{tested, TestPromise};
-ghost use Rattle.fat_test.specs.inner.Gated.{Ruled, GateOf};
+ghost use Rattle.fat_test.specs.Gate.{InUse};
+ghost use Rattle.fat_test.specs.inner.Gated.{Ruled, GateOf, ChangeGateOf, TableGateOf};
 
 // The test's answer: of a sound table its free blocks and the number of its other chains, of any other table 0 and 0. The answer BrokenFat says where.
 pub struct Tested {
@@ -131,6 +133,16 @@ pub fn test(table: &[u8], work: &mut [u32]) -> Tested
     }
 }
 
+// Whether volumes with blocks of this length are in use; others are read-only.
+pub fn in_use(block_len: usize) -> bool
+    ensures { λ r. ⌜ Tells (InUse «block_len») r ⌝ }
+{
+    if block_len == 512 {
+        return true;
+    }
+    block_len == 4096
+}
+
 // The gate of a call with data of length data_len. Open: the sizes fit and the table is sound, and the counts are the test's.
 pub fn gate(table: &[u8], data_len: usize, block_len: usize, work: &mut [u32]) -> Gated
     ensures { λ r. ⌜ GateOf (now (table .entry)) «data_len» «block_len» (now (work .entry)) (now (work .exit)) r ⌝ }
@@ -162,4 +174,45 @@ pub fn gate(table: &[u8], data_len: usize, block_len: usize, work: &mut [u32]) -
         };
     }
     verdict(table, work)
+}
+
+// The gate of a call with data of length data_len that changes them or the table. Open: the gate is, and the block length is in use.
+pub fn change_gate(table: &[u8], data_len: usize, block_len: usize, work: &mut [u32]) -> Gated
+    ensures { λ r. ⌜ ChangeGateOf (now (table .entry)) «data_len» «block_len» (now (work .entry)) (now (work .exit)) r ⌝ }
+{
+    let gated = gate(table, data_len, block_len, work);
+    match gated {
+        Gated::Refused { answer } => Gated::Refused { answer },
+        Gated::Open { free, files } => {
+            if in_use(block_len) {
+                return Gated::Open { free, files };
+            }
+            Gated::Refused {
+                answer: Answer::ReadOnlyVolume,
+            }
+        }
+    }
+}
+
+// The gate of a call that changes the table and is lent no data: as with data that fit.
+pub fn table_gate(table: &[u8], block_len: usize, work: &mut [u32]) -> Gated
+    ensures { λ r. ⌜ TableGateOf (now (table .entry)) «block_len» (now (work .entry)) (now (work .exit)) r ⌝ }
+{
+    if fat_node::misfit(table) {
+        return Gated::Refused {
+            answer: Answer::SizeMismatch,
+        };
+    }
+    if fat_node::outside(table) {
+        return Gated::Refused {
+            answer: Answer::InvalidValue,
+        };
+    }
+    if unfit(block_len) {
+        return Gated::Refused {
+            answer: Answer::InvalidValue,
+        };
+    }
+    let n = fat_node::blocks(table);
+    change_gate(table, n * block_len, block_len, work)
 }
