@@ -1,4 +1,6 @@
 // The calls of the block table.
+pub mod tested;
+
 ghost use lib.ListN.{length};
 ghost use Rattle.fat_promises.specs.Promise.{beside};
 ghost use Rattle.fat_promises.specs.Calls.{CreatePromise, DeletePromise, createGives, changeGives, ResizePromise, listGives, ListPromise};
@@ -14,8 +16,8 @@ use fat_inner::step::delete_sound;
 use fat_inner::step::resize_sound;
 use fat_test::Gated;
 
-// Deletes the file whose first block is given: all its nodes go before the free front, in their order. Answers its number alone; NotAFile where the block
-// is not the first of a chain other than the free one.
+// Deletes the file whose first block is given: all its nodes go before the free front, in their order. Answers its number alone; ReadOnlyVolume where the
+// block length is not in use, NotAFile where the block is not the first of a chain other than the free one.
 pub fn delete(
     table: &mut [u8],
     data: &[u8],
@@ -25,7 +27,7 @@ pub fn delete(
 ) -> Answered
     ensures { λ r. ⌜ DeletePromise (now (table .entry)) (length (now («data» .entry))) «block_len» (now (work .entry)) «first_block» (beside (changeGives (r .answer) (now (table .exit))) (now (work .exit))) ⌝ }
 {
-    let gated = fat_test::gate(table, data.len(), block_len, work);
+    let gated = fat_test::change_gate(table, data.len(), block_len, work);
     match gated {
         Gated::Refused { answer } => Answered { answer },
         Gated::Open { free: _, files: _ } => {
@@ -35,8 +37,8 @@ pub fn delete(
     }
 }
 
-// Creates a file of so many blocks, the first of the free chain. Answers its number and the file's first block; InvalidValue for 0 blocks, NoSpace where
-// fewer are free.
+// Creates a file of so many blocks, the first of the free chain. Answers its number and the file's first block; ReadOnlyVolume as delete, InvalidValue for
+// 0 blocks, NoSpace where fewer are free.
 pub fn create(
     table: &mut [u8],
     data: &[u8],
@@ -46,7 +48,7 @@ pub fn create(
 ) -> Created
     ensures { λ r. ⌜ CreatePromise (now (table .entry)) (length (now («data» .entry))) «block_len» (now (work .entry)) «block_count» (beside (createGives (r .answer) (r .first) (now (table .exit))) (now (work .exit))) ⌝ }
 {
-    let gated = fat_test::gate(table, data.len(), block_len, work);
+    let gated = fat_test::change_gate(table, data.len(), block_len, work);
     match gated {
         Gated::Refused { answer } => Created { answer, first: 0 },
         Gated::Open { free: _, files: _ } => {
@@ -57,7 +59,8 @@ pub fn create(
 }
 
 // Resizes the file whose first block is given to so many blocks: it grows by the first of the free chain, or its last go before the free front; to the
-// same count nothing changes. Answers its number alone; NotAFile as delete, InvalidValue for 0 blocks, NoSpace where too few are free.
+// same count nothing changes. Answers its number alone; ReadOnlyVolume and NotAFile as delete, InvalidValue for 0 blocks, NoSpace where too few are
+// free.
 pub fn resize(
     table: &mut [u8],
     data: &[u8],
@@ -68,7 +71,7 @@ pub fn resize(
 ) -> Answered
     ensures { λ r. ⌜ ResizePromise (now (table .entry)) (length (now («data» .entry))) «block_len» (now (work .entry)) «first_block» «block_count» (beside (changeGives (r .answer) (now (table .exit))) (now (work .exit))) ⌝ }
 {
-    let gated = fat_test::gate(table, data.len(), block_len, work);
+    let gated = fat_test::change_gate(table, data.len(), block_len, work);
     match gated {
         Gated::Refused { answer } => Answered { answer },
         Gated::Open { free: _, files: _ } => {
@@ -123,8 +126,8 @@ pub fn read(
     }
 }
 
-// Writes the buffer's bytes into the file whose first block is given, from byte pos on. Answers its number alone, refused as read is; then the data stay as
-// they were.
+// Writes the buffer's bytes into the file whose first block is given, from byte pos on. Answers its number alone; ReadOnlyVolume as delete, else refused as
+// read is; then the data stay as they were.
 pub fn write(
     table: &[u8],
     data: &mut [u8],
@@ -136,7 +139,7 @@ pub fn write(
 ) -> Answered
     ensures { λ r. ⌜ WritePromise (now (table .entry)) (now («data» .entry)) «block_len» (now (work .entry)) «first_block» pos (now (buf .entry)) (beside (carryGives (r .answer) (now («data» .exit))) (now (work .exit))) ⌝ }
 {
-    let gated = fat_test::gate(table, data.len(), block_len, work);
+    let gated = fat_test::change_gate(table, data.len(), block_len, work);
     match gated {
         Gated::Refused { answer } => Answered { answer },
         Gated::Open { free: _, files: _ } => {

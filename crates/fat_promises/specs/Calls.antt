@@ -15,7 +15,7 @@ use Rattle.fat_table.specs.Sound.{File}
 use Rattle.fat_table.specs.Chain.{total, freeAt, fileAt}
 use Rattle.fat_table.specs.Steps.{created, createdAt, resized, deleted}
 use Rattle.fat_promises.specs.Blocks.{blocksOf, bytesAt, written}
-use Rattle.fat_promises.specs.Promise.{Beside, Promise}
+use Rattle.fat_promises.specs.Promise.{Beside, Promise, ChangePromise}
 
 -- create -------------------------------------------------------------------------------------------------------------------------------------------
 
@@ -52,7 +52,7 @@ CreateSound n t count o = First (createRows n t count) (createDone n t count) o
 
 -- the promise of create
 abbrev pub CreatePromise : (t : Bytes) (d l : ℕ) (work : List ℕ) (count : ℕ) → Beside Create → Type 0
-CreatePromise t d l work count = Promise (λ a. createGives a 0 t) t d l work (createRows (blocks t) t count) (createDone (blocks t) t count)
+CreatePromise t d l work count = ChangePromise (λ a. createGives a 0 t) t d l work (createRows (blocks t) t count) (createDone (blocks t) t count)
 
 -- resize -------------------------------------------------------------------------------------------------------------------------------------------
 
@@ -93,7 +93,7 @@ ResizeSound n t b count o = First (resizeRows n t b count) (resizeDone n t b cou
 
 -- the promise of resize
 abbrev pub ResizePromise : (t : Bytes) (d l : ℕ) (work : List ℕ) (b count : ℕ) → Beside Change → Type 0
-ResizePromise t d l work b count = Promise (λ a. changeGives a t) t d l work (resizeRows (blocks t) t b count) (resizeDone (blocks t) t b count)
+ResizePromise t d l work b count = ChangePromise (λ a. changeGives a t) t d l work (resizeRows (blocks t) t b count) (resizeDone (blocks t) t b count)
 
 -- delete -------------------------------------------------------------------------------------------------------------------------------------------
 
@@ -119,7 +119,7 @@ DeleteSound n t b o = First (deleteRows n t b) (deleteDone n t b) o
 
 -- the promise of delete
 abbrev pub DeletePromise : (t : Bytes) (d l : ℕ) (work : List ℕ) (b : ℕ) → Beside Change → Type 0
-DeletePromise t d l work b = Promise (λ a. changeGives a t) t d l work (deleteRows (blocks t) t b) (deleteDone (blocks t) t b)
+DeletePromise t d l work b = ChangePromise (λ a. changeGives a t) t d l work (deleteRows (blocks t) t b) (deleteDone (blocks t) t b)
 
 -- open list ----------------------------------------------------------------------------------------------------------------------------------------
 
@@ -210,4 +210,4 @@ WriteSound n t d l b pos buf o = First (carryRows n t l b pos (length buf) d) (w
 -- the promise of write
 abbrev pub WritePromise : (t d : Bytes) (l : ℕ) (work : List ℕ) (b pos : ℕ) (buf : Bytes) → Beside Carry → Type 0
 WritePromise t d l work b pos buf =
-    Promise (λ a. carryGives a d) t (length d) l work (carryRows (blocks t) t l b pos (length buf) d) (writeDone (blocks t) t d l b pos buf)
+    ChangePromise (λ a. carryGives a d) t (length d) l work (carryRows (blocks t) t l b pos (length buf) d) (writeDone (blocks t) t d l b pos buf)

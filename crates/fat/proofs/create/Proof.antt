@@ -1,10 +1,10 @@
-use Rattle.fat.proofs.Public.{call-ready, call-refused, create-passed}
+use Rattle.fat.proofs.Public.{call-ready, change-refused, create-passed}
 use borrow.Author.Needs.{needs}
 use Rattle.fat.proofs.create.Statement.{statement}
 use Rattle.fat.proofs.create.Tie as tie
 
-gate-requires : tie.Need-gate-requires
-gate-requires c κs = search needs
+change-gate-requires : tie.Need-change-gate-requires
+change-gate-requires c κs = search needs
 
 enum-known-gated : tie.Need-enum-known-gated
 enum-known-gated c = search needs
@@ -25,7 +25,7 @@ same-length-2 : tie.Need-same-length-2
 same-length-2 c = search needs
 
 returns : tie.Need-returns
-returns c = search (call-refused)
+returns c = search (change-refused)
 
 same-length-3 : tie.Need-same-length-3
 same-length-3 c = search needs
@@ -40,7 +40,7 @@ pub create-spec : {M : Type 1} → statement M
 create-spec =
     tie.close
     (tie.spec
-    gate-requires
+    change-gate-requires
     enum-known-gated
     enum-told
     blocks-requires

@@ -1,10 +1,10 @@
-use Rattle.fat.proofs.Public.{call-ready, call-data, call-refused, write-passed}
+use Rattle.fat.proofs.Public.{call-ready, call-data, change-refused, write-passed}
 use borrow.Author.Needs.{needs}
 use Rattle.fat.proofs.write.Statement.{statement}
 use Rattle.fat.proofs.write.Tie as tie
 
-gate-requires : tie.Need-gate-requires
-gate-requires c κs = search needs
+change-gate-requires : tie.Need-change-gate-requires
+change-gate-requires c κs = search needs
 
 enum-known-gated : tie.Need-enum-known-gated
 enum-known-gated c = search needs
@@ -22,7 +22,7 @@ same-length : tie.Need-same-length
 same-length c = search needs
 
 returns : tie.Need-returns
-returns c = search (call-refused)
+returns c = search (change-refused)
 
 same-length-2 : tie.Need-same-length-2
 same-length-2 c = search needs
@@ -37,7 +37,7 @@ pub write-spec : {M : Type 1} → statement M
 write-spec =
     tie.close
     (tie.spec
-    gate-requires
+    change-gate-requires
     enum-known-gated
     enum-told
     blocks-requires
