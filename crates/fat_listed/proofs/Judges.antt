@@ -11,14 +11,15 @@ use lib.ListN.{length, getD}
 use Rattle.order.specs.First.{Row}
 use Rattle.order.specs.Given.{Given, None}
 use Rattle.order.specs.declared.Answer.{Answer}
-use Rattle.order.specs.declared.Answer.the-variants.{Done, SizeMismatch, InvalidValue, OutOfBound}
+use Rattle.order.specs.declared.Answer.the-variants.{Done, SizeMismatch, InvalidValue, OutOfBound, ReadOnlyVolume}
 use Rattle.fat_node.specs.Entry.{Bytes}
 use Rattle.fat_node.proofs.Nodes.{le-or-lt}
+use Rattle.fat_test.specs.Gate.{InUse}
 use Rattle.fat_inner.specs.Volume.{Data}
 use Rattle.fat_promises.specs.Blocks.{bytesAt, written}
 use Rattle.fat_promises.specs.Calls.{Carry, carryGives}
 use Rattle.order.specs.Tells.{Tells}
-use Rattle.fat_listed.specs.Listed.{Uneven, Unfit, Foreign, listedTests, ReadBlocksPromise, WriteBlocksPromise}
+use Rattle.fat_listed.specs.Listed.{Uneven, Unfit, Foreign, listedTests, writeTests, ReadBlocksPromise, WriteBlocksPromise}
 use Rattle.fat_listed.specs.Shares.{Domestic, JudgeSays}
 use Rattle.fat_listed.specs.declared.Judged.{Judged}
 use Rattle.fat_listed.specs.declared.Judged.the-variants.{Fits, Refused}
@@ -65,6 +66,31 @@ module _ (d l : ℕ) (list : List ℕ) (pos many : ℕ) {r1 : Bool} (t1 : Tells 
         pub judged-fits : r4 ≡ false → JudgeSays (listedTests d l list pos many) Fits
         judged-fits e = (tells-not t1 e1, (tells-not t2 e2, (tells-not t3 e3, (tells-not t4 e, tt))))
 
+-- the tests of write_blocks ---------------------------------------------------------------------------------------------
+
+module _ (d l : ℕ) (list : List ℕ) (pos many : ℕ) where
+  -- a block length in use: as those of read_blocks
+  pub write-used : InUse l → (r : Judged) → JudgeSays (listedTests d l list pos many) r → JudgeSays (writeTests d l list pos many) r
+  write-used u Fits n = (n .0, (n .1 .0, ((λ z. z u), n .1 .1)))
+  write-used u (Refused a) (inl p) = inl p
+  write-used u (Refused a) (inr (x, inl p)) = inr (x, inl p)
+  write-used u (Refused a) (inr (x, inr (y, p))) = inr (x, inr (y, inr ((λ z. z u), p)))
+
+  -- and where no test applies, none of read_blocks does
+  pub write-fits : (r : Judged) → JudgeSays (writeTests d l list pos many) r → r ≡ Fits → JudgeSays (listedTests d l list pos many) Fits
+  write-fits r j e = let n = subst (JudgeSays (writeTests d l list pos many)) e j in (n .0, (n .1 .0, n .1 .1 .1))
+
+  module _ (b : Bool) (t0 : Tells (InUse l) b) (e0 : b ≡ false) {r1 : Bool} (t1 : Tells (Uneven d l) r1) where
+    pub write-uneven : r1 ≡ true → JudgeSays (writeTests d l list pos many) (Refused SizeMismatch)
+    write-uneven e = inl (t1 .yes e, refl)
+
+    module _ {r2 : Bool} (e1 : r1 ≡ false) (t2 : Tells (Unfit d l) r2) where
+      pub write-unfit : r2 ≡ true → JudgeSays (writeTests d l list pos many) (Refused InvalidValue)
+      write-unfit e = inr (tells-not t1 e1, inl (t2 .yes e, refl))
+
+      pub write-retired : r2 ≡ false → JudgeSays (writeTests d l list pos many) (Refused ReadOnlyVolume)
+      write-retired e = inr (tells-not t1 e1, inr (tells-not t2 e, inl (tells-not t0 e0, refl)))
+
 -- the calls ---------------------------------------------------------------------------------------------------------------
 
 module _ (d l : ℕ) (list : List ℕ) (pos many : ℕ) (r : Judged) (j : JudgeSays (listedTests d l list pos many) r) where
@@ -98,10 +124,12 @@ module _ (d : Bytes) (l : ℕ) (list : List ℕ) (pos : ℕ) (buf : Bytes) (r : 
       subst (λ (x : Bytes). ReadBlocksPromise d l list pos buf (carryGives Done x)) (sym q)
       (none-first (λ a. carryGives a buf) (carryGives Done (bytesAt (length buf) d l list pos)) (listedTests (length d) l list pos (length buf)) (none (length d) l list pos (length buf) r j e))
 
+module _ (d : Bytes) (l : ℕ) (list : List ℕ) (pos : ℕ) (buf : Bytes) (r : Judged) (j : JudgeSays (writeTests (length d) l list pos (length buf)) r) where
   pub write-refused : (a : Answer) → r ≡ Refused a → WriteBlocksPromise d l list pos buf (carryGives a d)
-  write-refused a e = given-first (λ a. carryGives a d) _ (listedTests (length d) l list pos (length buf)) a (given (length d) l list pos (length buf) r j a e)
+  write-refused a e =
+      given-first (λ a. carryGives a d) _ (writeTests (length d) l list pos (length buf)) a (subst (JudgeSays (writeTests (length d) l list pos (length buf))) e j)
 
   pub write-done : r ≡ Fits → (u : Bytes) → u ≡ written buf d l list pos → WriteBlocksPromise d l list pos buf (carryGives Done u)
   write-done e u q =
       subst (λ (x : Bytes). WriteBlocksPromise d l list pos buf (carryGives Done x)) (sym q)
-      (none-first (λ a. carryGives a d) (carryGives Done (written buf d l list pos)) (listedTests (length d) l list pos (length buf)) (none (length d) l list pos (length buf) r j e))
+      (none-first (λ a. carryGives a d) (carryGives Done (written buf d l list pos)) (writeTests (length d) l list pos (length buf)) (subst (JudgeSays (writeTests (length d) l list pos (length buf))) e j))

@@ -25,9 +25,9 @@ use Rattle.fat_node.proofs.Sizes.{fit, inside}
 use Rattle.links.proofs.Held.{same-or}
 use Rattle.fat_table.specs.Sound.{Sound, File}
 use Rattle.fat_table.specs.Chain.{total, chainAt, fileAt}
-use Rattle.fat_test.specs.Gate.{blockGate}
+use Rattle.fat_test.specs.Gate.{InUse, blockGate, changeGate}
 use Rattle.fat_promises.specs.Blocks.{blocksFrom, blocksOf, bytesAt, written}
-use Rattle.fat_promises.specs.Promise.{Beside, beside, Promise}
+use Rattle.fat_promises.specs.Promise.{Beside, beside, Promise, ChangePromise, changeRows}
 use Rattle.fat_promises.specs.Calls.{Carry, carryGives, carryRows, readDone, writeDone, sizeOf, ReadPromise, WritePromise, Listing, listGives, listDone, ListPromise}
 use Rattle.fat_inner.specs.Volume.{Volume}
 use Rattle.fat_inner.specs.inner.Chains.{Chain}
@@ -36,7 +36,7 @@ use Rattle.fat_inner.proofs.Lists.{length-from, length-blocks}
 use Rattle.fat_inner.proofs.Joins.{mid-within}
 use Rattle.fat_inner.proofs.Found.{file-from}
 use Rattle.fat_listed.proofs.Tests.{fit-none}
-use Rattle.fat_listed.specs.Listed.{Uneven, Unfit, Foreign, listedTests, ReadBlocksPromise, WriteBlocksPromise}
+use Rattle.fat_listed.specs.Listed.{Uneven, Unfit, Foreign, listedOwn, listedTests, writeTests, ReadBlocksPromise, WriteBlocksPromise}
 
 -- one answer --------------------------------------------------------------------------------------------------------------
 
@@ -46,7 +46,14 @@ one-read-blocks d l list pos buf o o′ p q =
 
 pub one-write-blocks : (d : Bytes) (l : ℕ) (list : List ℕ) (pos : ℕ) (buf : Bytes) (o o′ : Carry) → WriteBlocksPromise d l list pos buf o → WriteBlocksPromise d l list pos buf o′ → o ≡ o′
 one-write-blocks d l list pos buf o o′ p q =
-    one (giving (λ a. carryGives a d) (listedTests (length d) l list pos (length buf))) (carryGives Done (written buf d l list pos)) o o′ p q
+    one (giving (λ a. carryGives a d) (writeTests (length d) l list pos (length buf))) (carryGives Done (written buf d l list pos)) o o′ p q
+
+-- read-only-write-blocks: with a block length that is not in use write_blocks leaves the data as they were
+pub read-only-write-blocks : (d : Bytes) (l : ℕ) (list : List ℕ) (pos : ℕ) (buf : Bytes) (o : Carry) → (InUse l → ⊥) → WriteBlocksPromise d l list pos buf o → o .bytes ≡ d
+read-only-write-blocks d l list pos buf o u (inl p) = ap (λ (x : Carry). x .bytes) (p .1)
+read-only-write-blocks d l list pos buf o u (inr (_, inl p)) = ap (λ (x : Carry). x .bytes) (p .1)
+read-only-write-blocks d l list pos buf o u (inr (_, inr (_, inl p))) = ap (λ (x : Carry). x .bytes) (p .1)
+read-only-write-blocks d l list pos buf o u (inr (_, inr (_, inr (n, p)))) = absurd (n u)
 
 -- a chain's blocks --------------------------------------------------------------------------------------------------------
 
@@ -111,20 +118,31 @@ module _ (n : ℕ) (t : Bytes) (few : n ≤ 1000000) (long : length t ≡ 8 * (n
         (le-or-lt (pos + many) (sizeOf n t l b))
 
     -- the tests over the file's list are the rows of read and write
+    own-same : (o : Carry) → First (giving (λ a. carryGives a bytes) (listedOwn d l (blocksOf (fileAt n t b)) pos many)) done o → First (carryRows n t l b pos many bytes) done o
+    own-same o (inl p) = inr (f, inl (omega (arith, p .0, size), p .1))
+    own-same o (inr (z, inl p)) = absurd (home (λ q. z (omega (arith, q, size))) (p .0))
+    own-same o (inr (z, inr (w, p))) = inr (f, inr ((λ q. z (omega (arith, q, size))), p))
+
     same : (o : Carry) → First (giving (λ a. carryGives a bytes) (listedTests d l (blocksOf (fileAt n t b)) pos many)) done o → First (carryRows n t l b pos many bytes) done o
     same o (inl p) = absurd (even (p .0))
     same o (inr (x, inl p)) = absurd (fits (p .0))
-    same o (inr (x, inr (y, inl p))) = inr (f, inl (omega (arith, p .0, size), p .1))
-    same o (inr (x, inr (y, inr (z, inl p)))) = absurd (home (λ q. z (omega (arith, q, size))) (p .0))
-    same o (inr (x, inr (y, inr (z, inr (w, p))))) = inr (f, inr ((λ q. z (omega (arith, q, size))), p))
+    same o (inr (x, inr (y, p))) = own-same o p
+
+    change-same : (o : Carry) → First (giving (λ a. carryGives a bytes) (writeTests d l (blocksOf (fileAt n t b)) pos many)) done o
+        → First (changeRows (λ a. carryGives a bytes) l (carryRows n t l b pos many bytes)) done o
+    change-same o (inl p) = absurd (even (p .0))
+    change-same o (inr (x, inl p)) = absurd (fits (p .0))
+    change-same o (inr (x, inr (y, inl p))) = inl p
+    change-same o (inr (x, inr (y, inr (z, p)))) = inr (z, own-same o p)
 
   module _ (d : Bytes) (l : ℕ) (D : Data n (length d) l) (pos : ℕ) (buf : Bytes) (o : Carry) where
     -- on a sound table, over the file's blocks: as the calls inside, which require soundness
     pub read-same : ReadBlocksPromise d l (blocksOf (fileAt n t b)) pos buf o → First (carryRows n t l b pos (length buf) buf) (readDone n t d l b pos buf) o
     read-same p = same (length d) l D pos (length buf) buf (readDone n t d l b pos buf) o p
 
-    pub write-same : WriteBlocksPromise d l (blocksOf (fileAt n t b)) pos buf o → First (carryRows n t l b pos (length buf) d) (writeDone n t d l b pos buf) o
-    write-same p = same (length d) l D pos (length buf) d (writeDone n t d l b pos buf) o p
+    pub write-same : WriteBlocksPromise d l (blocksOf (fileAt n t b)) pos buf o
+        → First (changeRows (λ a. carryGives a d) l (carryRows n t l b pos (length buf) d)) (writeDone n t d l b pos buf) o
+    write-same p = change-same (length d) l D pos (length buf) d (writeDone n t d l b pos buf) o p
 
 -- what open list says where it answers Done
 pub record Listed (t : Bytes) (d l b count : ℕ) (list : List ℕ) : Type 0 where
@@ -184,14 +202,30 @@ module _ (t d : Bytes) (l b count : ℕ) (list : List ℕ) (g : AreBytes t) (w :
       (subst (λ (x : List ℕ). ReadBlocksPromise d l x pos buf o) (w .is) p))
 
   pub opened-write : WriteBlocksPromise d l (take count list) pos buf o → WritePromise t d l work b pos buf (beside o (cleared (blocks t) work))
-  unfolding Promise
+  unfolding ChangePromise
   opened-write p =
-      rows.passed
-      (blockGate (λ a w. beside (carryGives a d) w) t (length d) l work)
-      (cleared (blocks t) work)
-      (carryRows (blocks t) t l b pos (length buf) d)
-      (writeDone (blocks t) t d l b pos buf)
-      o
-      (w .misfit, (w .outside, ((λ z. omega (arith, z, room)), (w .sound, tt))))
-      (write-same (blocks t) t (inside t (λ z. w .outside (inl z)) .1) volume-long (w .sound) g b (w .file) d l volume-data pos buf o
+      go (write-same (blocks t) t (inside t (λ z. w .outside (inl z)) .1) volume-long (w .sound) g b (w .file) d l volume-data pos buf o
       (subst (λ (x : List ℕ). WriteBlocksPromise d l x pos buf o) (w .is) p))
+    where
+      short : length work < blocks t → ⊥
+      short z = omega (arith, z, room)
+
+      go : First (changeRows (λ a. carryGives a d) l (carryRows (blocks t) t l b pos (length buf) d)) (writeDone (blocks t) t d l b pos buf) o
+          → WritePromise t d l work b pos buf (beside o (cleared (blocks t) work))
+      go (inl q) =
+          rows.refused
+          (changeGate (λ a w. beside (carryGives a d) w) t (length d) l work)
+          (cleared (blocks t) work)
+          (carryRows (blocks t) t l b pos (length buf) d)
+          (writeDone (blocks t) t d l b pos buf)
+          (beside o (cleared (blocks t) work))
+          (inr (w .misfit, inr (w .outside, inr (short, inr (w .sound, inl (q .0, ap (λ (x : Carry). beside x (cleared (blocks t) work)) (q .1)))))))
+      go (inr (n, q)) =
+          rows.passed
+          (changeGate (λ a w. beside (carryGives a d) w) t (length d) l work)
+          (cleared (blocks t) work)
+          (carryRows (blocks t) t l b pos (length buf) d)
+          (writeDone (blocks t) t d l b pos buf)
+          o
+          (w .misfit, (w .outside, (short, (w .sound, (n, tt)))))
+          q

@@ -6,7 +6,7 @@ ghost use Rattle.fat_inner.specs.Volume.{Data};
 ghost use Rattle.fat_promises.specs.Calls.{carryGives};
 ghost use Rattle.fat_promises.specs.Blocks.{bytesAt, written};
 ghost use Rattle.order.specs.Tells.{Tells};
-ghost use Rattle.fat_listed.specs.Listed.{Uneven, Unfit, Foreign, listedTests, ReadBlocksPromise, WriteBlocksPromise};
+ghost use Rattle.fat_listed.specs.Listed.{Uneven, Unfit, Foreign, listedTests, writeTests, ReadBlocksPromise, WriteBlocksPromise};
 ghost use Rattle.fat_listed.specs.Shares.{Domestic, ShareOf, JudgeSays};
 use fat_inner::step::Answered;
 use fat_inner::walk::least;
@@ -101,7 +101,7 @@ enum Judged {
     Refused { answer: Answer },
 }
 
-// The tests of both calls, in order: sizes, the end of the list, the blocks that the bytes lie in.
+// The tests of read_blocks, in order: sizes, the end of the list, the blocks that the bytes lie in.
 fn judge(data_len: usize, block_len: usize, list: &[u32], pos: usize, len: usize) -> Judged
     ensures { λ r. ⌜ JudgeSays (listedTests «data_len» «block_len» (now (list .entry)) pos len) r ⌝ }
 {
@@ -127,6 +127,28 @@ fn judge(data_len: usize, block_len: usize, list: &[u32], pos: usize, len: usize
         };
     }
     Judged::Fits
+}
+
+// The tests of write_blocks: the same, and after the sizes that the block length is in use.
+fn judge_write(data_len: usize, block_len: usize, list: &[u32], pos: usize, len: usize) -> Judged
+    ensures { λ r. ⌜ JudgeSays (writeTests «data_len» «block_len» (now (list .entry)) pos len) r ⌝ }
+{
+    if fat_test::in_use(block_len) {
+        return judge(data_len, block_len, list, pos, len);
+    }
+    if uneven(data_len, block_len) {
+        return Judged::Refused {
+            answer: Answer::SizeMismatch,
+        };
+    }
+    if unfit(data_len, block_len) {
+        return Judged::Refused {
+            answer: Answer::InvalidValue,
+        };
+    }
+    Judged::Refused {
+        answer: Answer::ReadOnlyVolume,
+    }
 }
 
 // Bytes of one block: len of them, from place at of the data on.
@@ -216,7 +238,8 @@ pub fn read_blocks(
 }
 
 // Writes the buffer's bytes into the listed blocks, from byte pos on, byte after byte: where the list names a block twice, the later byte stays. Answers
-// its number alone, refused as read_blocks is; then the data stay as they were.
+// its number alone, refused as read_blocks is, and after the sizes with ReadOnlyVolume where the block length is not in use; then the data stay as they
+// were.
 pub fn write_blocks(
     data: &mut [u8],
     block_len: usize,
@@ -226,7 +249,7 @@ pub fn write_blocks(
 ) -> Answered
     ensures { λ r. ⌜ WriteBlocksPromise (now («data» .entry)) «block_len» (now (list .entry)) pos (now (buf .entry)) (carryGives (r .answer) (now («data» .exit))) ⌝ }
 {
-    let judged = judge(data.len(), block_len, list, pos, buf.len());
+    let judged = judge_write(data.len(), block_len, list, pos, buf.len());
     match judged {
         Judged::Refused { answer } => Answered { answer },
         Judged::Fits => {
