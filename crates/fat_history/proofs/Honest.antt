@@ -1,6 +1,7 @@
 -- Demand 3 over the calls' promises: what a run ends in is sound, and every sound table is what a run ends in, where the rules read.
 use mathlib.Core.Path.{_≡_, refl, sym, ap, subst, subst⁻¹, _∙_}
 use mathlib.Core.List.{List, [], _∷_, _++_}
+use mathlib.Core.Logic.{inl}
 use Prim.Native.Nat.{ℕ, suc, _+_, _-_, _*_, _/_, _≤_}
 use native.Mathlib.Omega.{arith}
 use lib.ListN.{length, replicate, length-replicate}
@@ -139,7 +140,7 @@ module _ (n : ℕ) (some : 1 ≤ n) (small : n ≤ 1000000) where
       record {
         end = o .given .table;
         run-to = creates k t (m .run-to) (n * 512) 512 (replicate n 0) c o
-            (create-done t (n * 512) 512 (replicate n 0) c (ready t L (m .bytes) e (m .holds)) (record { some = h; enough = omega (arith, fr, l) })) refl;
+            (create-done t (n * 512) 512 (replicate n 0) c (ready t L (m .bytes) e (m .holds)) (inl refl) (record { some = h; enough = omega (arith, fr, l) })) refl;
         bytes = bytes-created (blocks t) t 0 c (m .bytes);
         blocks-are = blocks-of n (o .given .table) (s .room);
         holds = s;
@@ -160,7 +161,7 @@ module _ (n : ℕ) (some : 1 ≤ n) (small : n ≤ 1000000) where
       record {
         end = o .given .table;
         run-to = deletes k t (m .run-to) (n * 512) 512 (replicate n 0) b o
-            (delete-done t (n * 512) 512 (replicate n 0) b (ready t L (m .bytes) e (m .holds)) (record { file = i })) refl;
+            (delete-done t (n * 512) 512 (replicate n 0) b (ready t L (m .bytes) e (m .holds)) (inl refl) (record { file = i })) refl;
         bytes = bytes-deleted (blocks t) t b 0 (m .bytes);
         blocks-are = blocks-of n (o .given .table) (s .room);
         holds = s;

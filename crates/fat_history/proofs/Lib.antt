@@ -9,3 +9,4 @@ pub mod Places
 pub mod Apart
 pub mod Formats
 pub mod Entries
+pub mod InUse

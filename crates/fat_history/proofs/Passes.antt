@@ -6,8 +6,10 @@ use Prim.Native.Nat.{ℕ, _+_, _*_, _%_, _≤_, _<_}
 use native.Mathlib.Omega.{arith}
 use lib.ListN.{length}
 use Rattle.words.proofs.Laws as words
+use Rattle.order.specs.First.{Row}
 use Rattle.order.specs.Given.{None}
 use Rattle.order.specs.declared.Answer.{Answer}
+use Rattle.order.proofs.Gate.{later-past, past-later}
 use Rattle.fat_node.specs.Entry.{Bytes}
 use Rattle.fat_node.specs.Sizes.{blocks, Misfit, Outside}
 use Rattle.fat_node.proofs.Nodes.{le-or-lt}
@@ -15,7 +17,7 @@ use Rattle.links.proofs.Held.{same-or}
 use Rattle.fat_table.specs.Sound.{Sound}
 use Rattle.fat_table.proofs.Files.{Whole}
 use Rattle.fat_table.proofs.Decided.{sound-decided}
-use Rattle.fat_test.specs.Gate.{testGate, blockGate}
+use Rattle.fat_test.specs.Gate.{InUse, retired, Uneven, testGate, gateWith}
 use Rattle.words.specs.Word.{AreBytes}
 
 pub are-bytes : (t : Bytes) → AreBytes t → words.Bytes t
@@ -65,9 +67,9 @@ whole-of-fits t g f s = record { small = f .few; bytes = g; room = f .room; soun
 pub sound-stable : (t : Bytes) → words.Bytes t → Fits t → ((Sound t (blocks t) → ⊥) → ⊥) → Sound t (blocks t)
 sound-stable t g f h = ⊎-elim (λ s. s) (λ s. absurd (h s)) (sound-decided (blocks t) (f .few) t g (f .room))
 
--- no row of the gate applies, by name, and the reverse
-module _ {A : Type 0} (refuse : Answer → List ℕ → A) (t : Bytes) (d l : ℕ) (work : List ℕ) where
-  pub passed : words.Bytes t → None (blockGate refuse t d l work) → Passed t d l work
+-- no row of the gate applies, by name, and the reverse; more are its rows after soundness
+module _ {A : Type 0} (refuse : Answer → List ℕ → A) (t : Bytes) (d l : ℕ) (more : List (Row Answer)) (work : List ℕ) where
+  pub passed : words.Bytes t → None (gateWith refuse (Uneven t d l) t l more work) → Passed t d l work
   passed g (misfit, (invalid, (short, (unsound, _)))) =
       let f : Fits t = fits t (λ h. misfit (inl h)) (λ h. invalid (inl h)) in
       record {
@@ -78,15 +80,25 @@ module _ {A : Type 0} (refuse : Answer → List ℕ → A) (t : Bytes) (d l : �
         work-fits = not-less (length work) (blocks t) short;
       }
 
-  pub none-passed : Passed t d l work → None (blockGate refuse t d l work)
-  none-passed p =
+  pub passed-more : None (gateWith refuse (Uneven t d l) t l more work) → None more
+  passed-more (_, (_, (_, (_, n)))) = past-later refuse (blocks t) work more n
+
+  pub none-passed : Passed t d l work → None more → None (gateWith refuse (Uneven t d l) t l more work)
+  none-passed p n =
       let f : Fits t = record { room = p .whole .room; some = p .some; few = p .whole .small } in (
         λ h. ⊎-elim (fits-not-misfit t f) (λ k. k (p .data-fits)) h,
         (
           λ h. ⊎-elim (fits-not-outside t f) (λ k. ⊎-elim (λ m. omega (arith, m, p .length-fits .0)) (λ m. omega (arith, m, p .length-fits .1)) k) h,
-          (λ h. omega (arith, h, p .work-fits), (λ h. h (p .whole .sound), tt)),
+          (λ h. omega (arith, h, p .work-fits), (λ h. h (p .whole .sound), later-past refuse (blocks t) work more n)),
         ),
       )
+
+-- the row of the block length does not apply where that is in use, and only there
+pub used-none : (l : ℕ) → InUse l → None (retired l)
+used-none l u = ((λ n. n u), tt)
+
+pub none-used : (l : ℕ) → None (retired l) → InUse l
+none-used l n = ⊎-elim (λ a. inl a) (λ a. ⊎-elim (λ b. inr b) (λ b. absurd (n .0 (⊎-elim a b))) (same-or l 4096)) (same-or l 512)
 
 -- the same of the test's gate
 module _ {A : Type 0} (refuse : Answer → List ℕ → A) (t : Bytes) (work : List ℕ) where

@@ -16,6 +16,7 @@ use Rattle.fat_table.specs.Chain.{total, fileAt}
 use Rattle.fat_table.specs.Steps.{created, resized, deleted}
 use Rattle.fat_table.specs.Agree.{Agree}
 use Rattle.fat_table.proofs.Files.{Whole, whole-formatted, whole-created, whole-resized, whole-deleted}
+use Rattle.fat_test.specs.Gate.{retired}
 use Rattle.fat_test.specs.Promise.{TestPromise}
 use Rattle.fat_test.specs.declared.Tested.{Tested}
 use Rattle.fat_promises.specs.Promise.{Beside}
@@ -202,7 +203,7 @@ apart-read l b pos t d t′ d′ work work′ buf buf′ r r′ g a p done e k q
 
 module _ (l b : ℕ) (t d : Bytes) (work : List ℕ) (pos : ℕ) (buf : Bytes) (o : Beside Carry) (t′ d′ : Bytes) (g : AreBytes t)
     (p : WritePromise t d l work b pos buf o) (done : o .given .answer ≡ Done) (a : Away l b t (o .given .bytes) t′ d′) where
-  wrote : Went t (length d) l work (MayCarry (blocks t) t l b pos (length buf)) (writeDone (blocks t) t d l b pos buf) o
+  wrote : Went t (length d) l (retired l) work (MayCarry (blocks t) t l b pos (length buf)) (writeDone (blocks t) t d l b pos buf) o
   wrote = write-means t d l work b pos buf o (are-bytes t g) p done
 
   now-is : o .given .bytes ≡ written buf d l (blocksOf (fileAt (blocks t) t b)) pos

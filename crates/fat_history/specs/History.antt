@@ -1,5 +1,6 @@
 -- A history of the block layer: format, and then create, resize and delete, each answered Done. A step of it is the call's own promise, with its inputs and
--- what it gave. The inputs are numbers with no bound; those of a call that is answered Done are small by its rows, but for the length of its work list.
+-- what it gave. The inputs are numbers with no bound; those of a call that is answered Done are small by its rows, but for the length of its work list, and
+-- its block length is one in use (`run-in-use`).
 use mathlib.Core.Path.{_≡_}
 use mathlib.Core.List.{List}
 use Prim.Native.Nat.{ℕ, suc}

@@ -3,3 +3,4 @@ pub mod Away
 pub mod OneChain
 pub mod KeptBy
 pub mod Formats
+pub mod InUse
