@@ -27,7 +27,7 @@ use Rattle.fat_table.specs.Agree.{Agree}
 use Rattle.fat_table.proofs.Stepped.{holds-format}
 use Rattle.fat_table.proofs.Agreeing.{holds-agree}
 use Rattle.fat_table.proofs.Files.{bytes-formatted}
-use Rattle.fat_test.specs.Gate.{testGate}
+use Rattle.fat_test.specs.Gate.{InUse, testGate}
 use Rattle.fat_test.specs.Promise.{TestPromise}
 use Rattle.fat_test.specs.declared.Tested.{Tested}
 use Rattle.fat_history.specs.History as histories
@@ -71,7 +71,7 @@ module _ (t : Bytes) (g : AreBytes t) (F : Fits t) (s : Sound t (blocks t)) wher
   begins : (t₀ : Bytes) → AreBytes t₀ → length t₀ ≡ length t → Held n (formatted n t₀) (layout (run 0 n ∷ []) [])
   begins t₀ g₀ e = record { bytes = bytes-formatted n t₀ 0 0 (are-bytes t₀ g₀); holds = holds-format n (F .few) t₀ (F .some) (e ∙ F .room) }
 
-  remade : (l : ℕ) → (1 ≤ l) × (l ≤ 65536) → (t₀ t₁ : Bytes) (f : Formatted) → AreBytes t₀ → length t₀ ≡ length t → FormatPromise t₀ f t₁ → f .answer ≡ Done
+  remade : (l : ℕ) → InUse l → (t₀ t₁ : Bytes) (f : Formatted) → AreBytes t₀ → length t₀ ≡ length t → FormatPromise t₀ f t₁ → f .answer ≡ Done
       → Ends (history n t) l t₁ (Agree n t)
   remade l z t₀ t₁ f g₀ e p d =
       let v = format-means t₀ t₁ f p d in
@@ -142,14 +142,14 @@ retrace-means t work list o g (inr (a, inr (b, inr (_, inr (c, inr (_, p)))))) e
     (f, sound-stable t (are-bytes t g) f c, ap (λ (x : Beside Retrace). x .given) p)
 
 -- retraced: what retrace, answered Done, has written is a history h of at most 5 calls for every 2 nodes; run from any formatted table of that length, with
--- any block length, every call of it is answered Done, and the table that it ends in is equal to the given one in every entry that the rules read
+-- any block length in use, every call of it is answered Done, and the table that it ends in is equal to the given one in every entry that the rules read
 pub retraced : (t : Bytes) (work list : List ℕ) (o : Beside Retrace) → AreBytes t → RetracePromise t work list o → o .given .answer ≡ Done
     → (h : List Call)
     × (o .given .calls ≡ length h)
     × (o .given .list ≡ sets list 0 (encoded h))
     × (length h ≤ mostCalls (nodeCount t))
     × ((l : ℕ)
-    → (1 ≤ l) × (l ≤ 65536)
+    → InUse l
     → (t₀ t₁ : Bytes) (f : Formatted)
     → AreBytes t₀
     → length t₀ ≡ length t
