@@ -55,9 +55,9 @@ history-stands (deletes t v d l work b o p e) =
     let w = delete-means t d l work b o (i .0 .bytes) p e in
     next t (deleted (blocks t) t b) (o .given .table) (i .1) (whole-deleted (blocks t) t (i .0) b (w .may .file))
     (ap (λ (x : Beside Change). x .given .table) (w .is))
-history-stands (merges t v work o p e) =
+history-stands (merges t v l work o p e) =
     let i = history-stands v in
-    let w = merge-means t work o (i .0 .bytes) p e in
+    let w = merge-means t l work o (i .0 .bytes) p e in
     next t (merged (blocks t) t) (o .given .table) (i .1) (merge-whole (blocks t) t (i .0)) (ap (λ (x : Beside Change). x .given .table) (w .is))
 
 -- a table that agrees with a whole one is sound

@@ -20,7 +20,7 @@ use Rattle.fat_table.specs.Changes.{Kept}
 use Rattle.fat_table.proofs.Layouts.{hits-hi, covers-append, empties-append}
 use Rattle.fat_table.proofs.Files.{Whole, seen}
 use Rattle.fat_node.proofs.Nodes.{le-or-lt}
-use Rattle.fat_test.specs.Gate.{testGate}
+use Rattle.fat_test.specs.Gate.{InUse, testGate}
 use Rattle.fat_test.specs.Promise.{tested, testRefused, testDone, TestPromise}
 use Rattle.fat_test.specs.declared.Tested.{Tested}
 use Rattle.fat_promises.specs.Calls.{Change}
@@ -80,24 +80,24 @@ module _ (n : ℕ) (t t′ : Bytes) (w : Whole n t) (w′ : Whole n t′) (s : S
 
 -- merge, whatever it answers -----------------------------------------------------------------------------------------------------------------------------
 
-module _ (t : Bytes) (work : List ℕ) (o : Beside Change) (g : AreBytes t) (p : MergePromise t work o) where
+module _ (t : Bytes) (l : ℕ) (work : List ℕ) (o : Beside Change) (g : AreBytes t) (p : MergePromise t l work o) where
   abbrev n : ℕ
   n = blocks t
 
-  after : Went t work o → o .given .table ≡ merged n t
+  after : Went t l work o → o .given .table ≡ merged n t
   after w = ap (λ (x : Beside Change). x .given .table) (w .is)
 
   -- kept-merge: answered Done it leaves a sound table of the same length, and refused the table as it was
   pub kept-merge : KeptBy t (o .given .answer) (o .given .table)
   kept-merge = (
     λ e.
-        let w = merge-means t work o (are-bytes t g) p e in
+        let w = merge-means t l work o (are-bytes t g) p e in
         let v : Whole n (merged n t) = laws.merge-whole n t (w .whole) in
         subst⁻¹ (λ (x : Bytes). Sound x (blocks x) × (length x ≡ length t)) (after w)
         (as-blocks n (merged n t) v .sound, v .room ∙ sym (w .whole .room)),
     λ e.
         ⊎-elim (λ r. r .table) (λ w. absurd (e (ap (λ (x : Beside Change). x .given .answer) (w .is))))
-        (merge-cases t work o (are-bytes t g) p),
+        (merge-cases t l work o (are-bytes t g) p),
   )
 
   -- other-merge: every byte outside entry 0 and the entries of the new free nodes stays
@@ -105,13 +105,17 @@ module _ (t : Bytes) (work : List ℕ) (o : Beside Change) (g : AreBytes t) (p :
   other-merge =
       ⊎-elim (λ r i h k. ap (λ (x : Bytes). getD x i 0) (r .table))
       (λ w. subst⁻¹ (λ (x : Bytes). Kept (mergeEntries n t) t x) (after w) (laws.merged-kept n t (w .whole .bytes)))
-      (merge-cases t work o (are-bytes t g) p)
+      (merge-cases t l work o (are-bytes t g) p)
+
+  -- read-only-merge: with a block length that is not in use it leaves the table as it was
+  pub read-only-merge : (InUse l → ⊥) → o .given .table ≡ t
+  read-only-merge u = ⊎-elim (λ r. r .table) (λ w. absurd (u (w .used))) (merge-cases t l work o (are-bytes t g) p)
 
   -- merge answered Done ------------------------------------------------------------------------------------------------------------------------------------
 
   module _ (e : o .given .answer ≡ Done) where
-    went : Went t work o
-    went = merge-means t work o (are-bytes t g) p e
+    went : Went t l work o
+    went = merge-means t l work o (are-bytes t g) p e
 
     now-whole : Whole n (o .given .table)
     now-whole = subst⁻¹ (Whole n) (after went) (laws.merge-whole n t (went .whole))
@@ -180,8 +184,8 @@ module _ (t : Bytes) (work : List ℕ) (o : Beside Change) (g : AreBytes t) (p :
         (λ x. same-free n t t′ w w′ f x ∙ sym (laws.tidied-covers n (w .small) t (freeAt n t) (v .files) (v .holds) x)))
 
     -- again-merge: a second merge changes no byte
-    pub again-merge : (work′ : List ℕ) (o′ : Beside Change) → MergePromise (o .given .table) work′ o′ → o′ .given .table ≡ o .given .table
-    again-merge work′ o′ q =
+    pub again-merge : (l′ : ℕ) (work′ : List ℕ) (o′ : Beside Change) → MergePromise (o .given .table) l′ work′ o′ → o′ .given .table ≡ o .given .table
+    again-merge l′ work′ o′ q =
         ⊎-elim (λ r. r .table)
         (λ w.
         ap (λ (x : Beside Change). x .given .table) (w .is)
@@ -189,7 +193,7 @@ module _ (t : Bytes) (work : List ℕ) (o : Beside Change) (g : AreBytes t) (p :
         ∙ ap (merged n) (after went)
         ∙ laws.merge-again n t (went .whole)
         ∙ sym (after went))
-        (merge-cases (o .given .table) work′ o′ (now-whole .bytes) q)
+        (merge-cases (o .given .table) l′ work′ o′ (now-whole .bytes) q)
 
     -- within-merge: the table after it is reached, in the entries that the rules read, by at most 3 x k creates and deletes after format, k its nodes
     pub within-merge : ReachedWithin (3 * nodeCount (o .given .table)) (o .given .table)
@@ -216,7 +220,7 @@ module _ (n l b : ℕ) (t d : Bytes) (w : Whole n t) (i : File t n b) where
         ∙ s .bytes k h;
   }
 
-  merge-on : (t₁ d₁ : Bytes) → Still n l b t d t₁ d₁ → (work : List ℕ) (o : Beside Change) → MergePromise t₁ work o → Still n l b t d (o .given .table) d₁
+  merge-on : (t₁ d₁ : Bytes) → Still n l b t d t₁ d₁ → (work : List ℕ) (o : Beside Change) → MergePromise t₁ l work o → Still n l b t d (o .given .table) d₁
   merge-on t₁ d₁ s work o p =
       ⊎-elim (λ r. subst⁻¹ (λ (x : Bytes). Still n l b t d x d₁) (r .table) s)
       (λ v.
@@ -225,7 +229,7 @@ module _ (n l b : ℕ) (t d : Bytes) (w : Whole n t) (i : File t n b) where
       let f : SameFile n t₁ (merged n t₁) b = laws.merge-leaves n t₁ (s .whole) b (s .file) in
       subst⁻¹ (λ (x : Bytes). Still n l b t d x d₁) q
       (record { whole = laws.merge-whole n t₁ (s .whole); long = s .long; file = f .file; same = f .same ∙ s .same; bytes = s .bytes }))
-      (merge-cases t₁ work o (s .whole .bytes) p)
+      (merge-cases t₁ l work o (s .whole .bytes) p)
 
   still-calls : {t′ d′ : Bytes} → Calls l b t d t′ d′ → Still n l b t d t′ d′
   still-calls (away t′ d′ a) = still n l b t d w i a

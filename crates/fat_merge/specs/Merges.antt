@@ -21,7 +21,7 @@ pub record SameFiles (n : ℕ) (t t′ : Bytes) : Type 0 where
 -- calls as in Away, none of which is given the block b, and merges anywhere among them, whatever each answers
 pub data Calls (l b : ℕ) (t d : Bytes) : Bytes → Bytes → Type 0 where
   away : (t′ d′ : Bytes) → Away l b t d t′ d′ → Calls l b t d t′ d′
-  merges : (t₁ d₁ t′ d′ : Bytes) → Calls l b t d t₁ d₁ → (work : List ℕ) (o : Beside Change) → MergePromise t₁ work o
+  merges : (t₁ d₁ t′ d′ : Bytes) → Calls l b t d t₁ d₁ → (work : List ℕ) (o : Beside Change) → MergePromise t₁ l work o
       → Away l b (o .given .table) d₁ t′ d′
       → Calls l b t d t′ d′
 
@@ -38,6 +38,6 @@ pub data MergeHistory : Bytes → Type 0 where
   deletes : (t : Bytes) → MergeHistory t → (d l : ℕ) (work : List ℕ) (b : ℕ) (o : Beside Change) → DeletePromise t d l work b o
       → o .given .answer ≡ Done
       → MergeHistory (o .given .table)
-  merges : (t : Bytes) → MergeHistory t → (work : List ℕ) (o : Beside Change) → MergePromise t work o
+  merges : (t : Bytes) → MergeHistory t → (l : ℕ) (work : List ℕ) (o : Beside Change) → MergePromise t l work o
       → o .given .answer ≡ Done
       → MergeHistory (o .given .table)

@@ -8,11 +8,12 @@ ghost use Rattle.order.specs.Beside.{beside};
 ghost use Rattle.fat_promises.specs.Calls.{changeGives};
 ghost use Rattle.fat_inner.specs.Volume.{Volume};
 ghost use Rattle.fat_merge.specs.Merge.{merged};
-ghost use Rattle.fat_merge.specs.Promise.{MergePromise};
+ghost use Rattle.fat_merge.specs.Promise.{MergeSound, MergePromise};
 ghost use Rattle.fat_merge.specs.inner.Sweep.{marks, Ahead, Here, Reading, Skipped, PassedOver, LaidFrom, IndexIs};
 use fat_inner::step::Answered;
 use fat_inner::walk::head_of;
 use fat_node::Node;
+use fat_test::Gated;
 use order::Answer;
 
 // Marks the first block of every free node, along the free chain.
@@ -115,18 +116,36 @@ pub fn merge_sound(table: &mut [u8], n: usize, work: &mut [u32])
 }
 
 // Merges free neighbours: the free chain becomes the longest stretches of free blocks, in rising order, so that no two of its nodes touch. Every file stays.
-// Answers its number alone; refuses what the test of the table refuses.
-pub fn merge(table: &mut [u8], work: &mut [u32]) -> Answered
-    ensures { λ r. ⌜ MergePromise (now (table .entry)) (now (work .entry)) (beside (changeGives (r .answer) (now (table .exit))) (now (work .exit))) ⌝ }
+// Answers its number alone; refuses what the test of the table refuses, a block length out of its bounds with the sizes, and one that is not in use last.
+pub fn merge(table: &mut [u8], block_len: usize, work: &mut [u32]) -> Answered
+    ensures { λ r. ⌜ MergePromise (now (table .entry)) «block_len» (now (work .entry)) (beside (changeGives (r .answer) (now (table .exit))) (now (work .exit))) ⌝ }
 {
-    let tested = fat_test::test(table, work);
-    let answer = tested.answer;
-    if order::number(answer) != 0 {
-        return Answered { answer };
+    let gated = fat_test::table_gate(table, block_len, work);
+    match gated {
+        Gated::Refused { answer } => Answered { answer },
+        Gated::Open { free: _, files: _ } => {
+            let n = fat_node::blocks(table);
+            merge_sound(table, n, &mut work[..n]);
+            Answered {
+                answer: Answer::Done,
+            }
+        }
     }
-    let n = fat_node::blocks(table);
-    merge_sound(table, n, &mut work[..n]);
+}
+
+// The same for a side that has tested its table once and keeps it sound: tests nothing but the block length.
+pub fn tested_merge(table: &mut [u8], n: usize, block_len: usize, work: &mut [u32]) -> Answered
+    requires { ⌜ Volume n (now table) ⌝ }
+    requires { ⌜ now work ≡ replicate n 0 ⌝ }
+    ensures { λ r. ⌜ MergeSound n (now (table .entry)) «block_len» (changeGives (r .answer) (now (table .exit))) × (now (work .exit) ≡ replicate n 0) ⌝ }
+{
+    if fat_test::in_use(block_len) {
+        merge_sound(table, n, work);
+        return Answered {
+            answer: Answer::Done,
+        };
+    }
     Answered {
-        answer: Answer::Done,
+        answer: Answer::ReadOnlyVolume,
     }
 }
