@@ -22,7 +22,7 @@ use Rattle.fat_test.specs.Gate.{testGate}
 use Rattle.fat_test.specs.Promise.{testRefused, testDone, TestPromise}
 use Rattle.fat_test.specs.declared.Tested.{Tested}
 use Rattle.order.specs.Beside.{beside}
-use Rattle.fat_promises.specs.Promise.{Promise}
+use Rattle.fat_promises.specs.Promise.{Promise, ChangePromise}
 use Rattle.fat_promises.specs.Calls.{
   Create,
   createGives,
@@ -73,7 +73,7 @@ use Rattle.checks.specs.Blocks.{
   read1,
   fourBlocks,
 }
-use Rattle.checks.proofs.Passes.{none-first, Sole, sole, SoleGiven, settles, test-passes}
+use Rattle.checks.proofs.Passes.{none-first, Sole, sole, SoleGiven, settles, changes, test-passes}
 use Rattle.checks.proofs.Then.{then}
 use Rattle.checks.proofs.Formats.{sees4, shows-format}
 use Rattle.checks.proofs.History.{
@@ -108,12 +108,16 @@ module _ (t : Bytes) (w : Whole 4 t) where
       → SoleGiven (Promise refuse t 2048 512 work4 (own (blocks t)) (done (blocks t))) x
   settled refuse = settles 4 (omega arith) t w work4 (omega arith) refuse 2048 512 refl (omega arith) (omega arith)
 
+  changed : {A : Type 0} (refuse : Answer → A) (own : ℕ → List (Row A)) (done : ℕ → A) (x : A) → First (own 4) (done 4) x
+      → SoleGiven (ChangePromise refuse t 2048 512 work4 (own (blocks t)) (done (blocks t))) x
+  changed refuse = changes 4 (omega arith) t w work4 (omega arith) refuse 2048 512 refl (omega arith) (omega arith) (inl refl)
+
   module _ (c : ℕ) (wanted : List ℕ) (cs : List (Check Bytes)) where
     shows-create : (c ≡ 0 → ⊥) → c ≤ total (freeAt 4 t) → creates c wanted .seen (beside (createDone 4 t c) work4) ≡ wanted
         → Shows cs (created 4 t c) → Shows (creates c wanted ∷ cs) t
     shows-create some enough sees rest =
         let q : SoleGiven (CreatePromise t 2048 512 work4 c) (createDone 4 t c) =
-        settled (λ a. createGives a 0 t) (λ n. createRows n t c) (λ n. createDone n t c) (createDone 4 t c)
+        changed (λ a. createGives a 0 t) (λ n. createRows n t c) (λ n. createDone n t c) (createDone 4 t c)
         (none-first (createRows 4 t c) (createDone 4 t c) (some, (λ h. omega (arith, enough, h), tt))) in
         then (creates c wanted) cs t (created 4 t c) (q .0)
         (λ o p. (
@@ -125,7 +129,7 @@ module _ (t : Bytes) (w : Whole 4 t) where
     shows-delete : deletes b wanted .seen (beside (deleteDone 4 t b) work4) ≡ wanted → Shows cs (deleted 4 t b) → Shows (deletes b wanted ∷ cs) t
     shows-delete sees rest =
         let q : SoleGiven (DeletePromise t 2048 512 work4 b) (deleteDone 4 t b) =
-        settled (λ a. changeGives a t) (λ n. deleteRows n t b) (λ n. deleteDone n t b) (deleteDone 4 t b)
+        changed (λ a. changeGives a t) (λ n. deleteRows n t b) (λ n. deleteDone n t b) (deleteDone 4 t b)
         (none-first (deleteRows 4 t b) (deleteDone 4 t b) (λ h. h file, tt)) in
         then (deletes b wanted) cs t (deleted 4 t b) (q .0)
         (λ o p. (
@@ -138,7 +142,7 @@ module _ (t : Bytes) (w : Whole 4 t) where
         → Shows cs (x .table) → Shows (resizes b c wanted ∷ cs) t
     shows-resize c x f sees rest =
         let q : SoleGiven (ResizePromise t 2048 512 work4 b c) x =
-        settled (λ a. changeGives a t) (λ n. resizeRows n t b c) (λ n. resizeDone n t b c) x f in
+        changed (λ a. changeGives a t) (λ n. resizeRows n t b c) (λ n. resizeDone n t b c) x f in
         then (resizes b c wanted) cs t (x .table) (q .0)
         (λ o p. (
           ap (λ (x : Change). resizes b c wanted .seen (beside x work4)) (q .1 o p) ∙ sees,

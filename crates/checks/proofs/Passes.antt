@@ -12,15 +12,16 @@ use Rattle.order.specs.declared.Answer.{Answer}
 use Rattle.order.specs.declared.Answer.the-variants.{InvalidValue}
 use Rattle.order.proofs.One.{one, refused}
 use Rattle.order.proofs.Beside.{passed}
+use Rattle.order.proofs.Gate.{later-past}
 use Rattle.fat_node.specs.Entry.{Bytes}
 use Rattle.fat_node.specs.Sizes.{blocks, Misfit, Outside}
 use Rattle.fat_table.specs.Sound.{Sound}
 use Rattle.fat_table.proofs.Files.{Whole}
-use Rattle.fat_test.specs.Gate.{blockGate, testGate}
+use Rattle.fat_test.specs.Gate.{InUse, retired, Uneven, gateWith, blockGate, changeGate, testGate}
 use Rattle.fat_test.specs.Promise.{testRefused, testDone, TestPromise}
 use Rattle.fat_test.specs.declared.Tested.{Tested}
 use Rattle.order.specs.Beside.{Beside, beside, within, Promised}
-use Rattle.fat_promises.specs.Promise.{Promise}
+use Rattle.fat_promises.specs.Promise.{Promise, ChangePromise}
 
 -- where no front row applies, the rows after them decide
 past : {A : Type 0} (rs qs : List (Row A)) (d o : A) → None rs → First (rs ++ qs) d o → First qs d o
@@ -86,29 +87,46 @@ module _ (n : ℕ) (some : 1 ≤ n) (t : Bytes) (w : Whole n t) (work : List ℕ
   test-passes refuse = (fits, (inside, (λ h. omega (arith, blocks-of, room, h), (λ h. h sound, tt))))
 
   module _ {A : Type 0} (refuse : Answer → A) (d l : ℕ) (fit : d ≡ n * l) (l1 : 1 ≤ l) (l2 : l ≤ 65536) where
-    call-passes : None (blockGate (λ a w. beside (refuse a) w) t d l work)
-    call-passes = (
+    call-passes : (more : List (Row Answer)) → None more → None (gateWith (λ a w. beside (refuse a) w) (Uneven t d l) t l more work)
+    call-passes more p = (
       λ m. ⊎-elim fits (λ h. h (fit ∙ ap (λ (i : ℕ). i * l) (sym blocks-of))) m,
       (
         λ m. ⊎-elim inside (λ k. ⊎-elim (λ h. omega (arith, l1, h)) (λ h. omega (arith, l2, h)) k) m,
-        (λ h. omega (arith, blocks-of, room, h), (λ h. h sound, tt)),
+        (λ h. omega (arith, blocks-of, room, h), (λ h. h sound, later-past (λ a w. beside (refuse a) w) (blocks t) work more p)),
       ),
     )
 
+    -- of a call that changes nothing
     pub settles : (own : ℕ → List (Row A)) (done : ℕ → A) (x : A) → First (own n) (done n) x
         → SoleGiven (Promise refuse t d l work (own (blocks t)) (done (blocks t))) x
     unfolding Promise
     settles own done x f =
-        sole-given (blockGate (λ a w. beside (refuse a) w) t d l work) (cleared (blocks t) work) (own (blocks t)) (done (blocks t)) x call-passes
+        sole-given (blockGate (λ a w. beside (refuse a) w) t d l work) (cleared (blocks t) work) (own (blocks t)) (done (blocks t)) x (call-passes [] tt)
+        (subst (λ (i : ℕ). First (own i) (done i) x) (sym blocks-of) f)
+
+    -- of one that changes the table or the data, with a block length in use
+    pub changes : InUse l → (own : ℕ → List (Row A)) (done : ℕ → A) (x : A) → First (own n) (done n) x
+        → SoleGiven (ChangePromise refuse t d l work (own (blocks t)) (done (blocks t))) x
+    unfolding ChangePromise
+    changes u own done x f =
+        sole-given (changeGate (λ a w. beside (refuse a) w) t d l work) (cleared (blocks t) work) (own (blocks t)) (done (blocks t)) x
+        (call-passes (retired l) ((λ n. n u), tt))
         (subst (λ (i : ℕ). First (own i) (done i) x) (sym blocks-of) f)
 
 -- beside the list: on a table of more than a million blocks every call on files, its data being as long, is refused with InvalidValue and leaves all as it was
-pub call-many : {A : Type 0} (refuse : Answer → A) (t : Bytes) (d l : ℕ) (work : List ℕ) (own : List (Row A)) (done : A) → (Misfit t → ⊥) → d ≡ blocks t * l
-    → 1000000 < blocks t → (o : Beside A) → Promise refuse t d l work own done o → o ≡ beside (refuse InvalidValue) work
-unfolding Promise
-call-many refuse t d l work own done fit even many o p =
-    refused (blockGate (λ a w. beside (refuse a) w) t d l work ++ within (cleared (blocks t) work) own) (beside done (cleared (blocks t) work)) o
-    (beside (refuse InvalidValue) work) (inr ((λ m. ⊎-elim fit (λ h. h even) m), inl (inl (inr many), refl))) p
+module _ {A : Type 0} (refuse : Answer → A) (t : Bytes) (d l : ℕ) (work : List ℕ) (own : List (Row A)) (done : A) (fit : Misfit t → ⊥) (even : d ≡ blocks t * l)
+    (many : 1000000 < blocks t) (o : Beside A) where
+  pub call-many : Promise refuse t d l work own done o → o ≡ beside (refuse InvalidValue) work
+  unfolding Promise
+  call-many p =
+      refused (blockGate (λ a w. beside (refuse a) w) t d l work ++ within (cleared (blocks t) work) own) (beside done (cleared (blocks t) work)) o
+      (beside (refuse InvalidValue) work) (inr ((λ m. ⊎-elim fit (λ h. h even) m), inl (inl (inr many), refl))) p
+
+  pub change-many : ChangePromise refuse t d l work own done o → o ≡ beside (refuse InvalidValue) work
+  unfolding ChangePromise
+  change-many p =
+      refused (changeGate (λ a w. beside (refuse a) w) t d l work ++ within (cleared (blocks t) work) own) (beside done (cleared (blocks t) work)) o
+      (beside (refuse InvalidValue) work) (inr ((λ m. ⊎-elim fit (λ h. h even) m), inl (inl (inr many), refl))) p
 
 -- and so is the test, with no counts
 pub test-many : (t : Bytes) (work : List ℕ) → (Misfit t → ⊥) → 1000000 < blocks t → (o : Tested × List ℕ) → TestPromise t work o

@@ -14,6 +14,7 @@ use Rattle.fat_node.specs.Entry.{Bytes}
 use Rattle.fat_node.specs.Sizes as block
 use Rattle.fat_table.specs.Sound as block-table
 use Rattle.fat_test.specs.Gate.{unsound}
+pub use Rattle.fat_test.specs.Gate.{Uneven, Unfit}
 use Rattle.tree_sound.specs.Tables.{Tables, MisfitIn, OutsideIn, roomsIn, SoundIn}
 use Rattle.volume_gate.specs.declared.Gated.{Gated}
 use Rattle.volume_gate.specs.declared.Gated.the-variants.{Open, Refused}
@@ -22,18 +23,11 @@ use Rattle.volume_gate.specs.declared.Gated.the-variants.{Open, Refused}
 abbrev pub places : (t : Bytes) (s : Tables) → ℕ
 places t s = block.blocks t + roomsIn s
 
--- row 1 and row 2 speak of both layers
-abbrev pub Uneven : (t : Bytes) (d l : ℕ) → Type 0
-Uneven t d l = block.Misfit t ⊎ (d ≡ block.blocks t * l → ⊥)
-
-abbrev pub Unfit : (t : Bytes) (l : ℕ) → Type 0
-Unfit t l = block.Outside t ⊎ (l < 1) ⊎ (65536 < l)
-
 -- soundness: 4, then 9
 abbrev pub brokenRows : (t : Bytes) (s : Tables) → List (Row Answer)
 brokenRows t s = unsound t ++ (row (SoundIn s → ⊥) BrokenTree ∷ [])
 
--- the gate; refuse a w is what the call gives with the answer a and the work list w
+-- the gate, whose rows 1 and 2 speak of both layers; refuse a w is what the call gives with the answer a and the work list w
 abbrev pub volumeGate : {A : Type 0} (refuse : Answer → List ℕ → A) (t : Bytes) (d l : ℕ) (s : Tables) (work : List ℕ) → List (Row A)
 volumeGate refuse t d l s work =
     gate refuse (Uneven t d l ⊎ MisfitIn s) (Unfit t l ⊎ OutsideIn s) (length work < places t s) (brokenRows t s) (places t s) work
