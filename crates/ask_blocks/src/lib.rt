@@ -131,7 +131,7 @@ fn call(
         }
         8..=9 => listed(which, data, block_len, list, buf, count),
         10 => {
-            let r = fat_merge::merge(table, work);
+            let r = fat_merge::merge(table, block_len, work);
             let answer = r.answer;
             says(answer, 0, 0)
         }

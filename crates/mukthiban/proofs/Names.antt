@@ -45,6 +45,11 @@ module _ {misfit outside other short unsound dead : Type 0} (k at : ℕ) (work w
   with-place (inr (m, inr (i, inr (s, inr (u, inr (d, p)))))) =
       inr (m, inr (⊎-elim i no, inr (s, inr (u, inr (d, ap (λ (o : Beside Answer). beside (naming at (o .given)) (o .work)) p)))))
 
+-- the number 0 goes with the place
+pub place-some : (n m at : ℕ) → m ≡ n → m ≡ 0 → (m ≡ n) × (at ≡ placed n at)
+place-some zero m at e z = (e, refl)
+place-some (suc n) m at e z = let w : ⊥ = omega (arith, e, z) in absurd w
+
 -- a number that is not 0 goes with no place
 pub place-none : (n m at : ℕ) → m ≡ n → (m ≡ 0 → ⊥) → (m ≡ n) × (0 ≡ placed n at)
 place-none zero m at e z = absurd (z e)

@@ -27,6 +27,7 @@ use Rattle.order.specs.declared.Answer.the-variants.{
   IntoItself,
   NotOpen,
   TooManyOpens,
+  ReadOnlyVolume,
 }
 use Rattle.order.proofs.One.{one}
 use Rattle.fat_node.specs.Entry.{Bytes}
@@ -53,7 +54,7 @@ use Rattle.tree_promises.proofs.Unique.{One}
 use Rattle.mukthiban.specs.Export.{Exported, Located}
 use Rattle.mukthiban.specs.Name.{namedGives, nameRows, nameDone, NamePromise}
 
--- the answers by their numbers, BrokenFat with what it says
+-- the answers by their numbers, BrokenFat with what it says; 18 and 19 are no call's, and stand for Done here
 abbrev answers : Fault → List Answer
 answers f =
     Done
@@ -74,6 +75,9 @@ answers f =
     ∷ IntoItself
     ∷ NotOpen
     ∷ TooManyOpens
+    ∷ Done
+    ∷ Done
+    ∷ ReadOnlyVolume
     ∷ []
 
 answer-of : (a : Answer) → getD (answers (faultIn a)) (numberOf a) Done ≡ a
@@ -95,6 +99,7 @@ answer-of NotEmpty = refl
 answer-of IntoItself = refl
 answer-of NotOpen = refl
 answer-of TooManyOpens = refl
+answer-of ReadOnlyVolume = refl
 
 -- a number, with entry and rule, tells which answer it stands for
 pub told-apart : (a b : Answer) → numberOf a ≡ numberOf b → faultIn a ≡ faultIn b → a ≡ b

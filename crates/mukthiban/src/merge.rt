@@ -4,15 +4,19 @@ ghost use lib.ListN.{replicate};
 ghost use Rattle.fat_promises.specs.Promise.{beside};
 ghost use Rattle.fat_promises.specs.Calls.{changeGives};
 ghost use Rattle.fat_inner.specs.Volume.{Volume};
-ghost use Rattle.fat_merge.specs.Promise.{mergeDone, MergePromise};
+ghost use Rattle.fat_merge.specs.Promise.{MergeSound, MergePromise};
 ghost use Rattle.mukthiban.specs.Export.{Located};
 use crate::Answered;
 
 #[no_mangle]
-pub extern "C" fn mukthiban_fat_merge(table: &mut [u8], work: &mut [u32]) -> Answered
-    ensures { λ p. ⌜ Located (p .answer) (p .entry) (p .rule) (λ a. MergePromise (now (table .entry)) (now (work .entry)) (beside (changeGives a (now (table .exit))) (now (work .exit)))) ⌝ }
+pub extern "C" fn mukthiban_fat_merge(
+    table: &mut [u8],
+    block_len: usize,
+    work: &mut [u32],
+) -> Answered
+    ensures { λ p. ⌜ Located (p .answer) (p .entry) (p .rule) (λ a. MergePromise (now (table .entry)) «block_len» (now (work .entry)) (beside (changeGives a (now (table .exit))) (now (work .exit)))) ⌝ }
 {
-    let r = fat_merge::merge(table, work);
+    let r = fat_merge::merge(table, block_len, work);
     let answer = r.answer;
     let found = order::broken_at(answer);
     Answered {
@@ -26,16 +30,19 @@ pub extern "C" fn mukthiban_fat_merge(table: &mut [u8], work: &mut [u32]) -> Ans
 pub extern "C" fn mukthiban_tested_fat_merge(
     table: &mut [u8],
     n: usize,
+    block_len: usize,
     work: &mut [u32],
 ) -> Answered
     requires { ⌜ Volume n (now table) ⌝ }
     requires { ⌜ now work ≡ replicate n 0 ⌝ }
-    ensures { λ p. ⌜ Located (p .answer) (p .entry) (p .rule) (λ a. changeGives a (now (table .exit)) ≡ mergeDone n (now (table .entry))) × (now (work .exit) ≡ replicate n 0) ⌝ }
+    ensures { λ p. ⌜ Located (p .answer) (p .entry) (p .rule) (λ a. MergeSound n (now (table .entry)) «block_len» (changeGives a (now (table .exit)))) × (now (work .exit) ≡ replicate n 0) ⌝ }
 {
-    fat_merge::merge_sound(table, n, work);
+    let r = fat_merge::tested_merge(table, n, block_len, work);
+    let answer = r.answer;
+    let found = order::broken_at(answer);
     Answered {
-        answer: 0,
-        entry: 0,
-        rule: 0,
+        answer: order::number(answer),
+        entry: found.entry,
+        rule: found.rule,
     }
 }

@@ -1,7 +1,9 @@
-// The inner calls on the block table, for a side that has tested its table once and keeps it sound. Each requires what the test tells, and tests nothing.
+// The inner calls on the block table, for a side that has tested its table once and keeps it sound. Each requires what the test tells, and
+// tests nothing but, where it changes something, that the block length is in use.
 ghost use lib.ListN.{length};
 ghost use Rattle.order.specs.First.{First};
 ghost use Rattle.fat_inner.specs.Volume.{Volume, Data};
+ghost use Rattle.fat_promises.specs.Promise.{changeRows};
 ghost use Rattle.fat_promises.specs.Calls.{createRows, createDone, createGives, resizeRows, resizeDone, deleteRows, deleteDone, changeGives, listRows, listDone, listGives, carryRows, readDone, writeDone, carryGives};
 ghost use Rattle.mukthiban.specs.Export.{Located};
 use crate::Answered;
@@ -12,12 +14,13 @@ use crate::Opened;
 pub extern "C" fn mukthiban_tested_fat_create(
     table: &mut [u8],
     n: usize,
+    block_len: usize,
     block_count: usize,
 ) -> Created
     requires { ⌜ Volume n (now table) ⌝ }
-    ensures { λ p. ⌜ Located (p .answer) (p .entry) (p .rule) (λ a. First (createRows n (now (table .entry)) «block_count») (createDone n (now (table .entry)) «block_count») (createGives a (p .«first_block») (now (table .exit)))) ⌝ }
+    ensures { λ p. ⌜ Located (p .answer) (p .entry) (p .rule) (λ a. First (changeRows (λ a. createGives a 0 (now (table .entry))) «block_len» (createRows n (now (table .entry)) «block_count»)) (createDone n (now (table .entry)) «block_count») (createGives a (p .«first_block») (now (table .exit)))) ⌝ }
 {
-    let r = fat_inner::step::create_sound(table, n, block_count);
+    let r = fat::tested::tested_create(table, n, block_len, block_count);
     let answer = r.answer;
     let found = order::broken_at(answer);
     Created {
@@ -32,13 +35,14 @@ pub extern "C" fn mukthiban_tested_fat_create(
 pub extern "C" fn mukthiban_tested_fat_resize(
     table: &mut [u8],
     n: usize,
+    block_len: usize,
     first_block: usize,
     block_count: usize,
 ) -> Answered
     requires { ⌜ Volume n (now table) ⌝ }
-    ensures { λ p. ⌜ Located (p .answer) (p .entry) (p .rule) (λ a. First (resizeRows n (now (table .entry)) «first_block» «block_count») (resizeDone n (now (table .entry)) «first_block» «block_count») (changeGives a (now (table .exit)))) ⌝ }
+    ensures { λ p. ⌜ Located (p .answer) (p .entry) (p .rule) (λ a. First (changeRows (λ a. changeGives a (now (table .entry))) «block_len» (resizeRows n (now (table .entry)) «first_block» «block_count»)) (resizeDone n (now (table .entry)) «first_block» «block_count») (changeGives a (now (table .exit)))) ⌝ }
 {
-    let r = fat_inner::step::resize_sound(table, n, first_block, block_count);
+    let r = fat::tested::tested_resize(table, n, block_len, first_block, block_count);
     let answer = r.answer;
     let found = order::broken_at(answer);
     Answered {
@@ -52,12 +56,13 @@ pub extern "C" fn mukthiban_tested_fat_resize(
 pub extern "C" fn mukthiban_tested_fat_delete(
     table: &mut [u8],
     n: usize,
+    block_len: usize,
     first_block: usize,
 ) -> Answered
     requires { ⌜ Volume n (now table) ⌝ }
-    ensures { λ p. ⌜ Located (p .answer) (p .entry) (p .rule) (λ a. First (deleteRows n (now (table .entry)) «first_block») (deleteDone n (now (table .entry)) «first_block») (changeGives a (now (table .exit)))) ⌝ }
+    ensures { λ p. ⌜ Located (p .answer) (p .entry) (p .rule) (λ a. First (changeRows (λ a. changeGives a (now (table .entry))) «block_len» (deleteRows n (now (table .entry)) «first_block»)) (deleteDone n (now (table .entry)) «first_block») (changeGives a (now (table .exit)))) ⌝ }
 {
-    let r = fat_inner::step::delete_sound(table, n, first_block);
+    let r = fat::tested::tested_delete(table, n, block_len, first_block);
     let answer = r.answer;
     let found = order::broken_at(answer);
     Answered {
@@ -124,9 +129,9 @@ pub extern "C" fn mukthiban_tested_fat_write(
 ) -> Answered
     requires { ⌜ Volume n (now table) ⌝ }
     requires { ⌜ Data n (length (now «data»)) «block_len» ⌝ }
-    ensures { λ p. ⌜ Located (p .answer) (p .entry) (p .rule) (λ a. First (carryRows n (now (table .entry)) «block_len» «first_block» pos (length (now (buf .entry))) (now («data» .entry))) (writeDone n (now (table .entry)) (now («data» .entry)) «block_len» «first_block» pos (now (buf .entry))) (carryGives a (now («data» .exit)))) ⌝ }
+    ensures { λ p. ⌜ Located (p .answer) (p .entry) (p .rule) (λ a. First (changeRows (λ a. carryGives a (now («data» .entry))) «block_len» (carryRows n (now (table .entry)) «block_len» «first_block» pos (length (now (buf .entry))) (now («data» .entry)))) (writeDone n (now (table .entry)) (now («data» .entry)) «block_len» «first_block» pos (now (buf .entry))) (carryGives a (now («data» .exit)))) ⌝ }
 {
-    let r = fat_inner::copy::write_sound(table, data, block_len, n, first_block, pos, buf);
+    let r = fat::tested::tested_write(table, n, data, block_len, first_block, pos, buf);
     let answer = r.answer;
     let found = order::broken_at(answer);
     Answered {

@@ -34,6 +34,7 @@ fn name(number: u32) {
         15 => spell(b"IntoItself"),
         16 => spell(b"NotOpen"),
         17 => spell(b"TooManyOpens"),
+        20 => spell(b"ReadOnlyVolume"),
         _ => spell(b"of no call"),
     }
 }
