@@ -25,7 +25,9 @@
  * Names of parameters:
  *  table        the block table; n = table_len / 8 - 1 blocks, 1 to 1,000,000
  *  data         the blocks' bytes; data_len = n * block_len
- *  block_len    bytes in a block, 1 to 65,536
+ *  block_len    bytes in a block, 1 to 65,536. 512 and 4,096 are in use; with any
+ *               other a volume can be read, and every call that would change
+ *               its table or data answers 20
  *  work         room for the call's own use: n places for block calls; for tree
  *               calls the two rooms added (room: table length / entry width)
  *  first_block  a file's first block (a block number, from 0)
@@ -68,27 +70,28 @@ mukthiban_opened mukthiban_fat_open_list(const uint8_t *table, size_t table_len,
                                          size_t first_block,
                                          uint32_t *list, size_t list_len);
 
-/* Makes a file of block_count blocks from the front of the free chain. Answers 1, 2, 3, 4, 2 (count 0), 6. */
+/* Makes a file of block_count blocks from the front of the free chain. Answers 1, 2, 3, 4, 20, 2 (count 0), 6. */
 mukthiban_created mukthiban_fat_create(uint8_t *table, size_t table_len,
                                        const uint8_t *data, size_t data_len, size_t block_len,
                                        uint32_t *work, size_t work_len,
                                        size_t block_count);
 
-/* Grows or shrinks a file to block_count blocks; its first block stays. Answers 1, 2, 3, 4, 5, 2 (count 0), 6. */
+/* Grows or shrinks a file to block_count blocks; its first block stays. Answers 1, 2, 3, 4, 20, 5, 2 (count 0), 6. */
 mukthiban_answered mukthiban_fat_resize(uint8_t *table, size_t table_len,
                                         const uint8_t *data, size_t data_len, size_t block_len,
                                         uint32_t *work, size_t work_len,
                                         size_t first_block, size_t block_count);
 
-/* Gives a whole file back to the front of the free chain. Answers 1, 2, 3, 4, 5. */
+/* Gives a whole file back to the front of the free chain. Answers 1, 2, 3, 4, 20, 5. */
 mukthiban_answered mukthiban_fat_delete(uint8_t *table, size_t table_len,
                                         const uint8_t *data, size_t data_len, size_t block_len,
                                         uint32_t *work, size_t work_len,
                                         size_t first_block);
 
 /* Merges free neighbours: the free chain becomes the longest stretches of free blocks, rising, so that no two of its nodes
- * touch. Every file and the number of free blocks stay, and a second call changes nothing. Takes no data. Answers 1, 2, 3, 4. */
-mukthiban_answered mukthiban_fat_merge(uint8_t *table, size_t table_len,
+ * touch. Every file and the number of free blocks stay, and a second call changes nothing. Takes no data. Answers 1, 2, 3, 4,
+ * 20. */
+mukthiban_answered mukthiban_fat_merge(uint8_t *table, size_t table_len, size_t block_len,
                                        uint32_t *work, size_t work_len);
 
 /* Reads buf_len bytes of the file from position pos into buf. Answers 1, 2, 3, 4, 5, 7. */
@@ -98,7 +101,7 @@ mukthiban_answered mukthiban_fat_read(const uint8_t *table, size_t table_len,
                                       size_t first_block, size_t pos,
                                       uint8_t *buf, size_t buf_len);
 
-/* Writes buf's bytes to the file from position pos on. Answers 1, 2, 3, 4, 5, 7. */
+/* Writes buf's bytes to the file from position pos on. Answers 1, 2, 3, 4, 20, 5, 7. */
 mukthiban_answered mukthiban_fat_write(const uint8_t *table, size_t table_len,
                                        uint8_t *data, size_t data_len, size_t block_len,
                                        uint32_t *work, size_t work_len,
@@ -114,7 +117,7 @@ mukthiban_plain mukthiban_fat_read_blocks(const uint8_t *data, size_t data_len, 
                                           uint8_t *buf, size_t buf_len);
 
 /* Writes buf's bytes from position pos on into what a block list names, byte after byte: where the list names a block
- * twice, the later byte stays. Answers as mukthiban_fat_read_blocks. */
+ * twice, the later byte stays. Answers 1, 2, 20, then as mukthiban_fat_read_blocks. */
 mukthiban_plain mukthiban_fat_write_blocks(uint8_t *data, size_t data_len, size_t block_len,
                                            const uint32_t *list, size_t list_len, size_t pos,
                                            const uint8_t *buf, size_t buf_len);

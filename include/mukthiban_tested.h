@@ -1,6 +1,7 @@
 /* The inner calls of Mukthiban: for a program that has tested its tables once
- * and changes them by these calls alone. They test nothing, and so cost what
- * they touch and not a test of the whole table.
+ * and changes them by these calls alone. They test nothing of the tables, and
+ * so cost what they touch and not a test of the whole table. Those that change
+ * blocks look at the block length, and answer 20 where it is not in use.
  *
  * DANGER: unlike the calls of mukthiban.h they may NOT be handed any bytes.
  * Each is proved for what stands under Requires and for nothing else; on other
@@ -37,22 +38,24 @@ mukthiban_opened mukthiban_tested_fat_open_list(const uint8_t *table, size_t tab
                                                 size_t first_block,
                                                 uint32_t *list, size_t list_len);
 
-/* Makes a file of block_count blocks. Answers 2 (count 0), 6.
+/* Makes a file of block_count blocks. Answers 20, 2 (count 0), 6.
  * Requires: a sound table of n blocks. */
-mukthiban_created mukthiban_tested_fat_create(uint8_t *table, size_t table_len, size_t n, size_t block_count);
+mukthiban_created mukthiban_tested_fat_create(uint8_t *table, size_t table_len, size_t n, size_t block_len,
+                                              size_t block_count);
 
-/* Grows or shrinks a file to block_count blocks. Answers 5, 2 (count 0), 6.
+/* Grows or shrinks a file to block_count blocks. Answers 20, 5, 2 (count 0), 6.
  * Requires: a sound table of n blocks. */
-mukthiban_answered mukthiban_tested_fat_resize(uint8_t *table, size_t table_len, size_t n, size_t first_block,
-                                               size_t block_count);
+mukthiban_answered mukthiban_tested_fat_resize(uint8_t *table, size_t table_len, size_t n, size_t block_len,
+                                               size_t first_block, size_t block_count);
 
-/* Gives a whole file back. Answers 5.
+/* Gives a whole file back. Answers 20, 5.
  * Requires: a sound table of n blocks. */
-mukthiban_answered mukthiban_tested_fat_delete(uint8_t *table, size_t table_len, size_t n, size_t first_block);
+mukthiban_answered mukthiban_tested_fat_delete(uint8_t *table, size_t table_len, size_t n, size_t block_len,
+                                               size_t first_block);
 
-/* Merges free neighbours. Answers nothing but MUKTHIBAN_DONE.
+/* Merges free neighbours. Answers 20.
  * Requires: a sound table of n blocks; work_len = n, and every place of work is 0. They are 0 on return. */
-mukthiban_answered mukthiban_tested_fat_merge(uint8_t *table, size_t table_len, size_t n,
+mukthiban_answered mukthiban_tested_fat_merge(uint8_t *table, size_t table_len, size_t n, size_t block_len,
                                               uint32_t *work, size_t work_len);
 
 /* Reads buf_len bytes of the file from pos into buf. Answers 5, 7.
@@ -62,7 +65,7 @@ mukthiban_answered mukthiban_tested_fat_read(const uint8_t *table, size_t table_
                                              size_t first_block, size_t pos,
                                              uint8_t *buf, size_t buf_len);
 
-/* Writes buf's bytes to the file from pos on. Answers 5, 7.
+/* Writes buf's bytes to the file from pos on. Answers 20, 5, 7.
  * Requires: a sound table of n blocks and data that fit. */
 mukthiban_answered mukthiban_tested_fat_write(const uint8_t *table, size_t table_len, size_t n,
                                               uint8_t *data, size_t data_len, size_t block_len,

@@ -44,6 +44,8 @@ static inline const char *mukthiban_text(uint32_t answer)
         return "it is not open";
     case MUKTHIBAN_TOO_MANY_OPENS:
         return "it is opened 65,535 times already";
+    case MUKTHIBAN_READ_ONLY_VOLUME:
+        return "blocks of this length are no longer in use: the volume can be read and not be changed";
     default:
         return "not a number of mukthiban";
     }

@@ -45,7 +45,8 @@ enum {
     MUKTHIBAN_NOT_EMPTY = 14,     /* delete of a directory with children */
     MUKTHIBAN_INTO_ITSELF = 15,   /* a directory moved to itself or below itself */
     MUKTHIBAN_NOT_OPEN = 16,      /* close, delete or rename at open count 0 */
-    MUKTHIBAN_TOO_MANY_OPENS = 17 /* open at 65,535 opens or more */
+    MUKTHIBAN_TOO_MANY_OPENS = 17, /* open at 65,535 opens or more */
+    MUKTHIBAN_READ_ONLY_VOLUME = 20 /* a change with a block length other than 512 and 4,096 */
 };
 
 /* The kinds of mukthiban_tree_name. */

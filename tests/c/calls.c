@@ -104,15 +104,43 @@ static void blocks(void)
 
     /* the free chain 2, 0-1, 3 becomes one node of four blocks */
     EXPECT(mukthiban_fat_delete(FAT, DATA, WORK, 2).answer == MUKTHIBAN_DONE);
-    EXPECT(mukthiban_fat_merge(table, 7, WORK).answer == MUKTHIBAN_SIZE_MISMATCH);
-    EXPECT(mukthiban_fat_merge(table, 8, WORK).answer == MUKTHIBAN_INVALID_VALUE);
-    EXPECT(mukthiban_fat_merge(FAT, work, 3).answer == MUKTHIBAN_WORK_TOO_SHORT);
+    EXPECT(mukthiban_fat_merge(table, 7, LENGTH, WORK).answer == MUKTHIBAN_SIZE_MISMATCH);
+    EXPECT(mukthiban_fat_merge(table, 8, LENGTH, WORK).answer == MUKTHIBAN_INVALID_VALUE);
+    EXPECT(mukthiban_fat_merge(FAT, 0, WORK).answer == MUKTHIBAN_INVALID_VALUE);
+    EXPECT(mukthiban_fat_merge(FAT, 65537, WORK).answer == MUKTHIBAN_INVALID_VALUE);
+    EXPECT(mukthiban_fat_merge(FAT, LENGTH, work, 3).answer == MUKTHIBAN_WORK_TOO_SHORT);
+    EXPECT(mukthiban_fat_merge(FAT, LENGTH + 1, WORK).answer == MUKTHIBAN_READ_ONLY_VOLUME);
     EXPECT(table[4] == 3);
-    EXPECT(mukthiban_fat_merge(FAT, WORK).answer == MUKTHIBAN_DONE);
+    EXPECT(mukthiban_fat_merge(FAT, LENGTH, WORK).answer == MUKTHIBAN_DONE);
     EXPECT(table[4] == 1 && table[15] == 0x80 && table[20] == 4);
     table[0] = 1;
-    EXPECT(mukthiban_fat_merge(FAT, WORK).answer == MUKTHIBAN_BROKEN_FAT);
+    EXPECT(mukthiban_fat_merge(FAT, LENGTH, WORK).answer == MUKTHIBAN_BROKEN_FAT);
     EXPECT(mukthiban_fat_delete(FAT, DATA, WORK, 2).answer == MUKTHIBAN_BROKEN_FAT);
+}
+
+/* A block length that is not in use: what would change something is refused, after soundness and before the call's own. */
+static void read_only(void)
+{
+    enum { OLD = LENGTH / 2 };
+    static const uint32_t first[1] = {0};
+    uint8_t buf[1] = {3};
+    mukthiban_created created;
+
+    EXPECT(mukthiban_fat_format(FAT).answer == MUKTHIBAN_DONE);
+    EXPECT(mukthiban_fat_create(FAT, DATA, WORK, 2).answer == MUKTHIBAN_DONE);
+    created = mukthiban_fat_create(FAT, data, 4 * OLD, OLD, WORK, 0);
+    EXPECT(created.answer == MUKTHIBAN_READ_ONLY_VOLUME && created.first_block == 0 && created.entry == 0);
+    EXPECT(mukthiban_fat_resize(FAT, data, 4 * OLD, OLD, WORK, 0, 2).answer == MUKTHIBAN_READ_ONLY_VOLUME);
+    EXPECT(mukthiban_fat_delete(FAT, data, 4 * OLD, OLD, WORK, 9).answer == MUKTHIBAN_READ_ONLY_VOLUME);
+    EXPECT(mukthiban_fat_write(FAT, data, 4 * OLD, OLD, WORK, 0, 0, buf, 0).answer == MUKTHIBAN_READ_ONLY_VOLUME);
+    EXPECT(mukthiban_fat_write_blocks(data, 4 * OLD, OLD, first, 1, 0, buf, 1).answer == MUKTHIBAN_READ_ONLY_VOLUME);
+    EXPECT(mukthiban_fat_merge(FAT, OLD, WORK).answer == MUKTHIBAN_READ_ONLY_VOLUME);
+    EXPECT(mukthiban_fat_read(FAT, data, 4 * OLD, OLD, WORK, 0, 2 * OLD - 1, buf, 1).answer == MUKTHIBAN_DONE);
+    EXPECT(mukthiban_fat_read_blocks(data, 4 * OLD, OLD, first, 1, 0, buf, 1).answer == MUKTHIBAN_DONE);
+    EXPECT(mukthiban_fat_open_list(FAT, data, 4 * OLD, OLD, WORK, 0, LIST).answer == MUKTHIBAN_DONE);
+    table[0] = 1;
+    EXPECT(mukthiban_fat_create(FAT, data, 4 * OLD, OLD, WORK, 0).answer == MUKTHIBAN_BROKEN_FAT);
+    EXPECT(mukthiban_fat_merge(FAT, OLD, WORK).answer == MUKTHIBAN_BROKEN_FAT);
 }
 
 /* A table is broken at that entry, by that rule, in every call that judges it; and no other number has them. */
@@ -129,7 +157,7 @@ static void broken_at(size_t entry, uint32_t rule)
     each[1] = mukthiban_fat_delete(FAT, DATA, WORK, 0);
     each[2] = mukthiban_fat_read(FAT, DATA, WORK, 0, 0, buf, 1);
     each[3] = mukthiban_fat_write(FAT, DATA, WORK, 0, 0, buf, 1);
-    each[4] = mukthiban_fat_merge(FAT, WORK);
+    each[4] = mukthiban_fat_merge(FAT, LENGTH, WORK);
     EXPECT(tested.answer == MUKTHIBAN_BROKEN_FAT && tested.entry == entry && tested.rule == rule);
     EXPECT(tested.free == 0 && tested.files == 0);
     EXPECT(created.answer == MUKTHIBAN_BROKEN_FAT && created.entry == entry && created.rule == rule);
@@ -338,6 +366,7 @@ int main(void)
     EXPECT(mukthiban_version() == MUKTHIBAN_VERSION_NUMBER);
     texts();
     blocks();
+    read_only();
     broken();
     tree();
     audit();

@@ -53,7 +53,7 @@ static const uint8_t four[4] = {1, 2, 3, 4}, twenty[20] = {9, 8, 7, 6};
 static void create(uint32_t number, size_t count)
 {
     mukthiban_created x = mukthiban_fat_create(TABLE(a), DATA(a), WORK, count);
-    mukthiban_created y = mukthiban_tested_fat_create(TABLE(b), BLOCKS, count);
+    mukthiban_created y = mukthiban_tested_fat_create(TABLE(b), BLOCKS, LENGTH, count);
     SAME(number, x, y);
     EXPECT(x.first_block == y.first_block);
 }
@@ -82,7 +82,7 @@ static void carry(uint32_t number, size_t first, size_t pos, size_t len)
 static void resize(uint32_t number, size_t first, size_t count)
 {
     SAME(number, mukthiban_fat_resize(TABLE(a), DATA(a), WORK, first, count),
-         mukthiban_tested_fat_resize(TABLE(b), BLOCKS, first, count));
+         mukthiban_tested_fat_resize(TABLE(b), BLOCKS, LENGTH, first, count));
 }
 
 static void blocks(void)
@@ -106,13 +106,14 @@ static void blocks(void)
     carry(MUKTHIBAN_OUT_OF_BOUND, 0, 4 * LENGTH - 1, 2);
     carry(MUKTHIBAN_NOT_A_FILE, 1, 0, 1);
     SAME(MUKTHIBAN_DONE, mukthiban_fat_delete(TABLE(a), DATA(a), WORK, 2),
-         mukthiban_tested_fat_delete(TABLE(b), BLOCKS, 2));
+         mukthiban_tested_fat_delete(TABLE(b), BLOCKS, LENGTH, 2));
     SAME(MUKTHIBAN_NOT_A_FILE, mukthiban_fat_delete(TABLE(a), DATA(a), WORK, 2),
-         mukthiban_tested_fat_delete(TABLE(b), BLOCKS, 2));
+         mukthiban_tested_fat_delete(TABLE(b), BLOCKS, LENGTH, 2));
     SAME(MUKTHIBAN_DONE, mukthiban_fat_delete(TABLE(a), DATA(a), WORK, 0),
-         mukthiban_tested_fat_delete(TABLE(b), BLOCKS, 0));
+         mukthiban_tested_fat_delete(TABLE(b), BLOCKS, LENGTH, 0));
     /* the free chain 0-1, 3-4, 2, 5 becomes one node; the public call has left the work list's places 0 */
-    SAME(MUKTHIBAN_DONE, mukthiban_fat_merge(TABLE(a), WORK), mukthiban_tested_fat_merge(TABLE(b), BLOCKS, work, BLOCKS));
+    SAME(MUKTHIBAN_DONE, mukthiban_fat_merge(TABLE(a), LENGTH, WORK),
+         mukthiban_tested_fat_merge(TABLE(b), BLOCKS, LENGTH, work, BLOCKS));
     EXPECT(a.table[4] == 1 && a.table[20] == BLOCKS);
 }
 
@@ -128,6 +129,26 @@ static void audit(uint32_t number, size_t places)
     SAME(number, x, y);
     EXPECT(x.count == y.count);
     for (size_t i = 0; i < BLOCKS + 2 * ENTRIES; i++) EXPECT(wide[i] == 0);
+}
+
+/* A block length that is not in use: both refuse what would change something. */
+static void read_only(void)
+{
+    enum { OLD = LENGTH / 4 };
+    uint8_t byte[1] = {4};
+
+#define OLD_DATA(v) (v).data, (size_t)BLOCKS * OLD, (size_t)OLD
+    SAME(MUKTHIBAN_READ_ONLY_VOLUME, mukthiban_fat_create(TABLE(a), OLD_DATA(a), WORK, 0),
+         mukthiban_tested_fat_create(TABLE(b), BLOCKS, OLD, 0));
+    SAME(MUKTHIBAN_READ_ONLY_VOLUME, mukthiban_fat_resize(TABLE(a), OLD_DATA(a), WORK, 9, 1),
+         mukthiban_tested_fat_resize(TABLE(b), BLOCKS, OLD, 9, 1));
+    SAME(MUKTHIBAN_READ_ONLY_VOLUME, mukthiban_fat_delete(TABLE(a), OLD_DATA(a), WORK, 9),
+         mukthiban_tested_fat_delete(TABLE(b), BLOCKS, OLD, 9));
+    SAME(MUKTHIBAN_READ_ONLY_VOLUME, mukthiban_fat_write(TABLE(a), OLD_DATA(a), WORK, 9, 0, byte, 1),
+         mukthiban_tested_fat_write(TABLE(b), BLOCKS, OLD_DATA(b), 9, 0, byte, 1));
+    SAME(MUKTHIBAN_READ_ONLY_VOLUME, mukthiban_fat_merge(TABLE(a), OLD, WORK),
+         mukthiban_tested_fat_merge(TABLE(b), BLOCKS, OLD, work, BLOCKS));
+#undef OLD_DATA
 }
 
 static void made(uint32_t number, mukthiban_made x, mukthiban_made y)
@@ -247,6 +268,7 @@ static void tree(void)
 int main(void)
 {
     blocks();
+    read_only();
     tree();
     return failures == 0 ? 0 : 1;
 }

@@ -26,8 +26,9 @@ impl Session {
         let mut read = self.lent.buf.clone();
         let answered = check::block_call(call, &mut self.lent);
         if let Some(original) = &mut self.original {
-            // Only calls on files: the original opens more than the files of a sound table.
-            let followed = answered.number != 5 && !wraps(call, &read);
+            // Only calls on files: the original opens more than the files of a sound table. And only those that are not refused for the block length: it
+            // changes volumes of any.
+            let followed = !matches!(answered.number, 5 | 20) && !wraps(call, &read);
             if followed {
                 follow(original, call, &answered, &self.lent, &mut read);
             }

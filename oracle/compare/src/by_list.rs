@@ -6,7 +6,7 @@ use port::{BlockCall, ByList, Library, ListCall, Port};
 use rules::blocks::{layout, listed};
 
 /// Both answer the same and leave the same bytes: the number.
-fn same(call: ListCall, lent: &mut ByList) -> u32 {
+pub fn same(call: ListCall, lent: &mut ByList) -> u32 {
     let mut other = lent.clone();
     let (stated, library) = (lent.stated(call), other.library(call));
     assert_eq!(stated, library, "{call:?} {lent:?}");
@@ -24,7 +24,7 @@ fn any_call(chance: &mut Chance, block_len: usize, places: usize) -> ListCall {
 
 /// Lists with blocks named twice and blocks that are not there, sizes that do not fit and sizes out of bounds.
 fn any_list(chance: &mut Chance) {
-    let block_len = chance.pick(&[0, 1, 2, 3, 4, 512, 65_536, 65_537, 1 << 63, usize::MAX]);
+    let block_len = chance.pick(&[0, 1, 2, 3, 4, 512, 512, 512, 4_096, 65_536, 65_537, 1 << 63, usize::MAX]);
     let n = chance.within(0, 6);
     let whole = block_len.checked_mul(n).filter(|len| *len <= 1 << 19).unwrap_or(n);
     let (odd, places) = (usize::from(chance.one_in(8)), chance.within(0, 7));

@@ -137,7 +137,8 @@ fn large_rings(chance: &mut Chance) {
     }
 }
 
-/// One block of every length at an edge, with a file in it: read to its end, and a byte more. Where the length is in use the file is created and written.
+/// One block of every length at an edge, with a file in it: read to its end, and a byte more. Where the length is in use the file is created and written,
+/// and where it is not both are refused.
 fn long_blocks() {
     for block_len in [511, 512, 513, 4_095, 4_096, 4_097, 65_535, 65_536, 65_537] {
         let mut lent = Blocks {
@@ -149,11 +150,10 @@ fn long_blocks() {
             buf: vec![7; 5],
         };
         rules::blocks::format(&mut lent.table).unwrap();
-        if matches!(block_len, 512 | 4_096) {
-            block_call(&BlockCall::Create { count: 1 }, &mut lent);
-            block_call(&BlockCall::Write { first: 0, pos: block_len - 5 }, &mut lent);
-            block_call(&BlockCall::Write { first: 0, pos: block_len - 4 }, &mut lent);
-        } else {
+        let created = block_call(&BlockCall::Create { count: 1 }, &mut lent);
+        block_call(&BlockCall::Write { first: 0, pos: block_len - 5 }, &mut lent);
+        block_call(&BlockCall::Write { first: 0, pos: block_len - 4 }, &mut lent);
+        if created.number != 0 {
             let file = vec![rules::blocks::Run { start: 0, size: 1 }];
             rules::blocks::lay_out(&mut lent.table, &rules::blocks::Layout { free: vec![], files: vec![file] });
         }

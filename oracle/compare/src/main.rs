@@ -1,7 +1,7 @@
 //! `compare short` or `compare long [seed]`: every comparison, with counts and the seed. It ends at the first difference.
 
 use compare::chance::Chance;
-use compare::{audited, block_history, by_list, check, closure, damage, edges, merged, tree_history};
+use compare::{audited, block_history, by_list, check, closure, damage, edges, merged, retired, tree_history};
 use std::time::{Instant, SystemTime, UNIX_EPOCH};
 
 /// How much of everything.
@@ -56,6 +56,7 @@ fn main() {
     histories("list", by_list::run, seed, run.histories);
     histories("merge", merged::run, seed, run.histories);
     merged::large();
+    histories("read-only", retired::run, seed, run.histories);
     histories("audit", audited::run, seed, run.histories);
     audited::large();
     histories("tree", tree_history::run, seed, run.histories);
@@ -73,6 +74,9 @@ fn main() {
     let broken = check::broken();
     println!("rules 1 to 7 of broken block tables: {broken:?} times");
     assert!(broken.iter().all(|times| *times > 0), "a rule was never met");
+    let read_only = retired::met();
+    println!("read-only volumes: create, resize, delete, write, write by a list, merge refused {:?} times; open list and read done {:?} times", &read_only[..6], &read_only[6..]);
+    assert!(read_only.iter().all(|times| *times > 0), "a call on a read-only volume was never met");
     let (answers, kinds) = audited::met();
     println!("audits by their answers 0, 1, 2, 3, 4, 8, 9: {answers:?}; clean {}, findings of kinds 1 to 4: {:?}", kinds[0], &kinds[1..]);
     assert!(answers.iter().chain(&kinds).all(|times| *times > 0), "an answer or a kind of finding was never met");

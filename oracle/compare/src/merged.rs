@@ -15,10 +15,11 @@ fn same(lent: &mut Merge) -> u32 {
     assert_eq!(library.library(), answered, "{before:?}");
     assert!(*lent == library, "the library leaves other bytes: {before:?}\nrules {lent:?}\nlibrary {library:?}");
     let number = answered.number;
-    if number == 0 {
+    if matches!(number, 0 | 20) {
         assert_eq!(inner.inner(), answered, "{before:?}");
         assert!(*lent == inner, "the inner call leaves other bytes: {before:?}\nrules {lent:?}\ninner {inner:?}");
-    } else {
+    }
+    if number != 0 {
         assert!(lent.table == before.table, "the rules changed something and refused with {number}");
     }
     number
@@ -26,7 +27,8 @@ fn same(lent: &mut Merge) -> u32 {
 
 /// The merge of a volume, whose other parts are not lent.
 fn merged(volume: &mut Blocks) -> u32 {
-    let mut lent = Merge { table: std::mem::take(&mut volume.table), work: std::mem::take(&mut volume.work) };
+    let (table, work) = (std::mem::take(&mut volume.table), std::mem::take(&mut volume.work));
+    let mut lent = Merge { table, block_len: volume.block_len, work };
     let number = same(&mut lent);
     (volume.table, volume.work) = (lent.table, lent.work);
     number
@@ -56,7 +58,7 @@ fn asked(before: &[u8], held: &Layout, after: &[u8]) {
 /// A sound table merged: what is left of it.
 pub fn merged_table(table: &[u8]) -> Vec<u8> {
     let held = layout(table).expect("a sound table");
-    let mut lent = Merge { table: table.to_vec(), work: vec![77; table.len() / 8] };
+    let mut lent = Merge { table: table.to_vec(), block_len: 512, work: vec![77; table.len() / 8] };
     assert_eq!(same(&mut lent), 0);
     asked(table, &held, &lent.table);
     lent.table
@@ -84,13 +86,22 @@ fn sound(chance: &mut Chance) {
     session.compare_lists();
 }
 
-/// A table with a few words changed, a length that does not fit, or a short work list.
+/// A sound table with a block length that is not in use.
+pub fn refused(lent: &mut Merge) {
+    assert_eq!(same(lent), 20);
+}
+
+/// A table with a few words changed, a length that does not fit, or a short work list; sometimes another block length.
 fn any(chance: &mut Chance) {
     let mut volume = volumes::any_sound(chance);
     let n = volume.table.len() / 8 - 1;
-    match chance.below(4) {
+    if chance.one_in(3) {
+        volume.block_len = chance.pick(&[0, 1, 511, 513, 4_095, 4_097, 65_536, 65_537, 1 << 63, usize::MAX]);
+    }
+    match chance.below(5) {
         0 => volume.table.truncate(chance.pick(&[0, 7, 8, 9, 15, 8 * n, 8 * n + 1])),
         1 => volume.work.truncate(chance.pick(&[0, 1, n / 2, n - 1])),
+        2 => {}
         _ => {
             for _ in 0..chance.within(1, 3) {
                 let at = 4 * chance.below(volume.table.len() / 4);
@@ -116,7 +127,7 @@ pub fn large() {
         let free = (0..n).rev().filter(|block| block % 3 != 1).map(run).collect();
         let files = (0..n).filter(|block| block % 3 == 1).map(|block| vec![run(block)]).collect();
         rules::blocks::lay_out(&mut table, &Layout { free, files });
-        let number = same(&mut Merge { table, work: vec![9; n] });
+        let number = same(&mut Merge { table, block_len: 4_096, work: vec![9; n] });
         assert_eq!(number, if n > 1_000_000 { 2 } else { 0 });
     }
 }

@@ -377,3 +377,15 @@ fn sizes_of_trees() {
         assert_eq!(original(&small, 3).0, Ok(()));
     }
 }
+
+#[test]
+fn block_lengths_that_are_not_in_use() {
+    for block_len in [1, 511, 513, 4_095, 4_097, 65_536] {
+        let lent = Blocks { data: vec![0; block_len], block_len, ..volume(&[(0, 1), (F, 0)]) };
+        assert_eq!(block_number(BlockCall::Create { count: 1 }, &lent), 20);
+        assert_eq!(block_number(BlockCall::Test, &lent), 0);
+        if original::PRESENT {
+            assert_eq!(opened(&lent).create(1), Ok(0));
+        }
+    }
+}

@@ -60,11 +60,11 @@ unsafe fn block_call(call: &BlockCall, lent: &mut Blocks) -> Option<Answered> {
         BlockCall::OpenList { first } => on_table!(
             opened, mukthiban_tested_fat_open_list, lent, first, lent.list.as_mut_ptr(), lent.list.len()
         ),
-        BlockCall::Create { count } => on_table!(created, mukthiban_tested_fat_create, lent, count),
+        BlockCall::Create { count } => on_table!(created, mukthiban_tested_fat_create, lent, lent.block_len, count),
         BlockCall::Resize { first, count } => {
-            on_table!(answered, mukthiban_tested_fat_resize, lent, first, count)
+            on_table!(answered, mukthiban_tested_fat_resize, lent, lent.block_len, first, count)
         }
-        BlockCall::Delete { first } => on_table!(answered, mukthiban_tested_fat_delete, lent, first),
+        BlockCall::Delete { first } => on_table!(answered, mukthiban_tested_fat_delete, lent, lent.block_len, first),
         BlockCall::Read { first, pos } => on_data!(
             answered, mukthiban_tested_fat_read, lent, first, pos, lent.buf.as_mut_ptr(), lent.buf.len()
         ),

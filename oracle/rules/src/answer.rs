@@ -21,6 +21,7 @@ pub enum Answer {
     IntoItself = 15,
     NotOpen = 16,
     TooManyOpens = 17,
+    ReadOnlyVolume = 20,
 }
 
 impl Answer {

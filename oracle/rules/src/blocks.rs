@@ -9,6 +9,9 @@ pub use crate::layout::{blocks, lay_out, layout, listed, set_node, Chain, Layout
 pub const MOST_BLOCKS: usize = 1_000_000;
 pub const MOST_BLOCK_LEN: usize = 65_536;
 
+/// The block lengths in use. A volume with another can be read and not be changed.
+pub const BLOCK_LENS: [usize; 2] = [512, 4096];
+
 // The rows that all block calls share.
 
 /// Data and block length, which every call but format and the test takes.
@@ -39,6 +42,11 @@ fn gate(table: &[u8], volume: Option<Volume>, work: &mut [u32]) -> Outcome<Layou
     refuse(work.len() < n, WorkTooShort)?;
     work[..n].fill(0);
     layout(table).ok_or(BrokenFat)
+}
+
+/// The row of a call that changes the table or the data: after soundness, before the call's own.
+pub(crate) fn in_use(block_len: usize) -> Outcome<()> {
+    refuse(!BLOCK_LENS.contains(&block_len), ReadOnlyVolume)
 }
 
 /// "The given block is the first block of a chain other than the free one": that chain.
@@ -100,6 +108,7 @@ pub fn create(
 ) -> Outcome<usize> {
     let volume = Volume { data_len: data.len(), block_len };
     let layout = gate(table, Some(volume), work)?;
+    in_use(block_len)?;
     refuse(block_count == 0, InvalidValue)?;
     refuse(blocks(&layout.free) < block_count, NoSpace)?;
     let (taken, left) = cut(&layout.free, block_count);
@@ -119,6 +128,7 @@ pub fn resize(
 ) -> Outcome<()> {
     let volume = Volume { data_len: data.len(), block_len };
     let layout = gate(table, Some(volume), work)?;
+    in_use(block_len)?;
     let chain = file(&layout, first_block)?;
     refuse(block_count == 0, InvalidValue)?;
     let present = blocks(chain);
@@ -146,6 +156,7 @@ pub fn delete(
 ) -> Outcome<()> {
     let volume = Volume { data_len: data.len(), block_len };
     let layout = gate(table, Some(volume), work)?;
+    in_use(block_len)?;
     let chain = file(&layout, first_block)?;
     lay_free(table, &join(chain, &layout.free));
     Ok(())
@@ -189,6 +200,7 @@ pub fn write(
 ) -> Outcome<()> {
     let volume = Volume { data_len: data.len(), block_len };
     let layout = gate(table, Some(volume), work)?;
+    in_use(block_len)?;
     let to = places(file(&layout, first_block)?, block_len, pos, buf.len())?;
     for (byte, place) in buf.iter().zip(to) {
         data[place] = *byte;

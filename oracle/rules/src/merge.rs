@@ -1,7 +1,8 @@
 //! Merge of free neighbours.
 
-use crate::answer::Outcome;
-use crate::blocks::test;
+use crate::answer::Answer::*;
+use crate::answer::{refuse, Outcome};
+use crate::blocks::{in_use, sizes, test, MOST_BLOCK_LEN};
 use crate::layout::{block_count, lay_free, layout, Chain, Run};
 
 /// "The longest stretches of free blocks, in rising order."
@@ -16,9 +17,12 @@ pub fn stretches(free: &[bool]) -> Chain {
     runs
 }
 
-/// The rows of the test, then the free chain laid as its longest stretches, and the head.
-pub fn merge(table: &mut [u8], work: &mut [u32]) -> Outcome<()> {
+/// The rows of the test, the block length among the sizes and last; then the free chain laid as its longest stretches, and the head.
+pub fn merge(table: &mut [u8], block_len: usize, work: &mut [u32]) -> Outcome<()> {
+    sizes(table, None)?;
+    refuse(!(1..=MOST_BLOCK_LEN).contains(&block_len), InvalidValue)?;
     test(table, work)?;
+    in_use(block_len)?;
     let held = layout(table).expect("the test found the table sound");
     let mut free = vec![false; block_count(table)];
     for run in &held.free {

@@ -18,7 +18,7 @@ calls! {
     fn mukthiban_fat_delete(
         table: &mut [u8], data: &[u8], block_len: usize, work: &mut [u32], first_block: usize,
     ) -> Answered;
-    fn mukthiban_fat_merge(table: &mut [u8], work: &mut [u32]) -> Answered;
+    fn mukthiban_fat_merge(table: &mut [u8], block_len: usize, work: &mut [u32]) -> Answered;
     fn mukthiban_fat_read(
         table: &[u8], data: &[u8], block_len: usize, work: &mut [u32], first_block: usize, pos: usize, buf: &mut [u8],
     ) -> Answered;

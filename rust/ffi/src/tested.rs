@@ -5,10 +5,12 @@ use crate::answers::*;
 
 calls! {
     fn mukthiban_tested_fat_open_list(table: &[u8], n: usize, first_block: usize, list: &mut [u32]) -> Opened;
-    fn mukthiban_tested_fat_create(table: &mut [u8], n: usize, block_count: usize) -> Created;
-    fn mukthiban_tested_fat_resize(table: &mut [u8], n: usize, first_block: usize, block_count: usize) -> Answered;
-    fn mukthiban_tested_fat_delete(table: &mut [u8], n: usize, first_block: usize) -> Answered;
-    fn mukthiban_tested_fat_merge(table: &mut [u8], n: usize, work: &mut [u32]) -> Answered;
+    fn mukthiban_tested_fat_create(table: &mut [u8], n: usize, block_len: usize, block_count: usize) -> Created;
+    fn mukthiban_tested_fat_resize(
+        table: &mut [u8], n: usize, block_len: usize, first_block: usize, block_count: usize,
+    ) -> Answered;
+    fn mukthiban_tested_fat_delete(table: &mut [u8], n: usize, block_len: usize, first_block: usize) -> Answered;
+    fn mukthiban_tested_fat_merge(table: &mut [u8], n: usize, block_len: usize, work: &mut [u32]) -> Answered;
     fn mukthiban_tested_fat_read(
         table: &[u8], n: usize, data: &[u8], block_len: usize, first_block: usize, pos: usize, buf: &mut [u8],
     ) -> Answered;

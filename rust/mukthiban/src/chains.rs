@@ -42,7 +42,7 @@ impl Volume {
     ///     volume.delete(file)?;
     /// }
     /// assert_eq!(volume.free_nodes(), [(2, 3), (0, 2), (5, 3)]);
-    /// volume.merge();
+    /// volume.merge()?;
     /// assert_eq!(volume.free_nodes(), [(0, 8)]);
     /// # Ok::<(), mukthiban::Refusal>(())
     /// ```

@@ -28,8 +28,20 @@ use mukthiban_ffi as ffi;
 /// The most blocks that a block table has.
 pub const MAX_BLOCKS: usize = 1_000_000;
 
-/// The longest block, in bytes.
+/// The longest block, in bytes. Only [`BLOCK_LENS`] are in use.
 pub const MAX_BLOCK_LEN: usize = 65_536;
+
+/// The block lengths in use. With any other a volume can be read, and every call that would change it is refused with
+/// `ReadOnlyVolume`: after the tests, and before the call's own refusals.
+///
+/// ```
+/// use mukthiban::{fat, Refusal};
+/// let (mut table, data, mut work) = ([0u8; 8 * 5], [0u8; 4 * 16], [0u32; 4]);
+/// fat::format(&mut table)?;
+/// assert_eq!(fat::create(&mut table, &data, 16, &mut work, 0), Err(Refusal::ReadOnlyVolume));
+/// # Ok::<(), Refusal>(())
+/// ```
+pub const BLOCK_LENS: [usize; 2] = [512, 4_096];
 
 /// What the test counts.
 #[derive(Clone, Copy, Debug, PartialEq, Eq)]
@@ -204,7 +216,8 @@ pub fn delete(
 }
 
 /// Merges free neighbours: the free chain becomes the longest stretches of free blocks, rising, so that no two of its
-/// nodes touch. Every file and the number of free blocks stay; a second call changes nothing.
+/// nodes touch. Every file and the number of free blocks stay; a second call changes nothing. Takes no data, and the block
+/// length to refuse those that are not in use.
 ///
 /// ```
 /// use mukthiban::{fat, Refusal};
@@ -214,15 +227,16 @@ pub fn delete(
 /// for file in files {
 ///     fat::delete(&mut table, &data, 512, &mut work, file)?; // the free chain is now 2-3, 1, 0
 /// }
-/// fat::merge(&mut table, &mut work)?;
+/// fat::merge(&mut table, 512, &mut work)?;
 ///
 /// let mut fresh = table;
 /// fat::format(&mut fresh)?;
 /// assert_eq!(table, fresh);
 /// # Ok::<(), Refusal>(())
 /// ```
-pub fn merge(table: &mut [u8], work: &mut [u32]) -> Result<(), Refusal> {
-    let r = unsafe { ffi::mukthiban_fat_merge(table.as_mut_ptr(), table.len(), work.as_mut_ptr(), work.len()) };
+pub fn merge(table: &mut [u8], block_len: usize, work: &mut [u32]) -> Result<(), Refusal> {
+    let (at, len) = (table.as_mut_ptr(), table.len());
+    let r = unsafe { ffi::mukthiban_fat_merge(at, len, block_len, work.as_mut_ptr(), work.len()) };
     judge(r.answer)
 }
 
@@ -314,7 +328,7 @@ pub fn read_blocks(data: &[u8], block_len: usize, list: &[u32], pos: usize, buf:
 }
 
 /// Writes `buf` from `pos` on into what a block list names, byte after byte: where it names a block twice, the later byte
-/// stays. Refused as [`read_blocks`] is.
+/// stays. Refused as [`read_blocks`] is, and after the sizes with `ReadOnlyVolume` where the block length is not in use.
 pub fn write_blocks(data: &mut [u8], block_len: usize, list: &[u32], pos: usize, buf: &[u8]) -> Result<(), Refusal> {
     let r = unsafe {
         ffi::mukthiban_fat_write_blocks(

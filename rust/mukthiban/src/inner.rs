@@ -7,20 +7,21 @@ use crate::parts::Parts;
 use mukthiban_ffi::{tested, Answered, Audited, Created, Opened};
 
 pub unsafe fn create(p: &mut Parts, block_count: usize) -> Created {
-    tested::mukthiban_tested_fat_create(p.fat.as_mut_ptr(), p.fat.len(), p.blocks(), block_count)
+    tested::mukthiban_tested_fat_create(p.fat.as_mut_ptr(), p.fat.len(), p.blocks(), p.block_len, block_count)
 }
 
 pub unsafe fn resize(p: &mut Parts, first: usize, block_count: usize) -> Answered {
-    tested::mukthiban_tested_fat_resize(p.fat.as_mut_ptr(), p.fat.len(), p.blocks(), first, block_count)
+    tested::mukthiban_tested_fat_resize(p.fat.as_mut_ptr(), p.fat.len(), p.blocks(), p.block_len, first, block_count)
 }
 
 pub unsafe fn delete(p: &mut Parts, first: usize) -> Answered {
-    tested::mukthiban_tested_fat_delete(p.fat.as_mut_ptr(), p.fat.len(), p.blocks(), first)
+    tested::mukthiban_tested_fat_delete(p.fat.as_mut_ptr(), p.fat.len(), p.blocks(), p.block_len, first)
 }
 
 /// `work` has a place for each block, all 0.
 pub unsafe fn merge(p: &mut Parts, work: &mut [u32]) -> Answered {
-    tested::mukthiban_tested_fat_merge(p.fat.as_mut_ptr(), p.fat.len(), p.blocks(), work.as_mut_ptr(), work.len())
+    let (fat, len) = (p.fat.as_mut_ptr(), p.fat.len());
+    tested::mukthiban_tested_fat_merge(fat, len, p.blocks(), p.block_len, work.as_mut_ptr(), work.len())
 }
 
 /// `work` has a place for each block and each place of the file table, all 0.

@@ -59,7 +59,7 @@ impl Parts {
 pub struct Shape {
     /// 1 to 1,000,000.
     pub blocks: usize,
-    /// 1 to 65,536.
+    /// 512 or 4,096.
     pub block_len: usize,
     /// Entries of the directory table, entry 0 and the root included: 2 to 65,536.
     pub dir_max: usize,

@@ -68,6 +68,7 @@ refusals! {
     IntoItself = 15, "a directory can't be moved into itself or below itself";
     NotOpen = 16, "it is not open";
     TooManyOpens = 17, "it is opened 65,535 times already";
+    ReadOnlyVolume = 20, "blocks of this length are no longer in use: the volume can be read and not be changed";
 }
 
 impl Refusal {
@@ -107,6 +108,7 @@ impl From<Refusal> for std::io::Error {
             Refusal::AlreadyExist => ErrorKind::AlreadyExists,
             Refusal::Busy | Refusal::TooManyOpens => ErrorKind::ResourceBusy,
             Refusal::NotEmpty => ErrorKind::DirectoryNotEmpty,
+            Refusal::ReadOnlyVolume => ErrorKind::ReadOnlyFilesystem,
             Refusal::BrokenFat | Refusal::BrokenTree | Refusal::SizeMismatch => ErrorKind::InvalidData,
             _ => ErrorKind::InvalidInput,
         };

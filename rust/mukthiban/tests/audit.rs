@@ -3,7 +3,7 @@
 use mukthiban::volume::{audit, Finding};
 use mukthiban::{Parts, Record, Refusal, Shape, Volume, ROOT};
 
-const SHAPE: Shape = Shape { blocks: 12, block_len: 64, dir_max: 3, file_max: 8, buckets: 3 };
+const SHAPE: Shape = Shape { blocks: 12, block_len: 512, dir_max: 3, file_max: 8, buckets: 3 };
 const PLACES: usize = 12 + 3 + 8;
 
 fn carried(first_block: u32, size: u64) -> [u8; 20] {
@@ -33,10 +33,10 @@ fn asked(p: &Parts, block_len: usize, places: usize, list: &mut [u32]) -> Result
 #[test]
 fn each_kind() {
     let (inode, first_block) = (1, 0);
-    assert_eq!(volume(&[(0, 128), (2, 64), (3, 1)]).audit(), []);
-    assert_eq!(volume(&[(0, 128), (2, 0), (3, 1)]).audit(), [Finding::Lost { first_block: 2 }]);
+    assert_eq!(volume(&[(0, 1024), (2, 512), (3, 1)]).audit(), []);
+    assert_eq!(volume(&[(0, 1024), (2, 0), (3, 1)]).audit(), [Finding::Lost { first_block: 2 }]);
     let over = [Finding::Over { inode }];
-    assert_eq!(volume(&[(0, 129), (2, 1), (3, 1)]).audit(), over);
+    assert_eq!(volume(&[(0, 1025), (2, 1), (3, 1)]).audit(), over);
     assert_eq!(volume(&[(0, u64::MAX), (2, 1), (3, 1)]).audit(), over);
     assert_eq!(volume(&[(0, 1 << 32), (2, 1), (3, 1)]).audit(), over);
     // No first block: within a chain, the free chain's, past the end.
@@ -45,7 +45,7 @@ fn each_kind() {
         assert_eq!(volume(&[(block, 1), (2, 1), (3, 1)]).audit(), expected);
     }
     let both = [Finding::Shared { inode: 4 }, Finding::Over { inode: 4 }, Finding::Shared { inode: 5 }];
-    assert_eq!(volume(&[(0, 1), (2, 1), (3, 1), (2, 65), (0, 1)]).audit(), both);
+    assert_eq!(volume(&[(0, 1), (2, 1), (3, 1), (2, 513), (0, 1)]).audit(), both);
     // What is deleted says nothing.
     let mut gone = volume(&[(0, 1), (2, 1), (3, 1), (9, 1)]);
     gone.delete_file(4).unwrap();
@@ -58,18 +58,18 @@ fn each_kind() {
 
 #[test]
 fn refusals_in_their_order() {
-    let sound = volume(&[(0, 1), (0, 129)]).into_parts();
+    let sound = volume(&[(0, 1), (0, 1025)]).into_parts();
     let mut list = [9; 8];
-    assert_eq!(asked(&sound, 64, PLACES, &mut list), Ok(4));
+    assert_eq!(asked(&sound, 512, PLACES, &mut list), Ok(4));
     assert_eq!(list, [2, 2, 3, 2, 4, 2, 4, 3]);
-    assert_eq!(asked(&sound, 64, PLACES, &mut list[..7]), Err(Refusal::ListTooShort));
+    assert_eq!(asked(&sound, 512, PLACES, &mut list[..7]), Err(Refusal::ListTooShort));
     let mut broken = sound.clone();
     broken.file_table[0] = 200;
-    assert_eq!(asked(&broken, 64, PLACES, &mut []), Err(Refusal::BrokenTree));
+    assert_eq!(asked(&broken, 512, PLACES, &mut []), Err(Refusal::BrokenTree));
     broken.fat[0] = 1;
-    assert_eq!(asked(&broken, 64, PLACES, &mut []), Err(Refusal::BrokenFat));
-    assert_eq!(asked(&broken, 64, PLACES - 1, &mut []), Err(Refusal::WorkTooShort));
+    assert_eq!(asked(&broken, 512, PLACES, &mut []), Err(Refusal::BrokenFat));
+    assert_eq!(asked(&broken, 512, PLACES - 1, &mut []), Err(Refusal::WorkTooShort));
     broken.dir_hash = vec![0; 4 * 65_537];
-    assert_eq!(asked(&broken, 64, 0, &mut []), Err(Refusal::InvalidValue));
-    assert_eq!(asked(&broken, 63, 0, &mut []), Err(Refusal::SizeMismatch));
+    assert_eq!(asked(&broken, 512, 0, &mut []), Err(Refusal::InvalidValue));
+    assert_eq!(asked(&broken, 511, 0, &mut []), Err(Refusal::SizeMismatch));
 }

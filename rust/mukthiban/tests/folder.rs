@@ -79,7 +79,7 @@ fn what_does_not_fit_is_refused() {
     folder::create(&place.card(), Volume::new(SHAPE).unwrap().parts()).unwrap();
     let other = Volume::new(Shape { file_max: 9, ..SHAPE }).unwrap();
     assert!(matches!(other.save(&place.card()), Err(FolderError::OtherSize(_))));
-    let other = Volume::new(Shape { block_len: 1024, blocks: 20, ..SHAPE }).unwrap();
+    let other = Volume::new(Shape { block_len: 4_096, blocks: 5, ..SHAPE }).unwrap();
     assert!(matches!(other.save(&place.card()), Err(FolderError::OtherSize(_))));
 
     // A table of a terabyte is not read.

@@ -78,8 +78,8 @@ fn block_calls_agree() {
                     assert_eq!(a, b);
                 }
                 5 => {
-                    volume.merge();
-                    assert_eq!(fat::merge(&mut p.fat, w), Ok(()));
+                    assert_eq!(volume.merge(), Ok(()));
+                    assert_eq!(fat::merge(&mut p.fat, len, w), Ok(()));
                     let nodes = volume.free_nodes();
                     assert!(nodes.windows(2).all(|two| two[0].0 + two[0].1 < two[1].0), "{nodes:?}");
                 }
@@ -264,6 +264,47 @@ fn checks_of_the_rules() {
     for (len, answer) in [(0, Refusal::SizeMismatch), (7, Refusal::SizeMismatch), (8, Refusal::InvalidValue)] {
         assert_eq!(fat::format(&mut vec![0; len]), Err(answer));
         assert_eq!(fat::test(&vec![0; len], &mut []), Err(answer));
+    }
+}
+
+/// With a block length that is not in use every call that would change something is refused first of all, by slices and by
+/// the volume, and the rest is as it was.
+#[test]
+fn read_only_volumes() {
+    let shape = Shape { blocks: 6, block_len: 512, dir_max: 4, file_max: 4, buckets: 3 };
+    let mut volume = Volume::new(shape).unwrap();
+    assert!(!volume.is_read_only());
+    assert_eq!([2, 3].map(|count| volume.create(count).unwrap()), [0, 2]);
+    let good = volume.into_parts();
+    let no = Err(Refusal::ReadOnlyVolume);
+    for block_len in [1, 511, 513, 4_095, 4_097, 65_536] {
+        assert_eq!(Volume::new(Shape { block_len, ..shape }).unwrap_err(), Refusal::ReadOnlyVolume);
+        let parts = Parts { block_len, data: vec![7; 6 * block_len], ..good.clone() };
+        let mut volume = Volume::open(parts.clone()).unwrap();
+        assert!(volume.is_read_only());
+        assert_eq!(volume.create(0), Err(Refusal::ReadOnlyVolume));
+        assert_eq!((volume.create(9), volume.resize(0, 2)), (Err(Refusal::ReadOnlyVolume), no));
+        assert_eq!((volume.resize(1, 0), volume.delete(1), volume.delete(0)), (no, no, no));
+        assert_eq!((volume.write(1, 9, &[1]), volume.write(0, 0, &[]), volume.merge()), (no, no, no));
+        let file = volume.make_file(ROOT, b"tree calls know.", &[0; 20]).unwrap();
+        assert_eq!(volume.file_mut(file).unwrap_err(), Refusal::ReadOnlyVolume);
+        assert_eq!((volume.open_list(2), volume.read(2, 0, &mut [0; 3])), (Ok(vec![2, 3, 4]), Ok(())));
+        let (mut p, mut work) = (parts.clone(), [5; 6]);
+        assert_eq!(fat::create(&mut p.fat, &p.data, block_len, &mut work, 0), Err(Refusal::ReadOnlyVolume));
+        assert_eq!(work, [0; 6]);
+        assert_eq!(fat::resize(&mut p.fat, &p.data, block_len, &mut work, 1, 0), no);
+        assert_eq!(fat::delete(&mut p.fat, &p.data, block_len, &mut work, 1), no);
+        assert_eq!(fat::write(&p.fat, &mut p.data, block_len, &mut work, 1, 9, &[]), no);
+        assert_eq!(fat::write_blocks(&mut p.data, block_len, &[9], usize::MAX, &[1]), no);
+        assert_eq!(fat::merge(&mut p.fat, block_len, &mut work), no);
+        assert_eq!(fat::merge(&mut p.fat, block_len, &mut work[..5]), Err(Refusal::WorkTooShort));
+        assert!(p == parts && volume.parts().fat == parts.fat && volume.parts().data == parts.data);
+        p.fat[0] = 1;
+        assert_eq!(fat::create(&mut p.fat, &p.data, block_len, &mut work, 0), Err(Refusal::BrokenFat));
+        assert_eq!(fat::merge(&mut p.fat, block_len, &mut work), Err(Refusal::BrokenFat));
+    }
+    for block_len in [0, 65_537] {
+        assert_eq!(fat::merge(&mut good.fat.clone(), block_len, &mut []), Err(Refusal::InvalidValue));
     }
 }
 

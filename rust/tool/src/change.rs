@@ -18,12 +18,16 @@ pub struct Change {
 }
 
 impl Change {
-    /// The volume at that path, which nobody else may change meanwhile. The blocks' bytes are not read: what is written
+    /// The volume at that path, which nobody else may change meanwhile. One whose block length is not in use is not changed
+    /// in any way: the library refuses what concerns its blocks, and so nothing else is begun. The blocks' bytes are not read: what is written
     /// to them goes to the folder alone.
     pub fn open(path: &Path, wait: Duration) -> Outcome<Change> {
         let folder = Folder::open(path, Access::Change, wait).map_err(|e| Fail::folder(&e))?;
         let session = Session::load(&folder)?.map_err(|refused| refused.fail(path))?;
         session.must_be_sound(path)?;
+        if session.volume.is_read_only() {
+            return Err(Fail::refused(&path.display().to_string(), Refusal::ReadOnlyVolume));
+        }
         Ok(Change { session, folder, path: path.into(), written: Vec::new() })
     }
 

@@ -27,7 +27,8 @@ fn left(call: &BlockCall, table: &[u8], list: &[u32], buf: &[u8], data: &[u8]) -
 
 /// The library's merge of a volume.
 pub fn library_merge(s: &mut Blocks) -> u64 {
-    let mut lent = Merge { table: std::mem::take(&mut s.table), work: std::mem::take(&mut s.work) };
+    let (table, work) = (std::mem::take(&mut s.table), std::mem::take(&mut s.work));
+    let mut lent = Merge { table, block_len: s.block_len, work };
     let number = lent.library().number;
     (s.table, s.work) = (lent.table, lent.work);
     number.into()

@@ -1,4 +1,5 @@
-//! The block calls of a volume.
+//! The block calls of a volume. Those that change something answer `ReadOnlyVolume` where the block length is not in use:
+//! the inner calls look at it themselves.
 //!
 //! Safety, for each call of the library here: the tables are sound and nothing but these calls changes them, as
 //! [`Volume`] says.
@@ -38,11 +39,11 @@ impl Volume {
 
     /// Merges free neighbours: the free chain becomes the longest stretches of free blocks, rising. Every file stays, and
     /// so do all counts.
-    pub fn merge(&mut self) {
+    pub fn merge(&mut self) -> Result<(), Refusal> {
         let mut work = vec![0; self.parts.blocks()];
         // SAFETY: the table is sound, and the work list is n places of 0.
         let r = unsafe { inner::merge(&mut self.parts, &mut work) };
-        judge(r.answer).expect("the inner merge refuses nothing");
+        judge(r.answer)
     }
 
     /// The blocks of a file, in chain order.

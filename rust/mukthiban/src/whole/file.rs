@@ -64,11 +64,14 @@ impl Volume {
         Ok(File { volume: self, place: Place::open(self, self.record(inode)?)? })
     }
 
-    /// A file to be read and changed, refused as [`Volume::file`] does. Whether another file's record claims the same
-    /// chain is not looked at here.
+    /// A file to be read and changed, refused as [`Volume::file`] does, and then with `ReadOnlyVolume` where the block
+    /// length is not in use. Whether another file's record claims the same chain is not looked at here.
     pub fn file_mut(&mut self, inode: u32) -> Result<FileMut<'_>, Refusal> {
         let record = self.record(inode)?;
         let place = Place::open(self, record)?;
+        if self.is_read_only() {
+            return Err(Refusal::ReadOnlyVolume);
+        }
         Ok(FileMut { volume: self, inode, record, place })
     }
 }

@@ -93,6 +93,8 @@ pub struct Volume {
     free: usize,
     /// For the first block of each file how many blocks the file has; 0 for every other block.
     counts: Vec<u32>,
+    /// Whether its block length is not in use.
+    read_only: bool,
 }
 
 /// What it holds in numbers: the bytes are many.
@@ -114,7 +116,7 @@ impl Volume {
     /// let no = Volume::open(Parts::default()).unwrap_err();
     /// assert_eq!(no.refusal, Refusal::SizeMismatch);
     /// ```
-    pub fn open(parts: Parts) -> Result<Volume, NotSound> {
+    pub fn open(mut parts: Parts) -> Result<Volume, NotSound> {
         let (dirs, files) = parts.rooms();
         // Sizes beyond their bounds are refused before the work list is looked at.
         let rooms = dirs.min(MAX_ENTRIES) + files.min(MAX_ENTRIES);
@@ -123,13 +125,17 @@ impl Volume {
             Ok(tested) => {
                 let counts = count_files(&parts.fat, tested);
                 let (dir_opens, file_opens) = (vec![0; dirs], vec![0; files]);
-                Ok(Volume { parts, dir_opens, file_opens, free: tested.free, counts })
+                // A write of no bytes, whose answer is the library's word on the block length.
+                let written = fat::write_blocks(&mut parts.data, parts.block_len, &[], 0, &[]);
+                let read_only = written == Err(Refusal::ReadOnlyVolume);
+                Ok(Volume { parts, dir_opens, file_opens, free: tested.free, counts, read_only })
             }
             Err(refusal) => Err(NotSound { refusal, parts: Box::new(parts) }),
         }
     }
 
-    /// A new, empty volume. `InvalidValue` where a size is outside its bounds, or there is no memory for it.
+    /// A new, empty volume. `InvalidValue` where a size is outside its bounds, or there is no memory for it;
+    /// `ReadOnlyVolume` where the block length is not 512 or 4,096, since nothing could be put into it.
     ///
     /// ```
     /// use mukthiban::{Refusal, Shape, Volume};
@@ -146,7 +152,11 @@ impl Volume {
             file_table: &mut parts.file_table,
         };
         crate::tree::format(&mut tables, shape.dir_max, shape.file_max)?;
-        Ok(Volume::open(parts)?)
+        let volume = Volume::open(parts)?;
+        if volume.read_only {
+            return Err(Refusal::ReadOnlyVolume);
+        }
+        Ok(volume)
     }
 
     /// The volume's bytes, to be read.
@@ -157,6 +167,23 @@ impl Volume {
     /// The volume's bytes, given away.
     pub fn into_parts(self) -> Parts {
         self.parts
+    }
+
+    /// Whether its block length is not in use (512 and 4,096 are): such a volume can be read and copied out, and every call
+    /// that would change its blocks is refused with `ReadOnlyVolume`. Calls on the tree know nothing of it.
+    ///
+    /// ```
+    /// use mukthiban::{Refusal, Shape, Volume};
+    /// let mut parts = Volume::new(Shape { blocks: 8, block_len: 512, dir_max: 4, file_max: 4, buckets: 3 })?.into_parts();
+    /// parts.block_len = 64;
+    /// parts.data.truncate(8 * 64);
+    /// let mut old = Volume::open(parts)?;
+    /// assert!(old.is_read_only());
+    /// assert_eq!(old.create(1), Err(Refusal::ReadOnlyVolume));
+    /// # Ok::<(), Refusal>(())
+    /// ```
+    pub fn is_read_only(&self) -> bool {
+        self.read_only
     }
 
     /// Blocks in all.

@@ -2,7 +2,7 @@
 
 use crate::args::{Call, Command};
 use crate::change::Change;
-use crate::fail::{Outcome, SOUND};
+use crate::fail::{Fail, Outcome, SOUND};
 use crate::show::json;
 use crate::show::term::say;
 use crate::words::{count, number};
@@ -22,7 +22,7 @@ fn run(call: &Call) -> Outcome<u8> {
     let path = call.volume(0);
     let mut change = Change::open(path, call.wait()?)?;
     let before = change.session.volume.free_nodes();
-    change.session.volume.merge();
+    change.session.volume.merge().map_err(|r| Fail::refused(&path.display().to_string(), r))?;
     let after = change.session.volume.free_nodes();
     change.save()?;
     let volume = path.to_string_lossy();

@@ -4,6 +4,7 @@ use crate::args::{Call, Command};
 use crate::fail::{Fail, Outcome, SOUND};
 use crate::show::taken::tell_change;
 use crate::words::{count, directories};
+use mukthiban::fat::BLOCK_LENS;
 use mukthiban::folder::{self, FolderError};
 use mukthiban::{Shape, Volume};
 
@@ -14,7 +15,7 @@ pub const COMMAND: Command = Command {
     most: 1,
     options: &[
         ("--blocks", "N", "blocks, 1 to 1,000,000"),
-        ("--block-len", "N", "bytes in a block, 1 to 65,536 (usually 512)"),
+        ("--block-len", "N", "bytes in a block, 512 or 4,096 (usually 512)"),
         ("--dirs", "N", "room for so many directories beside the root, 0 to 65,534 (usually 64)"),
         ("--files", "N", "room for so many files, 0 to 65,535 (usually 256)"),
         ("--buckets", "N", "hash buckets of each table, 1 to 65,536 (usually as many as suit the room for entries)"),
@@ -31,7 +32,7 @@ fn run(call: &Call) -> Outcome<u8> {
     let files = call.bounded("--files", Some(256), 0, 65_535)?;
     let shape = Shape {
         blocks: call.bounded("--blocks", None, 1, 1_000_000)?,
-        block_len: call.bounded("--block-len", Some(512), 1, 65_536)?,
+        block_len: block_len(call)?,
         dir_max: dirs + 2,
         file_max: files + 1,
         buckets: call.bounded("--buckets", Some(buckets(dirs.max(files))), 1, 65_536)?,
@@ -61,6 +62,14 @@ fn run(call: &Call) -> Outcome<u8> {
     );
     tell_change(call, "new", "made", &path.to_string_lossy(), &line)?;
     Ok(SOUND)
+}
+
+/// One of the block lengths in use: in a volume with another nothing could be put.
+fn block_len(call: &Call) -> Outcome<usize> {
+    match call.number("--block-len", Some(512))? {
+        n if BLOCK_LENS.contains(&n) => Ok(n),
+        n => Err(Fail::usage(format!("--block-len {n}: 512 or 4,096 is possible"))),
+    }
 }
 
 /// Buckets for so many entries, as consoles choose them: no fewer than entries, as far as there may be so many, and

@@ -221,7 +221,7 @@ impl Look<'_> {
 fn file_names(parts: &Parts) -> HashMap<u32, String> {
     let mut names = HashMap::new();
     // beside an empty block table they make a volume
-    let shape = Shape { blocks: 1, block_len: 1, dir_max: 2, file_max: 1, buckets: 1 };
+    let shape = Shape { blocks: 1, block_len: 512, dir_max: 2, file_max: 1, buckets: 1 };
     let Ok(empty) = Volume::new(shape) else { return names };
     let empty = empty.into_parts();
     let tables = parts.tables();

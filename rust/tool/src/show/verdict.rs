@@ -86,7 +86,9 @@ fn tested_text(call: &Call, session: &Session) -> String {
         out += format!("  {name:<12} {:>11}  {note}", number(n as u64)).trim_end();
         out.push('\n');
     };
-    line("blocks", volume.blocks(), format!("of {}", count(volume.parts().block_len as u64, "byte")));
+    let length = count(volume.parts().block_len as u64, "byte");
+    let read_only = if volume.is_read_only() { ", a length that is not in use: read-only" } else { "" };
+    line("blocks", volume.blocks(), format!("of {length}{read_only}"));
     line("free", volume.free(), String::new());
     let empty = format!("{} of them empty", number(counts.empty as u64));
     line("files", counts.files, if counts.empty > 0 { empty } else { String::new() });
@@ -144,6 +146,7 @@ fn tested_json(path: &Path, session: &Session) -> String {
             ("name", json::text("Done")),
             ("meaning", json::text("the tables are sound")),
             ("block_len", volume.parts().block_len.to_string()),
+            ("read_only", volume.is_read_only().to_string()),
             ("blocks", volume.blocks().to_string()),
             ("free", volume.free().to_string()),
             ("files", counts.files.to_string()),
@@ -218,6 +221,7 @@ fn refused_json(path: &Path, refusal: Refusal, sizes: &Sizes, hints: &Hints) -> 
             ("name", json::text(refusal.name())),
             ("meaning", json::text(refusal.meaning())),
             ("block_len", sizes.block_len.to_string()),
+            unknown("read_only"),
             ("blocks", sizes.blocks().to_string()),
             unknown("free"),
             unknown("files"),

@@ -19,7 +19,7 @@ impl Bench {
         Bench(folder)
     }
 
-    /// A bench with a small volume `v`: 40 blocks of 64 bytes, room for 4 directories and 6 files.
+    /// A bench with a small volume `v`: 40 blocks of 512 bytes, room for 4 directories and 6 files.
     pub fn with_volume() -> Bench {
         let bench = Bench::new();
         bench.done(&[
@@ -28,7 +28,7 @@ impl Bench {
             "--blocks",
             "40",
             "--block-len",
-            "64",
+            "512",
             "--dirs",
             "4",
             "--files",
@@ -134,8 +134,8 @@ pub fn noise(len: usize, seed: u32) -> Vec<u8> {
 /// A volume with two files of two blocks, at blocks 0 and 2.
 pub fn two_files() -> Bench {
     let b = Bench::with_volume();
-    b.host("one", &noise(100, 1));
-    b.host("two", &noise(100, 2));
+    b.host("one", &noise(600, 1));
+    b.host("two", &noise(600, 2));
     b.done(&["put", "v", "one", "one"]);
     b.done(&["put", "v", "two", "two"]);
     b

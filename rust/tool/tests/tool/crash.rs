@@ -27,7 +27,7 @@ fn cats(b: &Bench) -> Vec<Vec<u8>> {
 fn ready() -> Bench {
     let b = two_files();
     fs::write(b.at("v/notes.txt"), "battery swollen").unwrap();
-    b.host("three", &noise(300, 3));
+    b.host("three", &noise(2400, 3));
     b
 }
 

@@ -50,7 +50,7 @@ fn missing_and_short_files() {
         fs::write(b.at("v/block_len"), text).unwrap();
         b.fails(&["ls", "v"], 4);
     }
-    fs::write(b.at("v/block_len"), " 64 \n").unwrap();
+    fs::write(b.at("v/block_len"), " 512 \n").unwrap();
     b.done(&["check", "v"]);
 }
 
@@ -91,11 +91,11 @@ fn records_that_claim_one_chain() {
             said.contains(&format!("lifted with a mark, to out/{name}\\shared: /{name}: two files claim")),
             "{said}"
         );
-        assert_eq!(fs::read(b.at(&format!("out/{name}\\shared"))).unwrap(), noise(100, 1));
+        assert_eq!(fs::read(b.at(&format!("out/{name}\\shared"))).unwrap(), noise(600, 1));
         assert!(!b.at(&format!("out/{name}")).exists());
         assert!(b.fails(&["cat", "v", name], 4).contains("two files claim"));
     }
-    assert_eq!(fs::read(b.at("out/lost+found/block-2")).unwrap()[..100], noise(100, 2));
+    assert_eq!(fs::read(b.at("out/lost+found/block-2")).unwrap()[..600], noise(600, 2));
     assert!(b.done(&["map", "v"]).contains("lost chain from block 2"));
     assert!(b.done(&["ls", "v"]).contains("  one  (its record is wrong: see check)\n"));
 }
@@ -126,8 +126,8 @@ fn records_that_fit_no_chain() {
     assert_eq!(out.status.code(), Some(4));
     assert!(String::from_utf8(out.stderr).unwrap().contains("not lifted: /two: block 7"));
     assert!(!b.at("out").exists() && !b.at("out.part").exists());
-    b.poke("v/file_table.bin", 2 * 48 + 28, &[2, 0, 0, 0, 129]);
-    assert!(unsound(&b).contains("  - /two: 129 bytes, but its 2 blocks can hold only 128\n"));
+    b.poke("v/file_table.bin", 2 * 48 + 28, &[2, 0, 0, 0, 1, 4]);
+    assert!(unsound(&b).contains("  - /two: 1,025 bytes, but its 2 blocks can hold only 1,024\n"));
     b.poke("v/file_table.bin", 2 * 48 + 32, &[255; 8]);
     unsound(&b);
 }
@@ -144,7 +144,7 @@ fn the_audit_lists_every_kind() {
         b.poke("v/file_table.bin", inode * 48 + 28, &[block, 0, 0, 0]);
         b.poke("v/file_table.bin", inode * 48 + 32, &size.to_le_bytes());
     };
-    record(2, 0, 129);
+    record(2, 0, 1025);
     record(3, 10, 1); // the free chain's first
     record(4, 6, (1 << 32) + 1);
     record(5, 2, 0); // empty: it names no chain
@@ -152,9 +152,9 @@ fn the_audit_lists_every_kind() {
     assert_eq!(out.status.code(), Some(4));
     let expected = "7 findings  v
   2 /two: two files claim block 0: this one and /one
-  3 /two: 129 bytes, but its 2 blocks can hold only 128
+  3 /two: 1,025 bytes, but its 2 blocks can hold only 1,024
   1 /three: block 10, where it should begin, is no file's first block
-  3 /four: 4,294,967,297 bytes, but its 2 blocks can hold only 128
+  3 /four: 4,294,967,297 bytes, but its 2 blocks can hold only 1,024
   4 no file names the chain from block 2, 2 blocks; /five is empty, but begins there
   4 no file names the chain from block 4, 2 blocks
   4 no file names the chain from block 8, 2 blocks
@@ -178,21 +178,21 @@ fn what_is_remarkable_is_said_first_and_strict_counts_it() {
     assert_eq!((out.status.code(), String::from_utf8(out.stdout).unwrap()), (Some(4), text));
     let said = b.done(&["lift", "v", "out"]);
     assert!(said.contains("; 1 lost chain to lost+found/\n"), "{said}");
-    let mut whole = noise(100, 2);
-    whole.resize(128, 0);
+    let mut whole = noise(600, 2);
+    whole.resize(1024, 0);
     assert_eq!(fs::read(b.at("out/lost+found/block-2")).unwrap(), whole);
     assert_eq!(b.run(&["lift", "--strict", "v", "out2"]).status.code(), Some(4));
     assert!(b.at("out2/lost+found/block-2").exists());
 
     // A size that leaves whole blocks unused.
-    b.poke("v/file_table.bin", 2 * 48 + 32, &[64]);
+    b.poke("v/file_table.bin", 2 * 48 + 32, &[0, 2]);
     let text = b.done(&["check", "v"]);
     assert!(
-        text.starts_with("SOUND, 1 remark  v\n  ! /two: 64 bytes, but it has 2 blocks, which hold 128\n"),
+        text.starts_with("SOUND, 1 remark  v\n  ! /two: 512 bytes, but it has 2 blocks, which hold 1,024\n"),
         "{text}"
     );
     assert_eq!(b.run(&["check", "--strict", "v"]).status.code(), Some(4));
-    b.poke("v/file_table.bin", 2 * 48 + 32, &[65]);
+    b.poke("v/file_table.bin", 2 * 48 + 32, &[1, 2]);
     b.done(&["check", "--strict", "v"]);
 }
 
@@ -203,8 +203,8 @@ fn a_directory_named_lost_and_found_stays_what_it_is() {
     b.done(&["put", "v", "one", "lost+found/block-2"]);
     b.poke("v/file_table.bin", 2 * 48 + 32, &[0; 8]);
     b.done(&["lift", "v", "out"]);
-    assert_eq!(fs::read(b.at("out/lost+found/block-2")).unwrap(), noise(100, 1));
-    assert_eq!(fs::read(b.at("out/lost+found\\lost/block-2")).unwrap()[..100], noise(100, 2));
+    assert_eq!(fs::read(b.at("out/lost+found/block-2")).unwrap(), noise(600, 1));
+    assert_eq!(fs::read(b.at("out/lost+found\\lost/block-2")).unwrap()[..600], noise(600, 2));
 }
 
 #[test]
@@ -213,9 +213,9 @@ fn a_file_longer_than_its_blocks_is_lifted_as_far_as_they_go() {
     b.poke("v/file_table.bin", 2 * 48 + 32, &[255; 8]);
     let out = b.run(&["lift", "v", "out"]);
     assert_eq!(out.status.code(), Some(4));
-    assert_eq!(fs::read(b.at("out/two\\short")).unwrap()[..100], noise(100, 2));
-    assert_eq!(fs::read(b.at("out/two\\short")).unwrap().len(), 128);
-    assert_eq!(fs::read(b.at("out/one")).unwrap(), noise(100, 1));
+    assert_eq!(fs::read(b.at("out/two\\short")).unwrap()[..600], noise(600, 2));
+    assert_eq!(fs::read(b.at("out/two\\short")).unwrap().len(), 1024);
+    assert_eq!(fs::read(b.at("out/one")).unwrap(), noise(600, 1));
 }
 
 #[test]

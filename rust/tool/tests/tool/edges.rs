@@ -71,7 +71,7 @@ fn put_stops_at_the_room_that_is_there() {
     let before = tree(&b.at("v"));
     let out = b.run(&["put", "v", "sparse", "sparse"]);
     assert_eq!(out.status.code(), Some(8));
-    assert!(String::from_utf8(out.stderr).unwrap().contains("it needs 68,719,476,736 blocks, and 36 are free"));
+    assert!(String::from_utf8(out.stderr).unwrap().contains("it needs 8,589,934,592 blocks, and 36 are free"));
     assert_eq!(tree(&b.at("v")), before);
 }
 
@@ -109,9 +109,9 @@ fn every_wrong_word_is_16() {
 fn dots_name_directories() {
     let b = two_files();
     b.done(&["mkdir", "v", "d"]);
-    assert_eq!(b.done(&["put", "v", "one", "d/."]), "put /d/one: 100 bytes in 2 blocks\n");
+    assert_eq!(b.done(&["put", "v", "one", "d/."]), "put /d/one: 600 bytes in 2 blocks\n");
     b.done(&["rm", "v", "one"]);
-    assert_eq!(b.done(&["put", "v", "one", "."]), "put /one: 100 bytes in 2 blocks\n");
+    assert_eq!(b.done(&["put", "v", "one", "."]), "put /one: 600 bytes in 2 blocks\n");
     assert_eq!(b.done(&["mv", "v", "d/one", "d/../two2"]), "moved /d/one to /two2\n");
     assert!(b.done(&["ls", "v", "d/.."]).contains("two2"));
 }

@@ -58,7 +58,7 @@ fn broken_trees_are_explained() {
 #[test]
 fn every_fault_of_a_block_table_is_said() {
     let b = two_files();
-    b.host("three", &noise(100, 3));
+    b.host("three", &noise(600, 3));
     b.done(&["put", "v", "three", "three"]);
     // The ends of the first and of the third file's node, and the head.
     b.poke("v/fat.bin", 2 * 8, &[9, 9, 9, 9]);

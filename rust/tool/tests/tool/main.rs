@@ -10,6 +10,7 @@ mod layers;
 mod manual;
 mod many;
 mod person;
+mod read_only;
 mod safety;
 mod shapes;
 mod show;

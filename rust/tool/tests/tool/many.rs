@@ -21,7 +21,7 @@ fn a_full_table_of_files() {
         fs::write(b.at("src").join(format!("save{i}.dat")), i.to_string()).unwrap();
     }
     // Buckets are chosen for the files asked for.
-    let text = b.done(&["new", "v", "--blocks", "400000", "--block-len", "16", "--files", "65535"]);
+    let text = b.done(&["new", "v", "--blocks", "70000", "--block-len", "512", "--files", "65535"]);
     assert!(text.contains("65,535 files") && text.ends_with("65,531 buckets\n"), "{text}");
     quickly(&b, &["put", "v", "src/", "/"]);
     assert!(quickly(&b, &["check", "v"]).contains("files             65,535\n"));
@@ -35,7 +35,7 @@ fn a_full_table_of_files() {
 #[test]
 fn lift_goes_on_after_a_host_error() {
     let b = Bench::new();
-    b.done(&["new", "v", "--blocks", "40", "--block-len", "64"]);
+    b.done(&["new", "v", "--blocks", "40", "--block-len", "512"]);
     b.host("f", b"12345");
     // 16 bytes of any sort are a name, and so a shown name may be longer than the host takes below a long path.
     let deep: String = (0..16).map(|_| "\\xff").collect();

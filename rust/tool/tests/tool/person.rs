@@ -8,33 +8,33 @@ fn a_day_at_the_bench() {
     let b = Bench::with_volume();
     assert_eq!(
         b.done(&["check", "v"]),
-        "SOUND  v\n  blocks                40  of 64 bytes\n  free                  40\n  files                  0\n  \
+        "SOUND  v\n  blocks                40  of 512 bytes\n  free                  40\n  files                  0\n  \
          fragments              0\n  directories            1  the root included\n"
     );
-    b.host("one", &noise(300, 1));
-    b.host("two", &noise(100, 2));
+    b.host("one", &noise(2400, 1));
+    b.host("two", &noise(600, 2));
     b.host("empty", b"");
-    b.host("three", &noise(700, 3));
+    b.host("three", &noise(5500, 3));
     assert_eq!(b.done(&["mkdir", "v", "saves"]), "made /saves/\n");
-    assert_eq!(b.done(&["put", "v", "one", "saves/slot1"]), "put /saves/slot1: 300 bytes in 5 blocks\n");
-    assert_eq!(b.done(&["put", "v", "two", "/saves/"]), "put /saves/two: 100 bytes in 2 blocks\n");
+    assert_eq!(b.done(&["put", "v", "one", "saves/slot1"]), "put /saves/slot1: 2,400 bytes in 5 blocks\n");
+    assert_eq!(b.done(&["put", "v", "two", "/saves/"]), "put /saves/two: 600 bytes in 2 blocks\n");
     assert_eq!(b.done(&["put", "v", "empty", "saves"]), "put /saves/empty: 0 bytes in 0 blocks\n");
     assert_eq!(
         b.done(&["put", "--replace", "v", "three", "saves/slot1"]),
-        "put /saves/slot1: 700 bytes in 11 blocks\n"
+        "put /saves/slot1: 5,500 bytes in 11 blocks\n"
     );
     assert_eq!(
         b.done(&["ls", "v", "saves"]),
-        "size  blocks  fragments  name\n   0       0          0  empty\n 700      11          2  slot1\n 100       2          \
+        " size  blocks  fragments  name\n    0       0          0  empty\n5,500      11          2  slot1\n  600       2          \
          1  two\n"
     );
     assert_eq!(b.done(&["ls", "v"]), "size  blocks  fragments  name\n   -       -          -  saves/\n");
     assert!(b.done(&["ls", "--all", "v"]).contains("  /saves/slot1\n"));
-    assert_eq!(b.run(&["cat", "v", "saves/slot1"]).stdout, noise(700, 3));
+    assert_eq!(b.run(&["cat", "v", "saves/slot1"]).stdout, noise(5500, 3));
     assert_eq!(b.run(&["cat", "v", "saves/empty"]).stdout, b"");
     let map = b.done(&["map", "v"]);
     assert!(map.contains("\n 0  aaaaabbaaaaaa·····"), "{map}");
-    assert!(map.contains("  a  /saves/slot1: 700 bytes, 11 blocks, 2 fragments\n"), "{map}");
+    assert!(map.contains("  a  /saves/slot1: 5,500 bytes, 11 blocks, 2 fragments\n"), "{map}");
 
     assert_eq!(b.done(&["mv", "v", "saves/two", "zwei"]), "moved /saves/two to /zwei\n");
     assert_eq!(b.done(&["mv", "v", "zwei", "saves/"]), "moved /zwei to /saves/zwei\n");
@@ -43,9 +43,9 @@ fn a_day_at_the_bench() {
     assert!(b.done(&["check", "v"]).contains("free                  29\n"));
     assert_eq!(
         b.done(&["lift", "v", "out"]),
-        "lifted 2 files and 1 directory, 700 bytes, to out; all read back and equal\n"
+        "lifted 2 files and 1 directory, 5,500 bytes, to out; all read back and equal\n"
     );
-    assert_eq!(fs::read(b.at("out/games/slot1")).unwrap(), noise(700, 3));
+    assert_eq!(fs::read(b.at("out/games/slot1")).unwrap(), noise(5500, 3));
     assert_eq!(fs::read(b.at("out/games/empty")).unwrap(), b"");
 
     // Replacing by less, by nothing, and by something again.
@@ -54,7 +54,7 @@ fn a_day_at_the_bench() {
     b.done(&["put", "v", "empty", "games/slot1", "--replace"]);
     assert!(b.done(&["check", "v"]).contains("free                  40\n"));
     b.done(&["put", "v", "one", "games/slot1", "--replace"]);
-    assert_eq!(b.run(&["cat", "v", "games/slot1"]).stdout, noise(300, 1));
+    assert_eq!(b.run(&["cat", "v", "games/slot1"]).stdout, noise(2400, 1));
 
     b.done(&["rm", "v", "games/slot1"]);
     b.done(&["rm", "v", "games/empty"]);
@@ -66,7 +66,7 @@ fn a_day_at_the_bench() {
 fn free_neighbours_are_merged() {
     let b = Bench::with_volume();
     for (place, blocks) in [2, 3, 2, 1].into_iter().enumerate() {
-        b.host("f", &noise(64 * blocks, place as u32));
+        b.host("f", &noise(512 * blocks, place as u32));
         b.done(&["put", "v", "f", &format!("f{place}")]);
     }
     for file in ["f1", "f0", "f2"] {
@@ -84,7 +84,7 @@ fn free_neighbours_are_merged() {
         "{\"version\": 1, \"command\": \"merge\", \"volume\": \"v\", \"free_nodes_before\": [[0, 7], [8, 32]], \"free_nodes\": [[0, 7], [8, 32]]}\n"
     );
     // what was in pieces before is one now
-    b.host("f", &noise(64 * 7, 9));
+    b.host("f", &noise(512 * 7, 9));
     b.done(&["put", "v", "f", "whole"]);
     assert!(b.done(&["ls", "v"]).contains("         1  whole\n"));
     assert!(b.fails(&["merge", "w"], 8).contains("w: no such volume"));
@@ -120,8 +120,8 @@ fn wrong_usage_is_16() {
 #[test]
 fn bad_input_is_8_and_changes_nothing() {
     let b = Bench::with_volume();
-    b.host("big", &noise(64 * 40 + 1, 1));
-    b.host("two", &noise(100, 2));
+    b.host("big", &noise(512 * 40 + 1, 1));
+    b.host("two", &noise(600, 2));
     b.done(&["mkdir", "v", "d"]);
     b.done(&["put", "v", "two", "d/two"]);
 
@@ -161,6 +161,8 @@ fn bad_input_is_8_and_changes_nothing() {
         ("--blocks", "0"),
         ("--blocks", "1000001"),
         ("--block-len", "0"),
+        ("--block-len", "511"),
+        ("--block-len", "1024"),
         ("--block-len", "65537"),
         ("--dirs", "65535"),
         ("--files", "65536"),
@@ -173,7 +175,7 @@ fn bad_input_is_8_and_changes_nothing() {
 #[test]
 fn full_tables() {
     let b = Bench::new();
-    b.done(&["new", "v", "--blocks", "4", "--block-len", "16", "--dirs", "0", "--files", "1", "--buckets", "1"]);
+    b.done(&["new", "v", "--blocks", "4", "--block-len", "512", "--dirs", "0", "--files", "1", "--buckets", "1"]);
     b.host("f", b"12345");
     b.done(&["put", "v", "f", "f"]);
     let line = b.fails(&["put", "v", "f", "g"], 8);
@@ -209,7 +211,7 @@ fn names_that_are_no_text() {
 /// A volume with the files a, b and c and the directory d, all hashed to one bucket, so that a name can be changed in place.
 fn one_bucket() -> Bench {
     let b = Bench::new();
-    b.done(&["new", "v", "--blocks", "9", "--block-len", "16", "--dirs", "3", "--files", "5", "--buckets", "1"]);
+    b.done(&["new", "v", "--blocks", "9", "--block-len", "512", "--dirs", "3", "--files", "5", "--buckets", "1"]);
     b.host("f", b"12345");
     ["a", "b", "c"].iter().for_each(|name| drop(b.done(&["put", "v", "f", name])));
     b.done(&["mkdir", "v", "d"]);
@@ -219,7 +221,7 @@ fn one_bucket() -> Bench {
 #[test]
 fn new_names_are_judged() {
     let b = one_bucket();
-    b.done(&["new", "w", "--blocks", "9", "--block-len", "16", "--dirs", "3", "--files", "5", "--buckets", "1"]);
+    b.done(&["new", "w", "--blocks", "9", "--block-len", "512", "--dirs", "3", "--files", "5", "--buckets", "1"]);
     for (name, what) in [("\\x00", "empty or begin with a zero byte"), ("x\\x00y", "a byte behind a zero one")] {
         for words in [
             &["put", "v", "f", name][..],

@@ -22,7 +22,7 @@ fn json_is_json() {
     assert_eq!(entries.len(), 4);
     assert_eq!(entries[0].get("name"), &json::Value::Text("\\x01\\x5c".into()));
     assert_eq!(entries[1].get("name"), &json::Value::Text("a\"b".into()));
-    assert_eq!(entries[2].get("size"), &json::Value::Number(100.0));
+    assert_eq!(entries[2].get("size"), &json::Value::Number(600.0));
     let map = json::parse(&b.done(&["map", "--json", "v"]));
     let json::Value::List(files) = map.get("entries") else { panic!("a list") };
     assert_eq!(files.len(), 4);
@@ -34,7 +34,7 @@ fn json_is_json() {
 fn maps_of_all_sizes() {
     let b = Bench::new();
     b.host("f", &noise(5000, 1));
-    for (n, block_len) in [(1, 5000), (40, 512), (500, 64), (5000, 16), (1_000_000, 1)] {
+    for (n, block_len) in [(2, 4096), (40, 512), (500, 512), (5000, 4096), (1_000_000, 512)] {
         let (name, svg) = (format!("v{n}"), format!("{n}.svg"));
         b.done(&["new", &name, "--blocks", &n.to_string(), "--block-len", &block_len.to_string()]);
         b.done(&["put", &name, "f", "<f> & \"g\""]);
@@ -61,10 +61,10 @@ fn colours_are_for_terminals_only() {
 #[test]
 fn each_sign_has_one_line_of_the_legend() {
     let b = Bench::new();
-    b.done(&["new", "v", "--blocks", "900", "--block-len", "16", "--files", "100"]);
+    b.done(&["new", "v", "--blocks", "900", "--block-len", "512", "--files", "100"]);
     fs::create_dir(b.at("src")).unwrap();
     for i in 0..100 {
-        b.host(&format!("src/f{i:02}"), &noise(16 + i * 2 % 90, 1));
+        b.host(&format!("src/f{i:02}"), &noise(32 * (16 + i * 2 % 90), 1));
     }
     b.done(&["put", "v", "src/", "/"]);
     b.done(&["put", "v", "src/f99", "src/f98", "/", "--replace"]);

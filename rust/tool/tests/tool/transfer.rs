@@ -7,14 +7,14 @@ use std::fs;
 fn folder(b: &Bench) {
     fs::create_dir_all(b.at("src/saves/old")).unwrap();
     fs::create_dir(b.at("src/empty")).unwrap();
-    b.host("src/saves/slot1", &noise(300, 1));
+    b.host("src/saves/slot1", &noise(2400, 1));
     b.host("src/saves/old/slot0", &noise(10, 2));
     b.host("src/saves/nothing", b"");
     b.host("src/icon", &noise(64, 3));
 }
 
 fn roomy(b: &Bench, name: &str) {
-    b.done(&["new", name, "--blocks", "100", "--block-len", "64"]);
+    b.done(&["new", name, "--blocks", "100", "--block-len", "512"]);
 }
 
 #[test]
@@ -22,7 +22,7 @@ fn put_is_the_inverse_of_lift() {
     let b = Bench::new();
     folder(&b);
     roomy(&b, "v");
-    assert_eq!(b.done(&["put", "v", "src/", "/"]), "put 4 files and 3 directories: 374 bytes in 7 blocks\n");
+    assert_eq!(b.done(&["put", "v", "src/", "/"]), "put 4 files and 3 directories: 2,474 bytes in 7 blocks\n");
     b.done(&["lift", "v", "out"]);
     assert_eq!(tree(&b.at("out")), tree(&b.at("src")));
     roomy(&b, "w");
@@ -37,7 +37,7 @@ fn put_is_the_inverse_of_lift() {
     assert!(b.fails(&["put", "w", "src/", "/"], 8).contains("/icon: there is such a file; --replace would change it"));
     assert_eq!(
         b.done(&["put", "--replace", "w", "src/", "/"]),
-        "put 4 files and 0 directories: 374 bytes in 7 blocks\n"
+        "put 4 files and 0 directories: 2,474 bytes in 7 blocks\n"
     );
 }
 
@@ -45,7 +45,7 @@ fn put_is_the_inverse_of_lift() {
 fn marks_of_lift_are_read_back() {
     let b = two_files();
     b.done(&["mkdir", "v", "one"]);
-    b.poke("v/file_table.bin", 2 * 48 + 32, &[200]);
+    b.poke("v/file_table.bin", 2 * 48 + 32, &[1, 4]);
     assert_eq!(b.run(&["lift", "v", "out"]).status.code(), Some(4));
     assert!(b.at("out/one\\file").exists() && b.at("out/two\\short").exists());
     roomy(&b, "w");
@@ -91,11 +91,11 @@ fn one_path_is_lifted() {
     b.done(&["put", "v", "src/", "/"]);
     assert_eq!(
         b.done(&["lift", "v", "out", "saves"]),
-        "lifted 3 files and 1 directory, 310 bytes, to out; all read back and equal\n"
+        "lifted 3 files and 1 directory, 2,410 bytes, to out; all read back and equal\n"
     );
     assert_eq!(tree(&b.at("out")), tree(&b.at("src/saves")));
     b.done(&["lift", "v", "slot", "saves/slot1"]);
-    assert_eq!(fs::read(b.at("slot")).unwrap(), noise(300, 1));
+    assert_eq!(fs::read(b.at("slot")).unwrap(), noise(2400, 1));
     assert!(b.fails(&["lift", "v", "x", "saves/slot2"], 8).contains("no such"));
     assert_eq!(b.done(&["lift", "--quiet", "v", "y", "empty/"]), "");
     assert!(fs::read_dir(b.at("y")).unwrap().next().is_none());
@@ -128,14 +128,14 @@ fn from_one_volume_to_another() {
     let icon = table.chunks(48).position(|e| e[4..20] == *b"icon\0\0\0\0\0\0\0\0\0\0\0\0").unwrap();
     b.poke("v/file_table.bin", icon * 48 + 24, &[1, 2, 3, 4]);
     b.poke("v/file_table.bin", icon * 48 + 40, &[5, 6, 7, 8]);
-    assert_eq!(b.done(&["cp", "v", "/", "w", "/"]), "cp 4 files and 3 directories: 374 bytes in 3 blocks\n");
+    assert_eq!(b.done(&["cp", "v", "/", "w", "/"]), "cp 4 files and 3 directories: 2,474 bytes in 7 blocks\n");
     b.done(&["lift", "w", "out"]);
     assert_eq!(tree(&b.at("out")), tree(&b.at("src")));
     let table = fs::read(b.at("w/file_table.bin")).unwrap();
     let entry = table.chunks(48).find(|e| e[4..20] == *b"icon\0\0\0\0\0\0\0\0\0\0\0\0").unwrap();
     assert_eq!((&entry[24..28], &entry[40..44]), (&[1, 2, 3, 4][..], &[5, 6, 7, 8][..]));
 
-    assert_eq!(b.done(&["cp", "v", "saves/slot1", "w", "empty/"]), "cp /empty/slot1: 300 bytes in 1 block\n");
+    assert_eq!(b.done(&["cp", "v", "saves/slot1", "w", "empty/"]), "cp /empty/slot1: 2,400 bytes in 5 blocks\n");
     assert!(b.fails(&["cp", "v", "icon", "w", "/"], 8).contains("AlreadyExist 11"));
     b.done(&["cp", "--replace", "v", "icon", "w", "/"]);
     b.done(&["cp", "v", "saves/old", "w", "older"]);
@@ -158,7 +158,7 @@ fn what_is_wrong_is_not_copied() {
     let out = b.run(&["cp", "v", "/", "w", "/"]);
     assert_eq!(out.status.code(), Some(4));
     assert!(String::from_utf8(out.stderr).unwrap().contains("not copied: /two: block 7, where it should begin"));
-    assert_eq!(b.run(&["cat", "w", "one"]).stdout, noise(100, 1));
+    assert_eq!(b.run(&["cat", "w", "one"]).stdout, noise(600, 1));
     assert!(b.fails(&["cat", "w", "two"], 8).contains("no such"));
 }
 
