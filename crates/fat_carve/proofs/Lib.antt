@@ -1,2 +1,4 @@
 pub mod Totals
 pub mod Relaid
+pub mod Carves
+pub mod Examples

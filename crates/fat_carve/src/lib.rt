@@ -1,1 +1,1 @@
-// Chains laid anew: how many blocks they have, and which entries a step that lays them may write. Definitions and laws, and no code.
+// Chains laid anew, and a window of blocks taken out of a chain in place. Definitions and laws, and no code.
