@@ -87,7 +87,7 @@ module _ (t : Bytes) (d l : ℕ) (more : List (Row Answer)) (work work′ : List
         (subst (GateWith (Uneven t d l) t l more work work′) e g)))
 
     -- it is open, and the call that requires soundness, of n blocks, gives o by its own rows
-    passed : (own : ℕ → List (Row A)) (done : ℕ → A) (free files n : ℕ) (o : A) → r ≡ Open free files → n ≡ blocks t → First (own n) (done n) o
+    pub passed : (own : ℕ → List (Row A)) (done : ℕ → A) (free files n : ℕ) (o : A) → r ≡ Open free files → n ≡ blocks t → First (own n) (done n) o
         → Says (own (blocks t)) (done (blocks t)) (beside o work′)
     passed own done free files n o e q p =
         let v : OpenedWith (Uneven t d l) t l more work work′ free files = subst (GateWith (Uneven t d l) t l more work work′) e g in

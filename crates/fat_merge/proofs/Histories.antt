@@ -30,14 +30,14 @@ use Rattle.fat_merge.proofs.Merges.{merge-whole}
 use Rattle.fat_merge.proofs.Means.{merge-means}
 
 -- a whole table of at least one block
-abbrev Stands : Bytes → Type 0
+abbrev pub Stands : Bytes → Type 0
 Stands t = Whole (blocks t) t × (1 ≤ blocks t)
 
 -- a step from such a table leaves one
-next : (t t′ x : Bytes) → 1 ≤ blocks t → Whole (blocks t) t′ → x ≡ t′ → Stands x
+pub next : (t t′ x : Bytes) → 1 ≤ blocks t → Whole (blocks t) t′ → x ≡ t′ → Stands x
 next t t′ x s h e = subst⁻¹ Stands e (as-blocks (blocks t) t′ h, omega (arith, s, blocks-of (blocks t) t′ (h .room)))
 
-history-stands : {t : Bytes} → MergeHistory t → Stands t
+pub history-stands : {t : Bytes} → MergeHistory t → Stands t
 history-stands (plain k t h) = run-whole h
 history-stands (creates t v d l work count o p e) =
     let i = history-stands v in
@@ -61,7 +61,7 @@ history-stands (merges t v l work o p e) =
     next t (merged (blocks t) t) (o .given .table) (i .1) (merge-whole (blocks t) t (i .0)) (ap (λ (x : Beside Change). x .given .table) (w .is))
 
 -- a table that agrees with a whole one is sound
-agrees-sound : (t t′ : Bytes) → Whole (blocks t′) t′ → Agree (blocks t) t t′ → Sound t (blocks t)
+pub agrees-sound : (t t′ : Bytes) → Whole (blocks t′) t′ → Agree (blocks t) t t′ → Sound t (blocks t)
 agrees-sound t t′ w a =
     let e : blocks t′ ≡ blocks t = ap (λ (x : ℕ). x / 8 - 1) (sym (a .room)) in
     let h : Whole (blocks t) t′ = subst (λ (m : ℕ). Whole m t′) e w in

@@ -67,10 +67,10 @@ module _ (n : ℕ) (t : Bytes) (w : List ℕ) (f b : ℕ) (v : Skipping n t w f 
 
 -- over marked nodes ------------------------------------------------------------------------------------------
 
-record OnPass (n : ℕ) (t : Bytes) (w : List ℕ) (c : ℕ → ℕ) (f b : ℕ) : Type 0 where
-  from : f ≤ b
-  ahead : Ahead n t w c b
-  same : stretches (n - f) f c ≡ ahead-of (b - f) f (stretches (n - b) b c)
+pub record OnPass (n : ℕ) (t : Bytes) (w : List ℕ) (c : ℕ → ℕ) (f b : ℕ) : Type 0 where
+  pub from : f ≤ b
+  pub ahead : Ahead n t w c b
+  pub same : stretches (n - f) f c ≡ ahead-of (b - f) f (stretches (n - b) b c)
 
 -- from block f with the marks w₀ the loop came to block b, with the marks w
 pub record Passing (n : ℕ) (t : Bytes) (w₀ : List ℕ) (f : ℕ) (w : List ℕ) (b : ℕ) : Type 0 where
@@ -106,7 +106,7 @@ swept-more f b s w₀ w w′ h some low v e z =
       behind = λ x p. other x (λ u. omega (arith, u, p, some)) ∙ v .behind x (omega (arith, p));
     }
 
-pass-more : (n f b s : ℕ) (c : ℕ → ℕ) → f ≤ b → stretches (n - f) f c ≡ ahead-of (b - f) f (stretches (n - b) b c)
+pub pass-more : (n f b s : ℕ) (c : ℕ → ℕ) → f ≤ b → stretches (n - f) f c ≡ ahead-of (b - f) f (stretches (n - b) b c)
     → stretches (n - b) b c ≡ ahead-of s b (stretches (n - (b + s)) (b + s) c)
     → stretches (n - f) f c ≡ ahead-of (b + s - f) f (stretches (n - (b + s)) (b + s) c)
 pass-more n f b s c h p q =
@@ -115,7 +115,7 @@ pass-more n f b s c h p q =
     ∙ ap (ahead-of (b - f) f) (q ∙ ap (λ (y : ℕ). ahead-of s y (stretches (n - (b + s)) (b + s) c)) e)
     ∙ ahead-of-add (b - f) s (b + s - f) f (stretches (n - (b + s)) (b + s) c) (omega arith)
 
-pass-one : (n : ℕ) (t : Bytes) (w : List ℕ) (c : ℕ → ℕ) (f b : ℕ) → OnPass n t w c f b → f < b → (b < n → getD w b 0 ≡ 0) → Passed n t w c f b
+pub pass-one : (n : ℕ) (t : Bytes) (w : List ℕ) (c : ℕ → ℕ) (f b : ℕ) → OnPass n t w c f b → f < b → (b < n → getD w b 0 ≡ 0) → Passed n t w c f b
 pass-one n t w c f b o h g =
     let e : b ≡ f + (b - f) = omega arith in
     record {

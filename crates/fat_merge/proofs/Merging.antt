@@ -36,7 +36,7 @@ module _ (n : ℕ) (t : Bytes) (w₀ w : List ℕ) (v : Volume n t) (g : words.B
         subst⁻¹ (λ (l : List ℕ). Ahead n t l (colour n t) 0) (m ∙ ap (marks (freeAt n t)) z)
         (marked-ahead n t (whole-of n t v g))
 
-    marked-long : length w ≡ n
+    pub marked-long : length w ≡ n
     marked-long = ap (λ (l : List ℕ). length l) m ∙ length-marks (freeAt n t) w₀ ∙ merge-long n w₀ z
 
     pub merge-reading : Reading n t w 0

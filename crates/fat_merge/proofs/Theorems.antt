@@ -209,7 +209,7 @@ module _ (t : Bytes) (l : ℕ) (work : List ℕ) (o : Beside Change) (g : AreByt
 
 module _ (n l b : ℕ) (t d : Bytes) (w : Whole n t) (i : File t n b) where
   -- a run after a run
-  on : (t₁ d₁ t′ d′ : Bytes) → Still n l b t d t₁ d₁ → Still n l b t₁ d₁ t′ d′ → Still n l b t d t′ d′
+  pub on : (t₁ d₁ t′ d′ : Bytes) → Still n l b t d t₁ d₁ → Still n l b t₁ d₁ t′ d′ → Still n l b t d t′ d′
   on t₁ d₁ t′ d′ s r = record {
     whole = r .whole;
     long = r .long ∙ s .long;
@@ -231,7 +231,7 @@ module _ (n l b : ℕ) (t d : Bytes) (w : Whole n t) (i : File t n b) where
       (record { whole = laws.merge-whole n t₁ (s .whole); long = s .long; file = f .file; same = f .same ∙ s .same; bytes = s .bytes }))
       (merge-cases t₁ l work o (s .whole .bytes) p)
 
-  still-calls : {t′ d′ : Bytes} → Calls l b t d t′ d′ → Still n l b t d t′ d′
+  pub still-calls : {t′ d′ : Bytes} → Calls l b t d t′ d′ → Still n l b t d t′ d′
   still-calls (away t′ d′ a) = still n l b t d w i a
   still-calls (merges t₁ d₁ t′ d′ c work o p a) =
       let s : Still n l b t d (o .given .table) d₁ = merge-on t₁ d₁ (still-calls c) work o p in

@@ -17,7 +17,7 @@ use fat_test::Gated;
 use order::Answer;
 
 // Marks the first block of every free node, along the free chain.
-fn mark(table: &[u8], n: usize, work: &mut [u32])
+pub fn mark(table: &[u8], n: usize, work: &mut [u32])
     requires { ⌜ Volume n (now table) ⌝ }
     requires { ⌜ length (now work) ≡ n ⌝ }
     ensures { λ _. ⌜ now (work .exit) ≡ marks (freeAt n (now (table .entry))) (now (work .entry)) ⌝ }
@@ -31,7 +31,7 @@ fn mark(table: &[u8], n: usize, work: &mut [u32])
 }
 
 // The size of the node that stands at block b.
-fn size_at(table: &[u8], n: usize, b: usize) -> usize
+pub fn size_at(table: &[u8], n: usize, b: usize) -> usize
     requires { ⌜ Here n (now table) b ⌝ }
     ensures { λ r. ⌜ NodeAt (now (table .entry)) n b r ⌝ }
 {
@@ -39,7 +39,7 @@ fn size_at(table: &[u8], n: usize, b: usize) -> usize
 }
 
 // The first marked block from a node's start on, hopping by node; n where there is none.
-fn skip(table: &[u8], n: usize, work: &[u32], from: usize) -> usize
+pub fn skip(table: &[u8], n: usize, work: &[u32], from: usize) -> usize
     requires { ⌜ Reading n (now table) (now work) «from» ⌝ }
     ensures { λ r. ⌜ ((c : ℕ → ℕ) → Ahead n (now (table .entry)) (now (work .entry)) c «from» → Skipped n (now (table .entry)) (now (work .entry)) c «from» r) ⌝ }
 {

@@ -1,0 +1,10 @@
+pub mod Reading
+pub mod Counted
+pub mod Sweeps
+pub mod Judges
+pub mod Lowest
+pub mod Finds
+pub mod May
+pub mod Public
+pub mod Theorems
+pub mod Examples

@@ -1,0 +1,3 @@
+pub mod Plan
+pub mod Promise
+pub mod inner
