@@ -1,0 +1,9 @@
+pub mod Bytes
+pub mod Copies
+pub mod Steps
+pub mod Public
+pub mod Means
+pub mod Moved
+pub mod Theorems
+pub mod Histories
+pub mod Examples
