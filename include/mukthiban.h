@@ -122,6 +122,36 @@ mukthiban_plain mukthiban_fat_write_blocks(uint8_t *data, size_t data_len, size_
                                            const uint32_t *list, size_t list_len, size_t pos,
                                            const uint8_t *buf, size_t buf_len);
 
+/* ---- Plans that make a file whole ----
+ * A plan is a list of moves, two places each: a source block, then a target block. It is accepted for a file when its sources
+ * are the file's blocks in file order, one move a block, and its targets are consecutive, rising and all free. */
+
+/* Checks a plan for the file at first_block: is it accepted? Changes nothing. Answers 1, 2, 3, 4, 5, 2 (not accepted, an odd
+ * number of places included). */
+mukthiban_answered mukthiban_plan_check(const uint8_t *table, size_t table_len,
+                                        const uint8_t *data, size_t data_len, size_t block_len,
+                                        uint32_t *work, size_t work_len,
+                                        size_t first_block,
+                                        const uint32_t *plan, size_t plan_len);
+
+/* Applies a plan: the file's bytes are copied to the targets, which become its one node, and its old nodes go to the front of
+ * the free chain. Every other file stays. The file's first block is then first_block of the answer. Answers 1, 2, 3, 4, 20, 5,
+ * 2 (not accepted), and then changes nothing. */
+mukthiban_created mukthiban_plan_apply(uint8_t *table, size_t table_len,
+                                       uint8_t *data, size_t data_len, size_t block_len,
+                                       uint32_t *work, size_t work_len,
+                                       size_t first_block,
+                                       const uint32_t *plan, size_t plan_len);
+
+/* Finds a plan for the file at first_block, to the lowest blocks of which enough are free in a row, and writes it to list.
+ * Places of list past it stay. Such a plan is accepted as long as the table stays. Answers 1, 2, 3, 4, 5, 6 (nowhere are so
+ * many free in a row), 8 (fewer than two places a block). */
+mukthiban_planned mukthiban_plan_find(const uint8_t *table, size_t table_len,
+                                      const uint8_t *data, size_t data_len, size_t block_len,
+                                      uint32_t *work, size_t work_len,
+                                      size_t first_block,
+                                      uint32_t *list, size_t list_len);
+
 /* ---- The entry tables ---- */
 
 /* Makes an empty tree: the root directory alone. dir_max (2 to 65,536) and file_max (1 to 65,536) are the

@@ -19,7 +19,7 @@
  *
  * Each answers what the call of the same name in mukthiban.h answers on such
  * input, with the same bytes changed, in the order that stands at it. There is
- * no work list, but for the merge and the audit.
+ * no work list, but for the merge, the plans and the audit.
  */
 #ifndef MUKTHIBAN_TESTED_H
 #define MUKTHIBAN_TESTED_H
@@ -83,6 +83,30 @@ mukthiban_audited mukthiban_tested_volume_audit(const uint8_t *table, size_t tab
                                                 const uint8_t *file_table, size_t file_table_len,
                                                 uint32_t *work, size_t work_len,
                                                 uint32_t *list, size_t list_len);
+
+/* ---- Plans that make a file whole ---- */
+
+/* Checks a plan. Answers 5, 2 (not accepted).
+ * Requires: a sound table of n blocks; work_len = n, and every place of work is 0. They are 0 on return. */
+mukthiban_answered mukthiban_tested_plan_check(const uint8_t *table, size_t table_len, size_t n,
+                                               uint32_t *work, size_t work_len,
+                                               size_t first_block,
+                                               const uint32_t *plan, size_t plan_len);
+
+/* Applies a plan. Answers 20, 5, 2 (not accepted).
+ * Requires: a sound table of n blocks and data that fit; work_len = n, and every place of work is 0. They are 0 on return. */
+mukthiban_created mukthiban_tested_plan_apply(uint8_t *table, size_t table_len, size_t n,
+                                              uint8_t *data, size_t data_len, size_t block_len,
+                                              uint32_t *work, size_t work_len,
+                                              size_t first_block,
+                                              const uint32_t *plan, size_t plan_len);
+
+/* Finds a plan. Answers 5, 6, 8.
+ * Requires: a sound table of n blocks; work_len = n, and every place of work is 0. They are 0 on return. */
+mukthiban_planned mukthiban_tested_plan_find(const uint8_t *table, size_t table_len, size_t n,
+                                             uint32_t *work, size_t work_len,
+                                             size_t first_block,
+                                             uint32_t *list, size_t list_len);
 
 /* ---- The entry tables ---- */
 

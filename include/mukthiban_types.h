@@ -116,6 +116,14 @@ typedef struct {
     uint32_t rule;
 } mukthiban_audited;
 
+/* Find of a plan: how many moves it has; the lent list holds two places for each. */
+typedef struct {
+    uint32_t answer;
+    size_t count;
+    size_t entry;
+    uint32_t rule;
+} mukthiban_planned;
+
 /* Listing: how many places of the lent list hold the directory's children. */
 typedef struct {
     uint32_t answer;

@@ -118,6 +118,54 @@ static void blocks(void)
     EXPECT(mukthiban_fat_delete(FAT, DATA, WORK, 2).answer == MUKTHIBAN_BROKEN_FAT);
 }
 
+/* A file of block 1, beside the free blocks 0, 2 and 3: planned, checked, moved, and grown until nothing is left in a row. */
+static void plans(void)
+{
+    static const uint32_t to_three[2] = {1, 3}, foreign[2] = {0, 3}, used[2] = {1, 1};
+    mukthiban_planned planned;
+    mukthiban_created created;
+
+    EXPECT(mukthiban_fat_format(FAT).answer == MUKTHIBAN_DONE);
+    EXPECT(mukthiban_fat_create(FAT, DATA, WORK, 1).first_block == 0);
+    EXPECT(mukthiban_fat_create(FAT, DATA, WORK, 1).first_block == 1);
+    EXPECT(mukthiban_fat_delete(FAT, DATA, WORK, 0).answer == MUKTHIBAN_DONE);
+    data[LENGTH] = 9;
+    data[2 * LENGTH - 1] = 8;
+
+    list[2] = 77;
+    planned = mukthiban_plan_find(FAT, DATA, WORK, 1, LIST);
+    EXPECT(planned.answer == MUKTHIBAN_DONE && planned.count == 1);
+    EXPECT(list[0] == 1 && list[1] == 0 && list[2] == 77);
+    EXPECT(mukthiban_plan_check(FAT, DATA, WORK, 1, list, 2).answer == MUKTHIBAN_DONE);
+    EXPECT(mukthiban_plan_find(FAT, DATA, WORK, 1, list, 1).answer == MUKTHIBAN_LIST_TOO_SHORT);
+    EXPECT(mukthiban_plan_find(FAT, DATA, WORK, 0, LIST).answer == MUKTHIBAN_NOT_A_FILE);
+    EXPECT(mukthiban_plan_find(table, 7, DATA, WORK, 1, LIST).answer == MUKTHIBAN_SIZE_MISMATCH);
+    EXPECT(mukthiban_plan_find(table, 8, data, 0, LENGTH, WORK, 1, LIST).answer == MUKTHIBAN_INVALID_VALUE);
+    EXPECT(mukthiban_plan_find(FAT, DATA, work, 3, 1, LIST).answer == MUKTHIBAN_WORK_TOO_SHORT);
+
+    EXPECT(mukthiban_plan_check(FAT, DATA, WORK, 1, to_three, 2).answer == MUKTHIBAN_DONE);
+    EXPECT(mukthiban_plan_check(FAT, DATA, WORK, 1, to_three, 1).answer == MUKTHIBAN_INVALID_VALUE);
+    EXPECT(mukthiban_plan_check(FAT, DATA, WORK, 1, foreign, 2).answer == MUKTHIBAN_INVALID_VALUE);
+    EXPECT(mukthiban_plan_check(FAT, DATA, WORK, 1, used, 2).answer == MUKTHIBAN_INVALID_VALUE);
+    EXPECT(mukthiban_plan_check(FAT, DATA, WORK, 2, to_three, 2).answer == MUKTHIBAN_NOT_A_FILE);
+    EXPECT(mukthiban_plan_check(FAT, data, sizeof data - 1, LENGTH, WORK, 1, to_three, 2).answer == MUKTHIBAN_SIZE_MISMATCH);
+    EXPECT(mukthiban_plan_check(FAT, DATA, work, 3, 1, to_three, 2).answer == MUKTHIBAN_WORK_TOO_SHORT);
+
+    EXPECT(mukthiban_plan_apply(FAT, DATA, WORK, 1, used, 2).answer == MUKTHIBAN_INVALID_VALUE);
+    EXPECT(mukthiban_plan_apply(FAT, DATA, WORK, 0, to_three, 2).answer == MUKTHIBAN_NOT_A_FILE);
+    EXPECT(mukthiban_plan_apply(FAT, data, sizeof data - 1, LENGTH, WORK, 1, to_three, 2).answer == MUKTHIBAN_SIZE_MISMATCH);
+    EXPECT(mukthiban_plan_apply(FAT, DATA, work, 3, 1, to_three, 2).answer == MUKTHIBAN_WORK_TOO_SHORT);
+    created = mukthiban_plan_apply(FAT, DATA, WORK, 1, to_three, 2);
+    EXPECT(created.answer == MUKTHIBAN_DONE && created.first_block == 3);
+    EXPECT(data[3 * LENGTH] == 9 && data[4 * LENGTH - 1] == 8);
+    /* the free chain is 1, 0, 2: the old block in front, block 3 cut out in its place */
+    EXPECT(table[4] == 2);
+    EXPECT(mukthiban_fat_resize(FAT, DATA, WORK, 3, 3).answer == MUKTHIBAN_DONE);
+    EXPECT(mukthiban_fat_open_list(FAT, DATA, WORK, 3, LIST).count == 3);
+    EXPECT(list[0] == 3 && list[1] == 1 && list[2] == 0);
+    EXPECT(mukthiban_plan_find(FAT, DATA, WORK, 3, list, 0).answer == MUKTHIBAN_NO_SPACE);
+}
+
 /* A block length that is not in use: what would change something is refused, after soundness and before the call's own. */
 static void read_only(void)
 {
@@ -135,6 +183,10 @@ static void read_only(void)
     EXPECT(mukthiban_fat_write(FAT, data, 4 * OLD, OLD, WORK, 0, 0, buf, 0).answer == MUKTHIBAN_READ_ONLY_VOLUME);
     EXPECT(mukthiban_fat_write_blocks(data, 4 * OLD, OLD, first, 1, 0, buf, 1).answer == MUKTHIBAN_READ_ONLY_VOLUME);
     EXPECT(mukthiban_fat_merge(FAT, OLD, WORK).answer == MUKTHIBAN_READ_ONLY_VOLUME);
+    created = mukthiban_plan_apply(FAT, data, 4 * OLD, OLD, WORK, 9, LIST);
+    EXPECT(created.answer == MUKTHIBAN_READ_ONLY_VOLUME && created.first_block == 0);
+    EXPECT(mukthiban_plan_check(FAT, data, 4 * OLD, OLD, WORK, 0, LIST).answer == MUKTHIBAN_INVALID_VALUE);
+    EXPECT(mukthiban_plan_find(FAT, data, 4 * OLD, OLD, WORK, 0, LIST).answer == MUKTHIBAN_DONE);
     EXPECT(mukthiban_fat_read(FAT, data, 4 * OLD, OLD, WORK, 0, 2 * OLD - 1, buf, 1).answer == MUKTHIBAN_DONE);
     EXPECT(mukthiban_fat_read_blocks(data, 4 * OLD, OLD, first, 1, 0, buf, 1).answer == MUKTHIBAN_DONE);
     EXPECT(mukthiban_fat_open_list(FAT, data, 4 * OLD, OLD, WORK, 0, LIST).answer == MUKTHIBAN_DONE);
@@ -150,7 +202,9 @@ static void broken_at(size_t entry, uint32_t rule)
     mukthiban_tested tested = mukthiban_fat_test(FAT, WORK);
     mukthiban_created created = mukthiban_fat_create(FAT, DATA, WORK, 1);
     mukthiban_opened opened = mukthiban_fat_open_list(FAT, DATA, WORK, 0, LIST);
-    mukthiban_answered each[5];
+    mukthiban_created applied = mukthiban_plan_apply(FAT, DATA, WORK, 0, LIST);
+    mukthiban_planned planned = mukthiban_plan_find(FAT, DATA, WORK, 0, LIST);
+    mukthiban_answered each[6];
     int i;
 
     each[0] = mukthiban_fat_resize(FAT, DATA, WORK, 0, 1);
@@ -158,13 +212,18 @@ static void broken_at(size_t entry, uint32_t rule)
     each[2] = mukthiban_fat_read(FAT, DATA, WORK, 0, 0, buf, 1);
     each[3] = mukthiban_fat_write(FAT, DATA, WORK, 0, 0, buf, 1);
     each[4] = mukthiban_fat_merge(FAT, LENGTH, WORK);
+    each[5] = mukthiban_plan_check(FAT, DATA, WORK, 0, LIST);
     EXPECT(tested.answer == MUKTHIBAN_BROKEN_FAT && tested.entry == entry && tested.rule == rule);
     EXPECT(tested.free == 0 && tested.files == 0);
     EXPECT(created.answer == MUKTHIBAN_BROKEN_FAT && created.entry == entry && created.rule == rule);
     EXPECT(created.first_block == 0);
     EXPECT(opened.answer == MUKTHIBAN_BROKEN_FAT && opened.entry == entry && opened.rule == rule);
     EXPECT(opened.count == 0);
-    for (i = 0; i < 5; i++)
+    EXPECT(applied.answer == MUKTHIBAN_BROKEN_FAT && applied.entry == entry && applied.rule == rule);
+    EXPECT(applied.first_block == 0);
+    EXPECT(planned.answer == MUKTHIBAN_BROKEN_FAT && planned.entry == entry && planned.rule == rule);
+    EXPECT(planned.count == 0);
+    for (i = 0; i < 6; i++)
         EXPECT(each[i].answer == MUKTHIBAN_BROKEN_FAT && each[i].entry == entry && each[i].rule == rule);
     tested = mukthiban_fat_test(FAT, work, 3);
     EXPECT(tested.answer == MUKTHIBAN_WORK_TOO_SHORT && tested.entry == 0 && tested.rule == 0);
@@ -366,6 +425,7 @@ int main(void)
     EXPECT(mukthiban_version() == MUKTHIBAN_VERSION_NUMBER);
     texts();
     blocks();
+    plans();
     read_only();
     broken();
     tree();

@@ -131,6 +131,54 @@ static void audit(uint32_t number, size_t places)
     for (size_t i = 0; i < BLOCKS + 2 * ENTRIES; i++) EXPECT(wide[i] == 0);
 }
 
+static void find(uint32_t number, size_t first, size_t room)
+{
+    mukthiban_planned x = mukthiban_plan_find(TABLE(a), DATA(a), WORK, first, a.list, room);
+    mukthiban_planned y = mukthiban_tested_plan_find(TABLE(b), BLOCKS, work, BLOCKS, first, b.list, room);
+    SAME(number, x, y);
+    EXPECT(x.count == y.count);
+}
+
+static void apply(uint32_t number, size_t first, const uint32_t *plan, size_t places)
+{
+    mukthiban_created x, y;
+
+    SAME(number, mukthiban_plan_check(TABLE(a), DATA(a), WORK, first, plan, places),
+         mukthiban_tested_plan_check(TABLE(b), BLOCKS, work, BLOCKS, first, plan, places));
+    x = mukthiban_plan_apply(TABLE(a), DATA(a), WORK, first, plan, places);
+    y = mukthiban_tested_plan_apply(TABLE(b), BLOCKS, DATA(b), work, BLOCKS, first, plan, places);
+    SAME(number, x, y);
+    EXPECT(x.first_block == y.first_block);
+}
+
+/* A file of blocks 0 and 2 beside one of block 1, and the free blocks 3 to 5. */
+static void plans(void)
+{
+    uint32_t plan[4];
+
+    EXPECT(mukthiban_fat_format(TABLE(a)).answer == MUKTHIBAN_DONE);
+    b = a;
+    create(MUKTHIBAN_DONE, 1);
+    create(MUKTHIBAN_DONE, 1);
+    SAME(MUKTHIBAN_DONE, mukthiban_fat_delete(TABLE(a), DATA(a), WORK, 0),
+         mukthiban_tested_fat_delete(TABLE(b), BLOCKS, LENGTH, 0));
+    create(MUKTHIBAN_DONE, 2);
+    carry(MUKTHIBAN_DONE, 0, LENGTH - 3, 7);
+    find(MUKTHIBAN_NOT_A_FILE, 3, BLOCKS);
+    find(MUKTHIBAN_LIST_TOO_SHORT, 0, 3);
+    find(MUKTHIBAN_DONE, 0, 4);
+    memcpy(plan, a.list, sizeof plan);
+    EXPECT(plan[0] == 0 && plan[1] == 3 && plan[2] == 2 && plan[3] == 4);
+    apply(MUKTHIBAN_INVALID_VALUE, 0, plan, 3);
+    apply(MUKTHIBAN_INVALID_VALUE, 1, plan, 4);
+    apply(MUKTHIBAN_NOT_A_FILE, 2, plan, 4);
+    apply(MUKTHIBAN_DONE, 0, plan, 4);
+    /* the free chain is 0, 2, 5: nowhere two in a row */
+    find(MUKTHIBAN_NO_SPACE, 3, BLOCKS);
+    open_list(MUKTHIBAN_DONE, 3, BLOCKS);
+    EXPECT(a.list[0] == 3 && a.list[1] == 4);
+}
+
 /* A block length that is not in use: both refuse what would change something. */
 static void read_only(void)
 {
@@ -148,6 +196,8 @@ static void read_only(void)
          mukthiban_tested_fat_write(TABLE(b), BLOCKS, OLD_DATA(b), 9, 0, byte, 1));
     SAME(MUKTHIBAN_READ_ONLY_VOLUME, mukthiban_fat_merge(TABLE(a), OLD, WORK),
          mukthiban_tested_fat_merge(TABLE(b), BLOCKS, OLD, work, BLOCKS));
+    SAME(MUKTHIBAN_READ_ONLY_VOLUME, mukthiban_plan_apply(TABLE(a), OLD_DATA(a), WORK, 9, a.list, 2),
+         mukthiban_tested_plan_apply(TABLE(b), BLOCKS, OLD_DATA(b), work, BLOCKS, 9, b.list, 2));
 #undef OLD_DATA
 }
 
@@ -268,6 +318,7 @@ static void tree(void)
 int main(void)
 {
     blocks();
+    plans();
     read_only();
     tree();
     return failures == 0 ? 0 : 1;

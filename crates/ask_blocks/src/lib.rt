@@ -105,6 +105,35 @@ fn listed(
     says(answer, 0, 0)
 }
 
+// The calls of a plan, which the list is: check, apply, and find, which writes it.
+fn plans(
+    which: u32,
+    table: &mut [u8],
+    data: &mut [u8],
+    block_len: usize,
+    work: &mut [u32],
+    list: &mut [u32],
+    first: usize,
+) -> Said {
+    match which {
+        11 => {
+            let r = fat_plan::check(table, data, block_len, work, first, list);
+            let answer = r.answer;
+            says(answer, 0, 0)
+        }
+        12 => {
+            let r = fat_apply::apply(table, data, block_len, work, first, list);
+            let answer = r.answer;
+            says(answer, r.first, 0)
+        }
+        _ => {
+            let r = fat_plan::find(table, data, block_len, work, first, list);
+            let answer = r.answer;
+            says(answer, r.count, 0)
+        }
+    }
+}
+
 // A block call on what is lent to it; count is also the position of a read or a write.
 fn call(
     which: u32,
@@ -135,6 +164,7 @@ fn call(
             let answer = r.answer;
             says(answer, 0, 0)
         }
+        11..=13 => plans(which, table, data, block_len, work, list, first),
         _ => look(which, table, data, block_len, work, list, buf, first, count),
     }
 }

@@ -2,4 +2,5 @@ pub mod Names
 pub mod One
 pub mod OneInner
 pub mod OneMerge
+pub mod OnePlan
 pub mod OneVolume

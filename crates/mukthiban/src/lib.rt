@@ -6,6 +6,7 @@ mod change;
 mod look;
 mod merge;
 mod name;
+mod plan;
 mod tested_blocks;
 mod tested_carried;
 mod tested_change;
@@ -101,6 +102,15 @@ pub struct Named {
 // How many findings the audit has, two places of the lent list each.
 #[repr(C)]
 pub struct Audited {
+    pub answer: u32,
+    pub count: usize,
+    pub entry: usize,
+    pub rule: u32,
+}
+
+// How many moves a plan has, two places of the lent list each.
+#[repr(C)]
+pub struct Planned {
     pub answer: u32,
     pub count: usize,
     pub entry: usize,

@@ -94,7 +94,7 @@ fn broken_at(said: Said) {
     }
 }
 
-// The fields of an answer: two of test, with its work list, and one of open list and create; of BrokenFat also where the table is broken.
+// The fields of an answer: two of test, with its work list, and one of open list, create, and plans applied and found; of BrokenFat also where the table is broken.
 fn fields(which: u32, said: Said, volume: Volume, work: &[u32]) {
     match which {
         1 => {
@@ -102,6 +102,7 @@ fn fields(which: u32, said: Said, volume: Volume, work: &[u32]) {
             tell::places(work, volume.work);
         }
         2..=3 => tell::fields(1, said.one, 0),
+        12..=13 => tell::fields(1, said.one, 0),
         _ => {}
     }
     broken_at(said);

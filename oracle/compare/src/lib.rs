@@ -9,6 +9,7 @@ pub mod closure;
 pub mod damage;
 pub mod edges;
 pub mod merged;
+pub mod planned;
 pub mod retired;
 pub mod stored;
 pub mod tree_history;

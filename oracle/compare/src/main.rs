@@ -1,7 +1,7 @@
 //! `compare short` or `compare long [seed]`: every comparison, with counts and the seed. It ends at the first difference.
 
 use compare::chance::Chance;
-use compare::{audited, block_history, by_list, check, closure, damage, edges, merged, retired, tree_history};
+use compare::{audited, block_history, by_list, check, closure, damage, edges, merged, planned, retired, tree_history};
 use std::time::{Instant, SystemTime, UNIX_EPOCH};
 
 /// How much of everything.
@@ -56,6 +56,8 @@ fn main() {
     histories("list", by_list::run, seed, run.histories);
     histories("merge", merged::run, seed, run.histories);
     merged::large();
+    histories("plan", planned::run, seed, run.histories);
+    planned::large();
     histories("read-only", retired::run, seed, run.histories);
     histories("audit", audited::run, seed, run.histories);
     audited::large();
@@ -80,5 +82,8 @@ fn main() {
     let (answers, kinds) = audited::met();
     println!("audits by their answers 0, 1, 2, 3, 4, 8, 9: {answers:?}; clean {}, findings of kinds 1 to 4: {:?}", kinds[0], &kinds[1..]);
     assert!(answers.iter().chain(&kinds).all(|times| *times > 0), "an answer or a kind of finding was never met");
+    let (answers, ways) = planned::met();
+    println!("plans by their answers 0 to 6, 8 and 20: {answers:?}; rejected for length, source, target, gap, used: {ways:?}");
+    assert!(answers.iter().chain(&ways).all(|times| *times > 0), "an answer or a way to be rejected was never met");
     println!("no difference, {} s", start.elapsed().as_secs());
 }

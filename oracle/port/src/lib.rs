@@ -6,6 +6,7 @@ mod calls;
 mod inner;
 mod library;
 mod merge;
+mod plan;
 mod stated;
 
 pub use audit::Audit;
@@ -14,6 +15,7 @@ pub use calls::{Answered, BlockCall, Blocks, Kind, Tree, TreeCall};
 pub use inner::Inner;
 pub use library::Library;
 pub use merge::Merge;
+pub use plan::{Plan, PlanCall};
 pub use stated::Stated;
 
 pub trait Port {

@@ -37,7 +37,7 @@ pub(crate) fn sizes(table: &[u8], volume: Option<Volume>) -> Outcome<usize> {
 }
 
 /// Sizes, work list, soundness. Once the sizes and the work list have passed, the first n work places are 0.
-fn gate(table: &[u8], volume: Option<Volume>, work: &mut [u32]) -> Outcome<Layout> {
+pub(crate) fn gate(table: &[u8], volume: Option<Volume>, work: &mut [u32]) -> Outcome<Layout> {
     let n = sizes(table, volume)?;
     refuse(work.len() < n, WorkTooShort)?;
     work[..n].fill(0);
@@ -50,7 +50,7 @@ pub(crate) fn in_use(block_len: usize) -> Outcome<()> {
 }
 
 /// "The given block is the first block of a chain other than the free one": that chain.
-fn file(layout: &Layout, first_block: usize) -> Outcome<&Chain> {
+pub(crate) fn file(layout: &Layout, first_block: usize) -> Outcome<&Chain> {
     let named = |chain: &&Chain| chain[0].start == first_block;
     layout.files.iter().find(named).ok_or(NotAFile)
 }

@@ -12,6 +12,7 @@ pub mod entries;
 pub mod fault;
 pub mod layout;
 pub mod merge;
+pub mod plan;
 pub mod sound;
 pub mod tree;
 

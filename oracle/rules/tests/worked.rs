@@ -4,6 +4,7 @@ use rules::answer::Answer::*;
 use rules::audit::{audit, Both};
 use rules::blocks::{self, lay_out, Layout, Run, Tested};
 use rules::entries::{hash, key, Kind};
+use rules::plan;
 use rules::tree::{self, Found, Four, FourMut, Stat};
 use rules::word;
 
@@ -304,4 +305,36 @@ fn audits() {
     assert_eq!(found(four.four(), 1), (Ok(0), vec![8]));
     assert_eq!(tree::set_carried(&mut four, work, Kind::File, 5, &record(2, (1 << 32) + 1)), Ok(()));
     assert_eq!(found(four.four(), 2), (Ok(1), vec![3, 5]));
+}
+
+/// The two examples of RULES 4.12.
+#[test]
+fn plans() {
+    let run = |start, size| Run { start, size };
+    let mut v = Volume::formatted(5);
+    lay_out(&mut v.table, &Layout { free: vec![run(3, 1), run(1, 2)], files: vec![vec![run(4, 1), run(0, 1)]] });
+    v.data[4 * LEN..].fill(7);
+    v.data[..LEN].fill(9);
+    let mut list = vec![5; 5];
+    assert_eq!(plan::find(&v.table, &v.data, LEN, &mut v.work, 4, &mut list), Ok(2));
+    assert_eq!(list, [4, 1, 0, 2, 5]);
+    assert_eq!(plan::check(&v.table, &v.data, LEN, &mut v.work, 4, &list), Err(InvalidValue));
+    list.pop();
+    assert_eq!(plan::check(&v.table, &v.data, LEN, &mut v.work, 4, &list), Ok(()));
+    assert_eq!(plan::apply(&mut v.table, &mut v.data, LEN, &mut v.work, 4, &list), Ok(1));
+    let after = Layout { free: vec![run(4, 1), run(0, 1), run(3, 1)], files: vec![vec![run(1, 2)]] };
+    assert_eq!(blocks::layout(&v.table), Some(after));
+    assert!(v.data[LEN..2 * LEN].iter().all(|byte| *byte == 7) && v.data[2 * LEN..3 * LEN].iter().all(|byte| *byte == 9));
+
+    let mut v = Volume::formatted(10);
+    let file = vec![run(7, 1), run(9, 1)];
+    lay_out(&mut v.table, &Layout { free: vec![run(8, 1), run(0, 7)], files: vec![file] });
+    assert_eq!(plan::apply(&mut v.table, &mut v.data, LEN, &mut v.work, 7, &[7, 2, 9, 3]), Ok(2));
+    let after = Layout { free: vec![run(7, 1), run(9, 1), run(8, 1), run(0, 2), run(4, 3)], files: vec![vec![run(2, 2)]] };
+    assert_eq!(blocks::layout(&v.table), Some(after));
+    assert_eq!(plan::find(&v.table, &v.data, LEN, &mut v.work, 8, &mut []), Err(NotAFile));
+    assert_eq!(v.resize(2, 6), Ok(()));
+    assert_eq!(plan::find(&v.table, &v.data, LEN, &mut v.work, 2, &mut []), Err(NoSpace));
+    assert_eq!(v.resize(2, 2), Ok(()));
+    assert_eq!(plan::find(&v.table, &v.data, LEN, &mut v.work, 2, &mut [0; 3]), Err(ListTooShort));
 }

@@ -26,6 +26,8 @@ answers! {
     Opened { answer: u32, count: usize, entry: usize, rule: u32 }
     /// Audit.
     Audited { answer: u32, count: usize, entry: usize, rule: u32 }
+    /// Find of a plan.
+    Planned { answer: u32, count: usize, entry: usize, rule: u32 }
     /// Listing.
     Listed { answer: u32, count: usize }
     /// Make.

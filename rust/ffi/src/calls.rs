@@ -31,6 +31,15 @@ calls! {
     fn mukthiban_fat_write_blocks(
         data: &mut [u8], block_len: usize, list: &[u32], pos: usize, buf: &[u8],
     ) -> Plain;
+    fn mukthiban_plan_check(
+        table: &[u8], data: &[u8], block_len: usize, work: &mut [u32], first_block: usize, plan: &[u32],
+    ) -> Answered;
+    fn mukthiban_plan_apply(
+        table: &mut [u8], data: &mut [u8], block_len: usize, work: &mut [u32], first_block: usize, plan: &[u32],
+    ) -> Created;
+    fn mukthiban_plan_find(
+        table: &[u8], data: &[u8], block_len: usize, work: &mut [u32], first_block: usize, list: &mut [u32],
+    ) -> Planned;
     fn mukthiban_tree_format(
         dir_hash: &mut [u8], dir_table: &mut [u8], dir_max: usize, file_hash: &mut [u8], file_table: &mut [u8],
         file_max: usize,

@@ -20,6 +20,15 @@ calls! {
     fn mukthiban_tested_volume_audit(
         table: &[u8], n: usize, block_len: usize, file_table: &[u8], work: &mut [u32], list: &mut [u32],
     ) -> Audited;
+    fn mukthiban_tested_plan_check(
+        table: &[u8], n: usize, work: &mut [u32], first_block: usize, plan: &[u32],
+    ) -> Answered;
+    fn mukthiban_tested_plan_apply(
+        table: &mut [u8], n: usize, data: &mut [u8], block_len: usize, work: &mut [u32], first_block: usize, plan: &[u32],
+    ) -> Created;
+    fn mukthiban_tested_plan_find(
+        table: &[u8], n: usize, work: &mut [u32], first_block: usize, list: &mut [u32],
+    ) -> Planned;
     fn mukthiban_tested_tree_lookup_dir(
         dir_hash: &[u8], dir_table: &[u8], file_hash: &[u8], file_table: &[u8],
         parent: u32, name: &[u8; 16],

@@ -4,7 +4,7 @@
 //! the rest of what `include/mukthiban_tested.h` requires holds. [`Volume`](crate::Volume) sees to it.
 
 use crate::parts::Parts;
-use mukthiban_ffi::{tested, Answered, Audited, Created, Opened};
+use mukthiban_ffi::{tested, Answered, Audited, Created, Opened, Planned};
 
 pub unsafe fn create(p: &mut Parts, block_count: usize) -> Created {
     tested::mukthiban_tested_fat_create(p.fat.as_mut_ptr(), p.fat.len(), p.blocks(), p.block_len, block_count)
@@ -35,6 +35,51 @@ pub unsafe fn audit(p: &Parts, work: &mut [u32], list: &mut [u32]) -> Audited {
         p.file_table.len(),
         work.as_mut_ptr(),
         work.len(),
+        list.as_mut_ptr(),
+        list.len(),
+    )
+}
+
+/// `work` as for [`merge`].
+pub unsafe fn plan_check(p: &Parts, work: &mut [u32], first: usize, plan: &[u32]) -> Answered {
+    tested::mukthiban_tested_plan_check(
+        p.fat.as_ptr(),
+        p.fat.len(),
+        p.blocks(),
+        work.as_mut_ptr(),
+        work.len(),
+        first,
+        plan.as_ptr(),
+        plan.len(),
+    )
+}
+
+/// `work` as for [`merge`].
+pub unsafe fn plan_apply(p: &mut Parts, work: &mut [u32], first: usize, plan: &[u32]) -> Created {
+    tested::mukthiban_tested_plan_apply(
+        p.fat.as_mut_ptr(),
+        p.fat.len(),
+        p.blocks(),
+        p.data.as_mut_ptr(),
+        p.data.len(),
+        p.block_len,
+        work.as_mut_ptr(),
+        work.len(),
+        first,
+        plan.as_ptr(),
+        plan.len(),
+    )
+}
+
+/// `work` as for [`merge`].
+pub unsafe fn plan_find(p: &Parts, work: &mut [u32], first: usize, list: &mut [u32]) -> Planned {
+    tested::mukthiban_tested_plan_find(
+        p.fat.as_ptr(),
+        p.fat.len(),
+        p.blocks(),
+        work.as_mut_ptr(),
+        work.len(),
+        first,
         list.as_mut_ptr(),
         list.len(),
     )

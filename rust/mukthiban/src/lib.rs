@@ -3,8 +3,8 @@
 //! The work is done by a static library whose every call is proved to answer as `docs/RULES.md` says and to leave every
 //! other byte as it was. This crate adds names to its numbers, slices to its pointers, and [`Volume`].
 //!
-//! - [`fat`], [`tree`] and, for both layers together, [`mod@volume`] have each call once, over lent slices, any bytes
-//!   allowed.
+//! - [`fat`], [`plan`], [`tree`] and, for both layers together, [`mod@volume`] have each call once, over lent slices, any
+//!   bytes allowed.
 //! - [`Volume`] owns a whole volume, tests it once, and then works without testing again. It has a walk of its tree,
 //!   lookup by path, and files that are read and written as the standard library's are.
 //! - [`Refusal`] says why a call was refused.
@@ -38,6 +38,7 @@ pub mod fat;
 #[cfg(all(unix, feature = "std"))]
 pub mod folder;
 pub mod name;
+pub mod plan;
 pub mod tree;
 pub mod volume;
 

@@ -100,6 +100,26 @@ impl Change {
         self.volume().set_carried_file(inode, &carried)
     }
 
+    /// The blocks' bytes in some stretches, as they are in the folder; zeros for all others.
+    pub fn bytes(&self, stretches: &[(u32, u32)]) -> Outcome<Vec<u8>> {
+        self.folder.bytes(stretches).map_err(|e| Fail::folder(&e))
+    }
+
+    /// Makes a file whole by a plan, and its record names the new first block, which is answered. The bytes of its blocks,
+    /// as they are in the folder, go to the targets: so this comes before any other change to them.
+    pub fn make_whole(&mut self, inode: u32, plan: &[u32], bytes: &[u8]) -> Result<u32, Refusal> {
+        let block_len = self.block_len();
+        let mut carried = self.volume().carried_file(inode)?;
+        let before = Record::of(&carried);
+        let first_block = self.volume().make_whole(before.first_block as usize, plan)? as u32;
+        let sources = plan.chunks_exact(2).map(|two| two[0] as usize);
+        let moved = sources.flat_map(|block| &bytes[block * block_len..][..block_len]).copied().collect();
+        self.written.push((first_block, moved));
+        Record { first_block, ..before }.put(&mut carried);
+        self.volume().set_carried_file(inode, &carried)?;
+        Ok(first_block)
+    }
+
     /// A new directory, and its inode.
     pub fn make_dir(&mut self, parent: u32, name: &Name, carried: [u8; 4]) -> Result<u32, Refusal> {
         let inode = self.volume().make_dir(parent, name, &carried)?;

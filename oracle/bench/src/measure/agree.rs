@@ -1,11 +1,11 @@
 //! Peers are no peers if they do less: on small tables of every kind, sound and damaged, they must answer as the library does.
 
-use super::sides::library_merge;
+use super::sides::{library_merge, library_plan, peer_plan};
 use crate::peers::nodes::entries;
 use crate::peers::{audit, calls, careful, ends, fault, merge, sorted, walks};
 use compare::chance::Chance;
 use compare::{audited, trees, volumes};
-use port::{Audit, BlockCall, Blocks, Library, Port, Tree, TreeCall};
+use port::{Audit, BlockCall, Blocks, Library, PlanCall, Port, Tree, TreeCall};
 use rules::put_word;
 
 /// A word that a table might wrongly hold.
@@ -74,6 +74,25 @@ fn audits(lent: &Audit) {
     }
 }
 
+fn block_plans(chance: &mut Chance, lent: &Blocks) {
+    let n = lent.table.len() / 8 - 1;
+    let first = chance.below(n);
+    let mut ours = lent.clone();
+    ours.list = chance.words(2 * n);
+    let found = library_plan(PlanCall::Find, &mut ours, first);
+    let mut lent = ours.clone();
+    lent.list.truncate(2 * found.1 as usize);
+    for call in [PlanCall::Find, PlanCall::Check, PlanCall::Apply] {
+        let mut ours = lent.clone();
+        let said = library_plan(call, &mut ours, first);
+        for test in [walks::tested, ends::tested] {
+            let mut theirs = lent.clone();
+            assert_eq!(peer_plan(call, &mut theirs, first, test), said, "{call:?} of {first} in {lent:?}");
+            assert!(theirs == ours, "{call:?} of {first} in {lent:?} leaves other bytes");
+        }
+    }
+}
+
 fn block_call(chance: &mut Chance, lent: &Blocks) {
     let n = lent.table.len() / 8 - 1;
     let (first, count, pos) = (chance.below(n), chance.within(0, n + 1), chance.below(n * lent.block_len));
@@ -125,6 +144,7 @@ pub fn run(quick: bool) {
     for _ in 0..cases {
         let mut lent = volumes::any_sound(&mut chance);
         block_call(&mut chance, &lent);
+        block_plans(&mut chance, &lent);
         let n = lent.work.len();
         if chance.one_in(8) {
             ringed(&mut chance, &mut lent);

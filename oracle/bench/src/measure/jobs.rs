@@ -6,9 +6,9 @@ use super::whole::{with, Step};
 use super::{commas, race, Side, JOB};
 use crate::report::Report;
 use crate::shapes::both::{self, Findings};
-use crate::shapes::blocks::{ring, singly, volume, Order, Shape, SHAPES};
+use crate::shapes::blocks::{ring, scattered, singly, volume, Order, SHAPES, Shape};
 use crate::shapes::tree::{planned, Names, Order as Buckets, Plan};
-use port::{BlockCall, Blocks};
+use port::{BlockCall, Blocks, PlanCall};
 
 fn job(report: &mut Report, what: &str, sides: Vec<Side>) {
     if left_out(what) {
@@ -58,6 +58,16 @@ fn audits(report: &mut Report, n: usize, files: usize) {
         if !left_out(&what) {
             job(report, &what, OnBoth::new(both::volume(n, files, findings)).audits());
         }
+    }
+}
+
+/// A file of an eighth of the blocks, single and in any order, with half of the volume free: its plan found, checked and applied.
+fn plans(report: &mut Report, n: usize) {
+    let (mut lent, first) = scattered(n, 512);
+    lent.list = vec![0; 2 * (n / 8)];
+    let on = OnBlocks::new(lent);
+    for (call, said) in [(PlanCall::Find, "found"), (PlanCall::Check, "checked"), (PlanCall::Apply, "applied")] {
+        job(report, &format!("plan for a file of {} single blocks of {}, {said}", commas(n / 8), commas(n)), on.plans(call, first));
     }
 }
 
@@ -168,6 +178,7 @@ pub fn run(report: &mut Report, quick: bool) {
     block_tests(report, n);
     merges(report, n);
     audits(report, n, if quick { 500 } else { 65_000 });
+    plans(report, n);
     long_file(report, n);
     volumes(report, n);
     open_files(report, quick);

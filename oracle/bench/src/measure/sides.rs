@@ -2,9 +2,9 @@
 
 use super::{digest, digest_list, Answer, Side};
 use crate::peers::nodes::entries;
-use crate::peers::{audit, calls, careful, ends, fault, merge, sorted, walks};
+use crate::peers::{audit, calls, careful, ends, fault, merge, plan, sorted, walks};
 use original::Volume;
-use port::{Answered, Audit, BlockCall, Blocks, Inner, Library, Merge, Port, Tree, TreeCall};
+use port::{Answered, Audit, BlockCall, Blocks, Inner, Library, Merge, Plan, PlanCall, Port, Tree, TreeCall};
 use std::cell::RefCell;
 
 fn answer(answered: Answered) -> Answer {
@@ -32,6 +32,26 @@ pub fn library_merge(s: &mut Blocks) -> u64 {
     let number = lent.library().number;
     (s.table, s.work) = (lent.table, lent.work);
     number.into()
+}
+
+/// A call of a plan by the library; the plan is the volume's list.
+pub fn library_plan(call: PlanCall, s: &mut Blocks, first: usize) -> (u32, u64) {
+    use std::mem::take;
+    let Blocks { table, data, block_len, work, list, .. } = s;
+    let mut lent = Plan { table: take(table), data: take(data), block_len: *block_len, work: take(work), list: take(list) };
+    let answered = lent.library(call, first);
+    (s.table, s.data, s.work, s.list) = (lent.table, lent.data, lent.work, lent.list);
+    (answered.number, answered.fields[0])
+}
+
+/// The same in plain Rust, behind a test.
+pub fn peer_plan(call: PlanCall, s: &mut Blocks, first: usize, test: plan::Test) -> (u32, u64) {
+    let done = match call {
+        PlanCall::Check => plan::check(s, first, test),
+        PlanCall::Apply => plan::apply(s, first, test),
+        PlanCall::Find => plan::find(s, first, test),
+    };
+    done.map_or_else(|number| (number, 0), |given| (0, given))
 }
 
 /// A block volume with the table that it is put back to.
@@ -107,6 +127,17 @@ impl OnBlocks {
             peer("several walks", walks::blocks),
             peer("by ends", ends::blocks),
             self.side("library", &BlockCall::Test, |s| [library_merge(s), 0, 0]),
+        ]
+    }
+
+    /// The calls of a plan in plain Rust, behind each of the tests that know files, then the library's.
+    pub fn plans(&self, call: PlanCall, first: usize) -> Vec<Side<'_>> {
+        let told = |(number, given): (u32, u64)| [number.into(), given, 0];
+        let peer = |name, test: plan::Test| self.side(name, &BlockCall::Test, move |s| told(peer_plan(call, s, first, test)));
+        vec![
+            peer("several walks", walks::tested),
+            peer("by ends", ends::tested),
+            self.side("library", &BlockCall::Test, move |s| told(library_plan(call, s, first))),
         ]
     }
 

@@ -10,6 +10,7 @@ pub mod files;
 pub mod lookup;
 pub mod merge;
 pub mod nodes;
+pub mod plan;
 pub mod sorted;
 pub mod walks;
 

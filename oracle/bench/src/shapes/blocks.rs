@@ -139,6 +139,19 @@ pub fn singly(n: usize, count: usize, order: Order, block_len: usize) -> (Blocks
     (lent(table, block_len), first)
 }
 
+/// A file of an eighth of n blocks, single and in any order among the first half, the others of which are files of a block each; the second half is free,
+/// single blocks in any order: the volume, and the file's first block.
+pub fn scattered(n: usize, block_len: usize) -> (Blocks, usize) {
+    let mut file = singles(n / 2, Order::Any);
+    let others = file.split_off(n / 8);
+    let first = file[0].start;
+    let files = others.into_iter().map(|run| vec![run]).chain([file]).collect();
+    let free = singles(n - n / 2, Order::Any).into_iter().map(|run| Run { start: n / 2 + run.start, size: 1 }).collect();
+    let mut table = vec![0; 8 * (n + 1)];
+    lay_out(&mut table, &Layout { free, files });
+    (lent(table, block_len), first)
+}
+
 /// Single blocks in that order: a ring of all but the last `beside`, which are a file each. Nothing is free.
 pub fn ring(n: usize, beside: usize, order: Order) -> Blocks {
     let mut runs = singles(n, order);

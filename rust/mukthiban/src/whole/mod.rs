@@ -2,6 +2,7 @@ mod audit;
 mod blocks;
 mod counts;
 mod file;
+mod plan;
 mod tree;
 mod walk;
 

@@ -4,6 +4,7 @@ mod audit;
 mod cat;
 mod check;
 mod cp;
+mod defrag;
 mod lift;
 mod ls;
 mod map;
@@ -14,6 +15,7 @@ mod new;
 mod put;
 mod rm;
 mod verify;
+mod whole;
 
 use crate::args::Command;
 
@@ -31,6 +33,8 @@ pub const ALL: &[Command] = &[
     mv::COMMAND,
     rm::COMMAND,
     merge::COMMAND,
+    whole::COMMAND,
+    defrag::COMMAND,
     new::COMMAND,
     map::COMMAND,
 ];

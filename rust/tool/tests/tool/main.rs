@@ -15,3 +15,4 @@ mod safety;
 mod shapes;
 mod show;
 mod transfer;
+mod whole;

@@ -94,7 +94,8 @@ fn free_neighbours_are_merged() {
 fn help_for_each_command() {
     let b = Bench::new();
     let all = b.done(&["--help"]);
-    for command in ["check", "ls", "cat", "lift", "put", "mkdir", "mv", "rm", "merge", "new", "map"] {
+    let commands = ["check", "ls", "cat", "lift", "put", "mkdir", "mv", "rm", "merge", "whole", "defrag", "new", "map"];
+    for command in commands {
         assert!(all.contains(&format!("\n  {command} ")), "{command}");
         assert!(b.done(&[command, "--help"]).starts_with(&format!("mukthiban {command} ")));
         assert_eq!(b.done(&["help", command]), b.done(&[command, "-h"]));

@@ -62,12 +62,14 @@ fn answers_have_the_shapes_of_the_paper() {
     answers.push(answer(&b, &["put", "v", "one", "new"]));
     answers.push(answer(&b, &["cp", "v", "one", "v", "newer"]));
     answers.push(answer(&b, &["merge", "v"]));
+    answers.push(answer(&b, &["whole", "v", "one"]));
+    answers.push(answer(&b, &["defrag", "v"]));
     b.poke("v/file_table.bin", 2 * 48 + 28, &[7, 0, 0, 0]);
     answers.push(answer(&b, &["lift", "v", "out2"]));
     b.poke("v/fat.bin", 0, &[1]);
     answers.push(answer(&b, &["check", "v"]));
     let examples = examples();
-    assert_eq!(examples.len(), 9);
+    assert_eq!(examples.len(), 11);
     for answer in &answers {
         let of_error = |v: &Value| matches!(v, Value::Object(o) if o.iter().any(|(k, _)| k == "error"));
         let Value::Text(name) = command(answer) else { panic!("a text") };
