@@ -1,0 +1,3 @@
+-- What the functions inside ask for and say. No promise needs it.
+pub mod Turns
+pub mod Counts
