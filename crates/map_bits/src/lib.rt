@@ -1,8 +1,9 @@
 // Sets of blocks as u32 words, one bit a block: a stretch of blocks is put in, taken out or counted, whole words at a time.
 ghost use mathlib.Core.Path.{_≡_};
-ghost use mathlib.Core.Bool.{Bool, true, false, cond};
+ghost use mathlib.Core.Bool.{Bool, true, false, cond, not};
 ghost use Prim.Native.Nat.{ℕ, _+_, _-_, _*_, _/_, _%_, _^_, _≤_, _<_};
 ghost use lib.ListN.{length};
+ghost use Rattle.order.specs.Tells.{Tells};
 ghost use Rattle.map_bits.specs.Bits.{wordsFrom, sumFrom, countedIn};
 ghost use Rattle.map_bits.specs.inner.Counts.{CountOf};
 ghost use Rattle.map_bits.specs.inner.Turns.{Turn, Turnable};
@@ -129,4 +130,19 @@ pub fn count(map: &[u32], a: usize, b: usize) -> usize
     let middle = count_whole(map, i + 1, j);
     let last = count_part(map, j, 0, b % 32);
     (first + middle + last) as usize
+}
+
+// Whether two maps of as many words differ.
+pub fn differ(a: &[u32], b: &[u32]) -> bool
+    requires { ⌜ length (now a) ≡ length (now b) ⌝ }
+    ensures { λ r. ⌜ Tells (now (a .entry) ≡ now (b .entry)) (not r) ⌝ }
+{
+    let mut i: usize = 0;
+    while i < a.len() {
+        if a[i] != b[i] {
+            return true;
+        }
+        i += 1;
+    }
+    false
 }

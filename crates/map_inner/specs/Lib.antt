@@ -1,0 +1,3 @@
+pub mod Map
+pub mod Sounds
+pub mod inner
