@@ -5,3 +5,5 @@ pub mod Counts
 pub mod Used
 pub mod Unique
 pub mod Theorems
+pub mod Same
+pub mod Whole
