@@ -53,10 +53,10 @@ fn turn_whole(map: &mut [u32], i: usize, j: usize, on: bool)
     ensures { λ _. ⌜ ((c d : ℕ → ℕ) → Turn on (now (map .entry)) c d (32 * i) (32 * j) → now (map .exit) ≡ wordsFrom (length (now (map .entry))) 0 d) ⌝ }
 {
     let word = whole(on);
-    let mut k = i;
-    while k < j {
-        map[k] = word;
-        k += 1;
+    let mut at = i;
+    while at < j {
+        map[at] = word;
+        at += 1;
     }
 }
 

@@ -6,10 +6,10 @@ use Rattle.map_bits.proofs.turn_whole.Statement.{statement}
 use Rattle.map_bits.proofs.turn_whole.Tie as tie
 
 abbrev Inv-loop : tie.InvT-loop
-Inv-loop map₀ i j on word k₀ map k = Staged on map₀ map (32 * i) (32 * j) (32 * k)
+Inv-loop map₀ i j on word at₀ map at = Staged on map₀ map (32 * i) (32 * j) (32 * at)
 
 abbrev μ-loop : tie.MeasureT-loop
-μ-loop map₀ i j on word k₀ map k = j - k
+μ-loop map₀ i j on word at₀ map at = j - at
 
 whole-requires : tie.Need-whole-requires Inv-loop μ-loop
 whole-requires c κs = search needs
@@ -23,8 +23,8 @@ mul-map c = omega arith
 slice-write-map : tie.Need-slice-write-map Inv-loop μ-loop
 slice-write-map c = omega (arith, c .before .loop .inv .to)
 
-add-k : tie.Need-add-k Inv-loop μ-loop
-add-k c = omega arith
+add-at : tie.Need-add-at Inv-loop μ-loop
+add-at c = omega arith
 
 loop-less : tie.Need-loop-less Inv-loop μ-loop
 loop-less c = omega arith
@@ -48,7 +48,7 @@ turn-whole-spec =
     loop-holds
     mul-map
     slice-write-map
-    add-k
+    add-at
     loop-less
     loop-again
     same-length
