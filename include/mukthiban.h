@@ -152,6 +152,46 @@ mukthiban_planned mukthiban_plan_find(const uint8_t *table, size_t table_len,
                                       size_t first_block,
                                       uint32_t *list, size_t list_len);
 
+/* ---- The free map ---- */
+
+/* A map is lent u32 words, one bit a block, the lowest block in the lowest bit, set where the block is in the free chain;
+ * bits past n are 0, and words past n's are neither looked at nor touched. A map under n bits (map_len below n / 32, rounded
+ * up) is 3. Create, resize and delete with a map do what the call without one does and keep it: it always equals one built
+ * afresh. They refuse a map that is not the table's: 4 with entry and rule 0, after the table's own 4. The calls without a
+ * map that change the free chain (create, resize, delete, format) leave a lent map behind: the next call with that map
+ * answers 4, until it is built again. A merge leaves it as it should be. */
+
+/* Builds the map of the table. Answers 1, 2, 3, 4. */
+mukthiban_answered mukthiban_map_build(const uint8_t *table, size_t table_len,
+                                       const uint8_t *data, size_t data_len, size_t block_len,
+                                       uint32_t *work, size_t work_len,
+                                       uint32_t *map, size_t map_len);
+
+/* Makes a file, as mukthiban_fat_create. Answers 1, 2, 3, 4, 4 (map), 20, 2 (count 0), 6. */
+mukthiban_created mukthiban_map_create(uint8_t *table, size_t table_len,
+                                       const uint8_t *data, size_t data_len, size_t block_len,
+                                       uint32_t *work, size_t work_len,
+                                       uint32_t *map, size_t map_len,
+                                       size_t block_count);
+
+/* Grows or shrinks a file, as mukthiban_fat_resize. Answers 1, 2, 3, 4, 4 (map), 20, 5, 2 (count 0), 6. */
+mukthiban_answered mukthiban_map_resize(uint8_t *table, size_t table_len,
+                                        const uint8_t *data, size_t data_len, size_t block_len,
+                                        uint32_t *work, size_t work_len,
+                                        uint32_t *map, size_t map_len,
+                                        size_t first_block, size_t block_count);
+
+/* Gives a whole file back, as mukthiban_fat_delete. Answers 1, 2, 3, 4, 4 (map), 20, 5. */
+mukthiban_answered mukthiban_map_delete(uint8_t *table, size_t table_len,
+                                        const uint8_t *data, size_t data_len, size_t block_len,
+                                        uint32_t *work, size_t work_len,
+                                        uint32_t *map, size_t map_len,
+                                        size_t first_block);
+
+/* Counts the set bits of a map of n blocks from block a up to and without block b. It answers for the map that is given, and
+ * reads the words of the stretch alone. Answers 2 (n), 3, 2 (a over b, or b over n). */
+mukthiban_counted mukthiban_map_count(const uint32_t *map, size_t map_len, size_t n, size_t a, size_t b);
+
 /* ---- The entry tables ---- */
 
 /* Makes an empty tree: the root directory alone. dir_max (2 to 65,536) and file_max (1 to 65,536) are the

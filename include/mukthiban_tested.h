@@ -108,6 +108,30 @@ mukthiban_planned mukthiban_tested_plan_find(const uint8_t *table, size_t table_
                                              size_t first_block,
                                              uint32_t *list, size_t list_len);
 
+/* ---- The free map ---- */
+
+/* Builds the map of the table. Answers nothing but MUKTHIBAN_DONE.
+ * Requires: a sound table of n blocks; map_len is n / 32, rounded up. */
+mukthiban_answered mukthiban_tested_map_build(const uint8_t *table, size_t table_len, size_t n,
+                                              uint32_t *map, size_t map_len);
+
+/* Makes a file of block_count blocks and keeps the map: only the words of the blocks that move are written. Answers 20,
+ * 2 (count 0), 6.
+ * Requires: a sound table of n blocks; map_len is n / 32, rounded up, and map is the table's, as the call above or an earlier
+ * one of these left it. So of the next two. */
+mukthiban_created mukthiban_tested_map_create(uint8_t *table, size_t table_len, size_t n, size_t block_len,
+                                              uint32_t *map, size_t map_len, size_t block_count);
+
+/* Grows or shrinks a file to block_count blocks and keeps the map. Answers 20, 5, 2 (count 0), 6.
+ * Requires: as mukthiban_tested_map_create. */
+mukthiban_answered mukthiban_tested_map_resize(uint8_t *table, size_t table_len, size_t n, size_t block_len,
+                                               uint32_t *map, size_t map_len, size_t first_block, size_t block_count);
+
+/* Gives a whole file back and keeps the map. Answers 20, 5.
+ * Requires: as mukthiban_tested_map_create. */
+mukthiban_answered mukthiban_tested_map_delete(uint8_t *table, size_t table_len, size_t n, size_t block_len,
+                                               uint32_t *map, size_t map_len, size_t first_block);
+
 /* ---- The entry tables ---- */
 
 /* Finds the directory with that parent and name. Answers 10.

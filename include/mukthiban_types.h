@@ -124,6 +124,12 @@ typedef struct {
     uint32_t rule;
 } mukthiban_planned;
 
+/* Stretch query: how many bits of the stretch are set. It judges no block table, so it has no entry and no rule. */
+typedef struct {
+    uint32_t answer;
+    size_t free;
+} mukthiban_counted;
+
 /* Listing: how many places of the lent list hold the directory's children. */
 typedef struct {
     uint32_t answer;

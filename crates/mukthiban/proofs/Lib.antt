@@ -4,3 +4,4 @@ pub mod OneInner
 pub mod OneMerge
 pub mod OnePlan
 pub mod OneVolume
+pub mod OneMap

@@ -4,6 +4,7 @@ mod blocks;
 mod by_list;
 mod change;
 mod look;
+mod map;
 mod merge;
 mod name;
 mod plan;

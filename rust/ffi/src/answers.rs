@@ -28,6 +28,8 @@ answers! {
     Audited { answer: u32, count: usize, entry: usize, rule: u32 }
     /// Find of a plan.
     Planned { answer: u32, count: usize, entry: usize, rule: u32 }
+    /// Stretch query of a free map.
+    Counted { answer: u32, free: usize }
     /// Listing.
     Listed { answer: u32, count: usize }
     /// Make.

@@ -40,6 +40,20 @@ calls! {
     fn mukthiban_plan_find(
         table: &[u8], data: &[u8], block_len: usize, work: &mut [u32], first_block: usize, list: &mut [u32],
     ) -> Planned;
+    fn mukthiban_map_build(
+        table: &[u8], data: &[u8], block_len: usize, work: &mut [u32], map: &mut [u32],
+    ) -> Answered;
+    fn mukthiban_map_create(
+        table: &mut [u8], data: &[u8], block_len: usize, work: &mut [u32], map: &mut [u32], block_count: usize,
+    ) -> Created;
+    fn mukthiban_map_resize(
+        table: &mut [u8], data: &[u8], block_len: usize, work: &mut [u32], map: &mut [u32], first_block: usize,
+        block_count: usize,
+    ) -> Answered;
+    fn mukthiban_map_delete(
+        table: &mut [u8], data: &[u8], block_len: usize, work: &mut [u32], map: &mut [u32], first_block: usize,
+    ) -> Answered;
+    fn mukthiban_map_count(map: &[u32], n: usize, a: usize, b: usize) -> Counted;
     fn mukthiban_tree_format(
         dir_hash: &mut [u8], dir_table: &mut [u8], dir_max: usize, file_hash: &mut [u8], file_table: &mut [u8],
         file_max: usize,

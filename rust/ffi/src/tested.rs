@@ -29,6 +29,16 @@ calls! {
     fn mukthiban_tested_plan_find(
         table: &[u8], n: usize, work: &mut [u32], first_block: usize, list: &mut [u32],
     ) -> Planned;
+    fn mukthiban_tested_map_build(table: &[u8], n: usize, map: &mut [u32]) -> Answered;
+    fn mukthiban_tested_map_create(
+        table: &mut [u8], n: usize, block_len: usize, map: &mut [u32], block_count: usize,
+    ) -> Created;
+    fn mukthiban_tested_map_resize(
+        table: &mut [u8], n: usize, block_len: usize, map: &mut [u32], first_block: usize, block_count: usize,
+    ) -> Answered;
+    fn mukthiban_tested_map_delete(
+        table: &mut [u8], n: usize, block_len: usize, map: &mut [u32], first_block: usize,
+    ) -> Answered;
     fn mukthiban_tested_tree_lookup_dir(
         dir_hash: &[u8], dir_table: &[u8], file_hash: &[u8], file_table: &[u8],
         parent: u32, name: &[u8; 16],

@@ -6,16 +6,28 @@
 use crate::parts::Parts;
 use mukthiban_ffi::{tested, Answered, Audited, Created, Opened, Planned};
 
-pub unsafe fn create(p: &mut Parts, block_count: usize) -> Created {
-    tested::mukthiban_tested_fat_create(p.fat.as_mut_ptr(), p.fat.len(), p.blocks(), p.block_len, block_count)
+/// `map` has the words of the table's blocks. Here and in the next three it is, after the call, the table's map; before the
+/// next three it is so too.
+pub unsafe fn build(p: &Parts, map: &mut [u32]) -> Answered {
+    tested::mukthiban_tested_map_build(p.fat.as_ptr(), p.fat.len(), p.blocks(), map.as_mut_ptr(), map.len())
 }
 
-pub unsafe fn resize(p: &mut Parts, first: usize, block_count: usize) -> Answered {
-    tested::mukthiban_tested_fat_resize(p.fat.as_mut_ptr(), p.fat.len(), p.blocks(), p.block_len, first, block_count)
+// The same calls without a map, `mukthiban_tested_fat_create`, `mukthiban_tested_fat_resize` and
+// `mukthiban_tested_fat_delete`, are for a program that keeps none.
+
+pub unsafe fn create(p: &mut Parts, map: &mut [u32], block_count: usize) -> Created {
+    let (fat, len, words, count) = (p.fat.as_mut_ptr(), p.fat.len(), map.as_mut_ptr(), map.len());
+    tested::mukthiban_tested_map_create(fat, len, p.blocks(), p.block_len, words, count, block_count)
 }
 
-pub unsafe fn delete(p: &mut Parts, first: usize) -> Answered {
-    tested::mukthiban_tested_fat_delete(p.fat.as_mut_ptr(), p.fat.len(), p.blocks(), p.block_len, first)
+pub unsafe fn resize(p: &mut Parts, map: &mut [u32], first: usize, block_count: usize) -> Answered {
+    let (fat, len, words, count) = (p.fat.as_mut_ptr(), p.fat.len(), map.as_mut_ptr(), map.len());
+    tested::mukthiban_tested_map_resize(fat, len, p.blocks(), p.block_len, words, count, first, block_count)
+}
+
+pub unsafe fn delete(p: &mut Parts, map: &mut [u32], first: usize) -> Answered {
+    let (fat, len, words, count) = (p.fat.as_mut_ptr(), p.fat.len(), map.as_mut_ptr(), map.len());
+    tested::mukthiban_tested_map_delete(fat, len, p.blocks(), p.block_len, words, count, first)
 }
 
 /// `work` has a place for each block, all 0.

@@ -37,6 +37,7 @@ mod whole;
 pub mod fat;
 #[cfg(all(unix, feature = "std"))]
 pub mod folder;
+pub mod map;
 pub mod name;
 pub mod plan;
 pub mod tree;

@@ -11,8 +11,8 @@ use crate::refusal::{judge, Refusal};
 impl Volume {
     /// Makes a file of `block_count` blocks and answers its first block. No data byte changes.
     pub fn create(&mut self, block_count: usize) -> Result<usize, Refusal> {
-        // SAFETY: here and below, the tables are sound and the counts right, as the type's documentation says.
-        let r = unsafe { inner::create(&mut self.parts, block_count) };
+        // SAFETY: here and below, the tables are sound, and map and counts right, as the type's documentation says.
+        let r = unsafe { inner::create(&mut self.parts, &mut self.map, block_count) };
         judge(r.answer)?;
         self.free -= block_count;
         self.counts[r.first_block] = block_count as u32;
@@ -21,7 +21,7 @@ impl Volume {
 
     /// Grows or shrinks a file. Its first block stays.
     pub fn resize(&mut self, first_block: usize, block_count: usize) -> Result<(), Refusal> {
-        let r = unsafe { inner::resize(&mut self.parts, first_block, block_count) };
+        let r = unsafe { inner::resize(&mut self.parts, &mut self.map, first_block, block_count) };
         judge(r.answer)?;
         self.free = self.free + self.counts[first_block] as usize - block_count;
         self.counts[first_block] = block_count as u32;
@@ -30,7 +30,7 @@ impl Volume {
 
     /// Gives all blocks of a file back.
     pub fn delete(&mut self, first_block: usize) -> Result<(), Refusal> {
-        let r = unsafe { inner::delete(&mut self.parts, first_block) };
+        let r = unsafe { inner::delete(&mut self.parts, &mut self.map, first_block) };
         judge(r.answer)?;
         self.free += self.counts[first_block] as usize;
         self.counts[first_block] = 0;

@@ -2,6 +2,7 @@ mod audit;
 mod blocks;
 mod counts;
 mod file;
+mod map;
 mod plan;
 mod tree;
 mod walk;
@@ -60,6 +61,9 @@ impl From<NotSound> for Refusal {
 /// - The bytes of a `Volume` are private, and nothing but these calls changes them. [`Volume::parts`] lends them to be
 ///   read; [`Volume::into_parts`] gives them away and ends the volume.
 ///
+/// The same holds of the free map that it keeps: it is built when the volume is opened, and every inner call that changes
+/// the free chain leaves the map that a build would make (theorem of each step).
+///
 /// The counts that a volume keeps beside its bytes (free blocks, the blocks of each file) decide nothing: they are
 /// counted when it is opened, held against what the test answered, and carried on with each call.
 ///
@@ -94,6 +98,8 @@ pub struct Volume {
     free: usize,
     /// For the first block of each file how many blocks the file has; 0 for every other block.
     counts: Vec<u32>,
+    /// The free map: one bit a block.
+    map: Vec<u32>,
     /// Whether its block length is not in use.
     read_only: bool,
 }
@@ -129,7 +135,10 @@ impl Volume {
                 // A write of no bytes, whose answer is the library's word on the block length.
                 let written = fat::write_blocks(&mut parts.data, parts.block_len, &[], 0, &[]);
                 let read_only = written == Err(Refusal::ReadOnlyVolume);
-                Ok(Volume { parts, dir_opens, file_opens, free: tested.free, counts, read_only })
+                let mut map = vec![0; crate::map::words(parts.blocks())];
+                // SAFETY: the test accepted the table, and the map has its words.
+                unsafe { crate::inner::build(&parts, &mut map) };
+                Ok(Volume { parts, dir_opens, file_opens, free: tested.free, counts, map, read_only })
             }
             Err(refusal) => Err(NotSound { refusal, parts: Box::new(parts) }),
         }
