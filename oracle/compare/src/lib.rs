@@ -8,6 +8,7 @@ pub mod check;
 pub mod closure;
 pub mod damage;
 pub mod edges;
+pub mod mapped;
 pub mod merged;
 pub mod planned;
 pub mod retired;

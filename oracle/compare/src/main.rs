@@ -1,7 +1,7 @@
 //! `compare short` or `compare long [seed]`: every comparison, with counts and the seed. It ends at the first difference.
 
 use compare::chance::Chance;
-use compare::{audited, block_history, by_list, check, closure, damage, edges, merged, planned, retired, tree_history};
+use compare::{audited, block_history, by_list, check, closure, damage, edges, mapped, merged, planned, retired, tree_history};
 use std::time::{Instant, SystemTime, UNIX_EPOCH};
 
 /// How much of everything.
@@ -58,6 +58,8 @@ fn main() {
     merged::large();
     histories("plan", planned::run, seed, run.histories);
     planned::large();
+    histories("map", mapped::run, seed, run.histories);
+    mapped::large();
     histories("read-only", retired::run, seed, run.histories);
     histories("audit", audited::run, seed, run.histories);
     audited::large();
@@ -85,5 +87,8 @@ fn main() {
     let (answers, ways) = planned::met();
     println!("plans by their answers 0 to 6, 8 and 20: {answers:?}; rejected for length, source, target, gap, used: {ways:?}");
     assert!(answers.iter().chain(&ways).all(|times| *times > 0), "an answer or a way to be rejected was never met");
+    let maps = mapped::met();
+    println!("calls with a map by their answers 0, 1, 2, 3, 4 (table), 4 (map), 5, 6, 20: {:?}; stretches 0, 2, 3: {:?}", &maps[..9], &maps[9..]);
+    assert!(maps.iter().all(|times| *times > 0), "an answer of a call with a map was never met");
     println!("no difference, {} s", start.elapsed().as_secs());
 }

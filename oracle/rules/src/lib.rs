@@ -11,6 +11,7 @@ pub mod by_list;
 pub mod entries;
 pub mod fault;
 pub mod layout;
+pub mod map;
 pub mod merge;
 pub mod plan;
 pub mod sound;

@@ -10,7 +10,7 @@ use crate::shapes::blocks::{ring, scattered, singly, volume, Order, SHAPES, Shap
 use crate::shapes::tree::{planned, Names, Order as Buckets, Plan};
 use port::{BlockCall, Blocks, PlanCall};
 
-fn job(report: &mut Report, what: &str, sides: Vec<Side>) {
+pub fn job(report: &mut Report, what: &str, sides: Vec<Side>) {
     if left_out(what) {
         return;
     }
@@ -179,6 +179,7 @@ pub fn run(report: &mut Report, quick: bool) {
     merges(report, n);
     audits(report, n, if quick { 500 } else { 65_000 });
     plans(report, n);
+    super::maps::run(report, n);
     long_file(report, n);
     volumes(report, n);
     open_files(report, quick);

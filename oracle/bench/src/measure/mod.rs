@@ -6,6 +6,7 @@ pub mod growth;
 pub mod handles;
 pub mod jobs;
 pub mod keys;
+pub mod maps;
 pub mod sides;
 pub mod tree;
 pub mod whole;
