@@ -14,6 +14,7 @@ mod mv;
 mod new;
 mod put;
 mod rm;
+mod status;
 mod verify;
 mod whole;
 
@@ -37,4 +38,5 @@ pub const ALL: &[Command] = &[
     defrag::COMMAND,
     new::COMMAND,
     map::COMMAND,
+    status::COMMAND,
 ];

@@ -91,10 +91,31 @@ fn free_neighbours_are_merged() {
 }
 
 #[test]
+fn free_blocks_of_a_stretch() {
+    let b = Bench::with_volume();
+    assert_eq!(
+        b.done(&["status", "v"]),
+        format!("v: 40 of 40 blocks free; the largest free stretch is 40 blocks from block 0\n{}\n", "·".repeat(40))
+    );
+    b.host("f", &noise(512 * 3, 1));
+    b.done(&["put", "v", "f", "f"]);
+    let text = b.done(&["status", "v", "1", "5"]);
+    assert_eq!(text, "v: 2 of 4 blocks from 1 to 5 free; the largest free stretch is 37 blocks from block 3\n██··\n");
+    assert_eq!(
+        b.done(&["status", "--json", "v", "1", "5"]),
+        "{\"version\": 1, \"command\": \"status\", \"volume\": \"v\", \"blocks\": 40, \"from\": 1, \"to\": 5, \"free\": 2, \"free_in_all\": 37, \"largest_free\": [3, 37]}\n"
+    );
+    b.fails(&["status", "v", "1"], 16);
+    b.fails(&["status", "v", "5", "1"], 16);
+    b.fails(&["status", "v", "0", "41"], 16);
+    b.fails(&["status", "v", "0", "x"], 16);
+}
+
+#[test]
 fn help_for_each_command() {
     let b = Bench::new();
     let all = b.done(&["--help"]);
-    let commands = ["check", "ls", "cat", "lift", "put", "mkdir", "mv", "rm", "merge", "whole", "defrag", "new", "map"];
+    let commands = ["check", "ls", "cat", "lift", "put", "mkdir", "mv", "rm", "merge", "whole", "defrag", "new", "map", "status"];
     for command in commands {
         assert!(all.contains(&format!("\n  {command} ")), "{command}");
         assert!(b.done(&[command, "--help"]).starts_with(&format!("mukthiban {command} ")));
