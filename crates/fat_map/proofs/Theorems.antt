@@ -130,16 +130,16 @@ run-map (creates u m r d l work count o p) i = kept-create u d l work m count o 
 run-map (resizes u m r d l work b count o p) i = kept-resize u d l work m b count o p (run-map r i)
 run-map (deletes u m r d l work b o p) i = kept-delete u d l work m b o p (run-map r i)
 
-size-not : SizeMismatch ≡ Done → ⊥
+pub size-not : SizeMismatch ≡ Done → ⊥
 size-not e = let z : _≡_ {A = ℕ} 0 1 = cc in omega (arith, z)
 
-value-not : InvalidValue ≡ Done → ⊥
+pub value-not : InvalidValue ≡ Done → ⊥
 value-not e = let z : _≡_ {A = ℕ} 0 1 = cc in omega (arith, z)
 
-short-not : WorkTooShort ≡ Done → ⊥
+pub short-not : WorkTooShort ≡ Done → ⊥
 short-not e = let z : _≡_ {A = ℕ} 0 1 = cc in omega (arith, z)
 
-broken-not : (f : Fault) → BrokenFat f ≡ Done → ⊥
+pub broken-not : (f : Fault) → BrokenFat f ≡ Done → ⊥
 broken-not f e = let z : _≡_ {A = ℕ} 0 1 = cc in omega (arith, z)
 
 -- a build that is Done leaves the table's map, and on a table's map any build changes nothing: so a map that was kept equals one built afresh
