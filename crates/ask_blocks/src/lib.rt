@@ -134,6 +134,47 @@ fn plans(
     }
 }
 
+// The calls with a free map, which the list is: build, create, resize, delete, and the stretch query, whose n is the block length and whose stretch is from
+// first up to and without count.
+fn mapped(
+    which: u32,
+    table: &mut [u8],
+    data: &[u8],
+    block_len: usize,
+    work: &mut [u32],
+    map: &mut [u32],
+    first: usize,
+    count: usize,
+) -> Said {
+    match which {
+        14 => {
+            let r = fat_map::build(table, data, block_len, work, map);
+            let answer = r.answer;
+            says(answer, 0, 0)
+        }
+        15 => {
+            let r = fat_map::create(table, data, block_len, work, map, count);
+            let answer = r.answer;
+            says(answer, r.first, 0)
+        }
+        16 => {
+            let r = fat_map::resize(table, data, block_len, work, map, first, count);
+            let answer = r.answer;
+            says(answer, 0, 0)
+        }
+        17 => {
+            let r = fat_map::delete(table, data, block_len, work, map, first);
+            let answer = r.answer;
+            says(answer, 0, 0)
+        }
+        _ => {
+            let r = fat_map::count(map, block_len, first, count);
+            let answer = r.answer;
+            says(answer, r.free, 0)
+        }
+    }
+}
+
 // A block call on what is lent to it; count is also the position of a read or a write.
 fn call(
     which: u32,
@@ -165,6 +206,7 @@ fn call(
             says(answer, 0, 0)
         }
         11..=13 => plans(which, table, data, block_len, work, list, first),
+        14..=18 => mapped(which, table, data, block_len, work, list, first, count),
         _ => look(which, table, data, block_len, work, list, buf, first, count),
     }
 }

@@ -94,15 +94,15 @@ fn broken_at(said: Said) {
     }
 }
 
-// The fields of an answer: two of test, with its work list, and one of open list, create, and plans applied and found; of BrokenFat also where the table is broken.
+// The fields of an answer: two of test, with its work list, and one of open list, create, plans applied and found, create with a map and the stretch query; of
+// BrokenFat also where the table is broken.
 fn fields(which: u32, said: Said, volume: Volume, work: &[u32]) {
     match which {
         1 => {
             tell::fields(2, said.one, said.two);
             tell::places(work, volume.work);
         }
-        2..=3 => tell::fields(1, said.one, 0),
-        12..=13 => tell::fields(1, said.one, 0),
+        2..=3 | 12..=13 | 15 | 18 => tell::fields(1, said.one, 0),
         _ => {}
     }
     broken_at(said);
