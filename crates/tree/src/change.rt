@@ -1,4 +1,4 @@
-// The public calls that change the entry tables: make, rename and delete. Every call takes all four tables, a work list and the open counts of its own table;
+// The public calls that change the entry tables: make, rename and delete. Every call takes all four tables, a work list and the open records of its own table;
 // it tests sizes and soundness, and then does its work by the call of tree_inner that requires soundness. What each promises on all inputs stands in tree_promises's
 // specs/Public.antt. A refusal gives its number and changes nothing but the work list.
 ghost use Rattle.order.specs.Beside.{beside};
@@ -11,7 +11,7 @@ use tree_key::SaveExtDirEntry;
 use tree_key::SaveExtFileEntry;
 use tree_test::Gated;
 
-// Makes a directory in a parent. Done: its inode; it is the first of its parent and of its bucket, has no children, carries the padding, and is open once.
+// Makes a directory in a parent. Done: its inode; it is the first of its parent and of its bucket, has no children, carries the padding, and is held by its writer.
 pub fn make_dir(
     dir_hash: &mut [u8],
     dir_table: &mut [u8],
@@ -51,7 +51,7 @@ pub fn make_dir(
     }
 }
 
-// Makes a file in a directory. Done: its inode; it is the first of its parent and of its bucket, carries the bytes, and is open once.
+// Makes a file in a directory. Done: its inode; it is the first of its parent and of its bucket, carries the bytes, and is held by its writer.
 pub fn make_file(
     dir_hash: &[u8],
     dir_table: &mut [u8],
@@ -91,7 +91,7 @@ pub fn make_file(
     }
 }
 
-// Gives a directory another parent and name. Done: it is the first of its new parent and bucket, and keeps inode, padding, children and open count.
+// Gives a directory another parent and name. Done: it is the first of its new parent and bucket, and keeps inode, padding, children and opens.
 pub fn rename_dir(
     dir_hash: &mut [u8],
     dir_table: &mut [u8],
@@ -131,7 +131,7 @@ pub fn rename_dir(
     }
 }
 
-// Gives a file another parent and name. Done: it is the first of its new parent and bucket, and keeps inode, carried bytes and open count.
+// Gives a file another parent and name. Done: it is the first of its new parent and bucket, and keeps inode, carried bytes and opens.
 pub fn rename_file(
     dir_hash: &[u8],
     dir_table: &mut [u8],
@@ -171,7 +171,7 @@ pub fn rename_file(
     }
 }
 
-// Deletes a directory that has no children and is open once. Done: its entry is the first removed one, and its open count is 0.
+// Deletes a directory that has no children, a writer and no readers. Done: its entry is the first removed one, and nothing of it is open.
 pub fn delete_dir(
     dir_hash: &mut [u8],
     dir_table: &mut [u8],
@@ -207,7 +207,7 @@ pub fn delete_dir(
     }
 }
 
-// Deletes a file that is open once. Done: its entry is the first removed one, and its open count is 0.
+// Deletes a file that has a writer and no readers. Done: its entry is the first removed one, and nothing of it is open.
 pub fn delete_file(
     dir_hash: &[u8],
     dir_table: &mut [u8],

@@ -1,4 +1,4 @@
-// The public calls on open counts: open and close.
+// The public calls on open records: open and close. Opening says which it wants, a reader's open or the writer's; closing says which it gives back.
 ghost use Rattle.order.specs.Beside.{beside};
 ghost use Rattle.tree_sound.specs.Tables.{Tables, tables};
 ghost use Rattle.tree_promises.specs.Calls.{openingGives};
@@ -6,9 +6,10 @@ ghost use Rattle.tree_promises.specs.Public.{OpenDirPromise, OpenFilePromise, C
 use order::Answer;
 use tree_key::SaveExtDirEntry;
 use tree_key::SaveExtFileEntry;
+use tree_opens::Want;
 use tree_test::Gated;
 
-// Opens directory `inode` once more. Done: its open count is 1 higher.
+// Opens directory `inode` once more. Done: its record has one reader more, or the writer.
 pub fn open_dir(
     dir_hash: &[u8],
     dir_table: &[u8],
@@ -17,9 +18,10 @@ pub fn open_dir(
     work: &mut [u32],
     opens: &mut [u32],
     inode: u32,
+    want: Want,
 ) -> Answer
     ensures { λ r. ⌜ (let s : Tables = tables (now («dir_hash» .entry)) (now («dir_table» .entry)) (now («file_hash» .entry)) (now («file_table» .entry)) in
-        OpenDirPromise s (now (opens .entry)) (now (work .entry)) inode (beside (openingGives r (now (opens .exit))) (now (work .exit)))) ⌝ }
+        OpenDirPromise s (now (opens .entry)) (now (work .entry)) inode want (beside (openingGives r (now (opens .exit))) (now (work .exit)))) ⌝ }
 {
     let gated = tree_test::open_gate(
         dir_hash,
@@ -38,11 +40,12 @@ pub fn open_dir(
             SaveExtDirEntry::WIDTH,
             opens,
             inode,
+            want,
         ),
     }
 }
 
-// Opens file `inode` once more. Done: its open count is 1 higher.
+// Opens file `inode` once more. Done: its record has one reader more, or the writer.
 pub fn open_file(
     dir_hash: &[u8],
     dir_table: &[u8],
@@ -51,9 +54,10 @@ pub fn open_file(
     work: &mut [u32],
     opens: &mut [u32],
     inode: u32,
+    want: Want,
 ) -> Answer
     ensures { λ r. ⌜ (let s : Tables = tables (now («dir_hash» .entry)) (now («dir_table» .entry)) (now («file_hash» .entry)) (now («file_table» .entry)) in
-        OpenFilePromise s (now (opens .entry)) (now (work .entry)) inode (beside (openingGives r (now (opens .exit))) (now (work .exit)))) ⌝ }
+        OpenFilePromise s (now (opens .entry)) (now (work .entry)) inode want (beside (openingGives r (now (opens .exit))) (now (work .exit)))) ⌝ }
 {
     let gated = tree_test::open_gate(
         dir_hash,
@@ -72,11 +76,12 @@ pub fn open_file(
             SaveExtFileEntry::WIDTH,
             opens,
             inode,
+            want,
         ),
     }
 }
 
-// Closes directory `inode` once. Done: its open count is 1 lower.
+// Closes directory `inode` once. Done: its record has one reader less, or no writer.
 pub fn close_dir(
     dir_hash: &[u8],
     dir_table: &[u8],
@@ -85,9 +90,10 @@ pub fn close_dir(
     work: &mut [u32],
     opens: &mut [u32],
     inode: u32,
+    want: Want,
 ) -> Answer
     ensures { λ r. ⌜ (let s : Tables = tables (now («dir_hash» .entry)) (now («dir_table» .entry)) (now («file_hash» .entry)) (now («file_table» .entry)) in
-        CloseDirPromise s (now (opens .entry)) (now (work .entry)) inode (beside (openingGives r (now (opens .exit))) (now (work .exit)))) ⌝ }
+        CloseDirPromise s (now (opens .entry)) (now (work .entry)) inode want (beside (openingGives r (now (opens .exit))) (now (work .exit)))) ⌝ }
 {
     let gated = tree_test::open_gate(
         dir_hash,
@@ -106,11 +112,12 @@ pub fn close_dir(
             SaveExtDirEntry::WIDTH,
             opens,
             inode,
+            want,
         ),
     }
 }
 
-// Closes file `inode` once. Done: its open count is 1 lower.
+// Closes file `inode` once. Done: its record has one reader less, or no writer.
 pub fn close_file(
     dir_hash: &[u8],
     dir_table: &[u8],
@@ -119,9 +126,10 @@ pub fn close_file(
     work: &mut [u32],
     opens: &mut [u32],
     inode: u32,
+    want: Want,
 ) -> Answer
     ensures { λ r. ⌜ (let s : Tables = tables (now («dir_hash» .entry)) (now («dir_table» .entry)) (now («file_hash» .entry)) (now («file_table» .entry)) in
-        CloseFilePromise s (now (opens .entry)) (now (work .entry)) inode (beside (openingGives r (now (opens .exit))) (now (work .exit)))) ⌝ }
+        CloseFilePromise s (now (opens .entry)) (now (work .entry)) inode want (beside (openingGives r (now (opens .exit))) (now (work .exit)))) ⌝ }
 {
     let gated = tree_test::open_gate(
         dir_hash,
@@ -140,6 +148,7 @@ pub fn close_file(
             SaveExtFileEntry::WIDTH,
             opens,
             inode,
+            want,
         ),
     }
 }

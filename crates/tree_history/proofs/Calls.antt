@@ -1,4 +1,4 @@
--- Every call that changes tables or open counts, from its promise; of directories and files alike.
+-- Every call that changes tables or open records, from its promise; of directories and files alike.
 use mathlib.Core.Path.{_≡_, refl, subst⁻¹}
 use mathlib.Core.Bool.{true}
 use mathlib.Core.List.{List, []}
@@ -9,6 +9,7 @@ use Rattle.order.specs.declared.Answer.the-variants.{Done}
 use Rattle.words.specs.Word.{AreBytes}
 use Rattle.tree_table.specs.View.{LiveIn}
 use Rattle.tree_sound.specs.Tables.{Tables, SoundIn}
+use Rattle.tree_opens.specs.declared.Want.{Want}
 use Rattle.tree_promises.specs.declared.Kind.{Kind}
 use Rattle.tree_promises.specs.declared.Kind.the-variants.{Directory, File}
 use Rattle.tree_promises.specs.Kinds.{kindView}
@@ -59,18 +60,18 @@ module _ (s : Tables) (w : Whole s) where
 
 -- ---- their rows refuse
 
-rename-refuses : (kind : Kind) (s : Tables) (opens : List ℕ) (x p : ℕ) (name : List ℕ) → Refusals (calls.renameTests kind s opens x p name) ≡ true
+pub rename-refuses : (kind : Kind) (s : Tables) (opens : List ℕ) (x p : ℕ) (name : List ℕ) → Refusals (calls.renameTests kind s opens x p name) ≡ true
 rename-refuses Directory s opens x p name = refl
 rename-refuses File s opens x p name = refl
 
-delete-refuses : (kind : Kind) (s : Tables) (opens : List ℕ) (x : ℕ) → Refusals (calls.deleteTests kind s opens x) ≡ true
+pub delete-refuses : (kind : Kind) (s : Tables) (opens : List ℕ) (x : ℕ) → Refusals (calls.deleteTests kind s opens x) ≡ true
 delete-refuses Directory s opens x = refl
 delete-refuses File s opens x = refl
 
 -- ---- the calls
 
--- a state with its own tables and open counts
-same-state : (kind : Kind) (s : State) → changed kind s (s .tables) (opensOf kind s) ≡ s
+-- a state with its own tables and open records
+pub same-state : (kind : Kind) (s : State) → changed kind s (s .tables) (opensOf kind s) ≡ s
 same-state Directory s = refl
 same-state File s = refl
 
@@ -121,15 +122,17 @@ module _ (s : State) (L : Lent (s .tables)) (work : List ℕ) (kind : Kind) wher
   counted : (u : List ℕ) → Whole t → Good s Done (changed kind s t u)
   counted u w = good-done s (changed kind s t u) (whole-step t w t (after-wrote t [] [] [] []) (w .sound)) (λ a. a)
 
-  pub good-open : (x : ℕ) (o : Beside calls.Opening) → OpenPromise kind t opens work x o → Good s (o .given .answer) (changed kind s t (o .given .opens))
-  good-open x o =
+  pub good-open : (x : ℕ) (want : Want) (o : Beside calls.Opening) → OpenPromise kind t opens work x want o
+      → Good s (o .given .answer) (changed kind s t (o .given .opens))
+  good-open x want o =
       good-opens s L (λ (x : calls.Opening). x .answer) (λ (x : calls.Opening). changed kind s t (x .opens)) (λ a. calls.openingGives a opens) unchanged work
-      (calls.openTests (kindView kind t) opens x) (calls.openDone opens x) o refl (λ w n. counted (calls.openDone opens x .opens) w) kind opens
+      (calls.openTests (kindView kind t) opens x want) (calls.openDone opens x want) o refl (λ w n. counted (calls.openDone opens x want .opens) w) kind opens
 
-  pub good-close : (x : ℕ) (o : Beside calls.Opening) → ClosePromise kind t opens work x o → Good s (o .given .answer) (changed kind s t (o .given .opens))
-  good-close x o =
+  pub good-close : (x : ℕ) (want : Want) (o : Beside calls.Opening) → ClosePromise kind t opens work x want o
+      → Good s (o .given .answer) (changed kind s t (o .given .opens))
+  good-close x want o =
       good-opens s L (λ (x : calls.Opening). x .answer) (λ (x : calls.Opening). changed kind s t (x .opens)) (λ a. calls.openingGives a opens) unchanged work
-      (calls.closeTests (kindView kind t) opens x) (calls.closeDone opens x) o refl (λ w n. counted (calls.closeDone opens x .opens) w) kind opens
+      (calls.closeTests (kindView kind t) opens x want) (calls.closeDone opens x want) o refl (λ w n. counted (calls.closeDone opens x want .opens) w) kind opens
 
   -- carried bytes
   pub good-set-carried : (x : ℕ) (bytes : List ℕ) → AreBytes bytes → (o : Beside calls.Carry) → SetCarriedPromise kind t work x bytes o

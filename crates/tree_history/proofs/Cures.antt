@@ -21,6 +21,7 @@ use Rattle.tree_test.specs.Promise.{tested, testDone, TestPromise}
 use Rattle.tree_test.specs.declared.Tested.{Tested}
 use Rattle.tree_sound.specs.Tables.{Tables, roomsIn}
 use Rattle.tree_opens.specs.Opens.{opened}
+use Rattle.tree_opens.specs.Record.{writer}
 use Rattle.tree_promises.specs.declared.Kind.{Kind}
 use Rattle.tree_promises.specs.declared.Kind.the-variants.{Directory, File}
 use Rattle.tree_promises.specs.Kinds.{kindView, kindRoom}
@@ -78,7 +79,7 @@ module _ (s : Tables) (w : Whole s) (work : List ℕ) (long : roomsIn s ≤ leng
       (λ m. absurd (w .fits m), (λ m. absurd (w .inside m), (λ (k : length work < roomsIn s). absurd (omega arith), (λ n. absurd (n (w .sound)), tt))))
       (λ _. refl)
 
--- and open counts that are long enough
+-- and open records that are long enough
 module _ (kind : Kind) (s : Tables) (w : Whole s) (opens work : List ℕ) (long : roomsIn s ≤ length work) (counted : kindRoom kind s ≤ length opens) where
   abbrev short : Type 0
   short = (length work < roomsIn s) ⊎ (length opens < kindRoom kind s)
@@ -86,7 +87,7 @@ module _ (kind : Kind) (s : Tables) (w : Whole s) (opens work : List ℕ) (long 
   not-short : short → ⊥
   not-short h = ⊎-elim (λ (k : length work < roomsIn s). omega arith) (λ (k : length opens < kindRoom kind s). omega arith) h
 
-  own-rows : {A : Type 0} (refuse : Answer → A) (own : List (Row A)) (done : A) (o : Beside A) → OpensPromise kind refuse s opens work own done o
+  pub own-rows : {A : Type 0} (refuse : Answer → A) (own : List (Row A)) (done : A) (o : Beside A) → OpensPromise kind refuse s opens work own done o
       → First (within (worked s work) own) (beside done (worked s work)) o
   unfolding OpensPromise
   own-rows refuse own done o p = passed s w work refuse own done o short not-short p
@@ -101,8 +102,8 @@ module _ (kind : Kind) (s : Tables) (w : Whole s) (opens work : List ℕ) (long 
     abbrev answer : Beside Change → Answer
     answer c = c .given .answer
 
-    -- rename-cures: an entry that may be renamed and is open gets a legal name, whatever name it has
-    pub rename-cures : MayRename kind s x p name → (opened opens x ≡ 0 → ⊥) → legal name ≡ true → RenamePromise kind s opens work x p name o → answer o ≡ Done
+    -- rename-cures: an entry that may be renamed and that a writer holds gets a legal name, whatever name it has
+    pub rename-cures : MayRename kind s x p name → (writer (opened opens x) ≡ 0 → ⊥) → legal name ≡ true → RenamePromise kind s opens work x p name o → answer o ≡ Done
     rename-cures m held e q =
         of-within (λ (c : Change). c .answer ≡ Done) (worked s work) (renameRows kind s opens x p name) (renameDone kind s opens x p name) o
         (each-giving (λ (c : Change). c .answer ≡ Done) (λ a. changeGives a s opens) (renameTests kind s opens x p name) (none kind m))
@@ -129,17 +130,17 @@ module _ (kind : Kind) (s : Tables) (w : Whole s) (opens work : List ℕ) (long 
         )
 
     -- bad-rename: a bad new name of a live entry is answered once the entry itself is judged, whatever the new parent is
-    pub bad-rename : LiveIn (kindView kind s) x → legal name ≡ false → RenamePromise kind s opens work x p name o → answer o ≡ badRename kind (opened opens x) x
+    pub bad-rename : LiveIn (kindView kind s) x → legal name ≡ false → RenamePromise kind s opens work x p name o → answer o ≡ badRename kind (writer (opened opens x)) x
     bad-rename l bad q = go kind l (own-rows (λ a. changeGives a s opens) (renameRows kind s opens x p name) (renameDone kind s opens x p name) o q)
       where
-        shut : (a b : Answer) → opened opens x ≡ 0 → a ≡ pick (eqb (opened opens x) 0) a b
-        shut a b h = sym (ap (λ t. pick t a b) (eq-eqb (opened opens x) 0 h))
+        shut : (a b : Answer) → writer (opened opens x) ≡ 0 → a ≡ pick (eqb (writer (opened opens x)) 0) a b
+        shut a b h = sym (ap (λ t. pick t a b) (eq-eqb (writer (opened opens x)) 0 h))
 
-        kept : (a b : Answer) → (opened opens x ≡ 0 → ⊥) → b ≡ pick (eqb (opened opens x) 0) a b
-        kept a b h = sym (ap (λ t. pick t a b) (ne-eqb (opened opens x) 0 h))
+        kept : (a b : Answer) → (writer (opened opens x) ≡ 0 → ⊥) → b ≡ pick (eqb (writer (opened opens x)) 0) a b
+        kept a b h = sym (ap (λ t. pick t a b) (ne-eqb (writer (opened opens x)) 0 h))
 
         go : (k : Kind) → LiveIn (kindView k s) x → First (within (worked s work) (renameRows k s opens x p name)) (beside (renameDone k s opens x p name) (worked s work)) o
-            → answer o ≡ badRename k (opened opens x) x
+            → answer o ≡ badRename k (writer (opened opens x)) x
         go k l (inl h) = absurd (h .0 l)
         go Directory l (inr (a, inl h)) = ap answer (h .1) ∙ shut NotOpen (pick (eqb x 1) DeletingRoot InvalidValue) (h .0)
         go Directory l (inr (a, inr (b, inl h))) =

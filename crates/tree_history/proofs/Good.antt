@@ -49,7 +49,7 @@ pub good-done : (s u : State) → Whole (u .tables) × SameSizes (s .tables) (u 
 good-done s u w a = record { done = λ _. w; same = λ n. absurd (n refl); stays = λ _. w .0; named = a; unbroken = λ _ e. omega (arith, ap numberOf e) }
 
 -- rows that refuse: a test, so that a call's rows need no list of their own here
-abbrev refuses : Answer → Bool
+abbrev pub refuses : Answer → Bool
 refuses a = not (eqb (numberOf a) 0) && not (eqb (numberOf a) 9)
 
 abbrev pub Refusals : List (Row Answer) → Bool
@@ -65,7 +65,7 @@ pub both-right : (a b : Bool) → a && b ≡ true → b ≡ true
 both-right true b e = e
 both-right false b e = absurd (false≢true e)
 
-refusal-of : (a : Answer) → refuses a ≡ true → Refusal a
+pub refusal-of : (a : Answer) → refuses a ≡ true → Refusal a
 refusal-of a = go (numberOf a) (eqb (numberOf a) 0) (eqb (numberOf a) 9) refl refl
   where
     go : (n : ℕ) (t u : Bool) → eqb n 0 ≡ t → eqb n 9 ≡ u → not t && not u ≡ true → (0 < n) × (n ≡ 9 → ⊥)
@@ -101,7 +101,7 @@ module _ {A : Type 0} (s : State) (L : Lent (s .tables)) (answerOf : A → Answe
       → GoodAt (o .given)
   good-call work own done o g f = of-tree GoodAt refuse (s .tables) gate work own done o g (λ w. f (w L))
 
-  -- the same where the own rows say the answer alone; of a call that takes no open counts, and of one that takes a kind's
+  -- the same where the own rows say the answer alone; of a call that takes no open records, and of one that takes a kind's
   module _ (work : List ℕ) (tests : List (Row Answer)) (done : A) (o : Beside A) (h : Refusals tests ≡ true) (f : Whole (s .tables) → None tests → GoodAt done) where
     pub good-tree : TreePromise refuse (s .tables) work (giving refuse tests) done o → GoodAt (o .given)
     good-tree =

@@ -12,3 +12,5 @@ pub mod Theorems
 pub mod Reach
 pub mod Space
 pub mod Cures
+pub mod Moves
+pub mod Held

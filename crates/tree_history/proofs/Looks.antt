@@ -1,4 +1,4 @@
--- The calls that change neither tables nor open counts, from their promises.
+-- The calls that change neither tables nor open records, from their promises.
 use mathlib.Core.Path.{refl}
 use mathlib.Core.List.{List, []}
 use Prim.Native.Nat.{ℕ}

@@ -14,8 +14,11 @@ use Rattle.tree_promises.specs.declared.Kind.the-variants.{Directory, File}
 use Rattle.tree_promises.specs.Kinds.{kindView}
 use Rattle.tree_promises.specs.Legal.{legal}
 use Rattle.tree_promises.specs.Calls.{makeTests, renameTests, deleteTests, openTests, closeTests}
+use Rattle.tree_opens.specs.Opens.{opened}
+use Rattle.tree_opens.specs.Record.{writer}
+use Rattle.tree_opens.specs.declared.Want.{Want}
 use Rattle.tree_history.specs.May.{MayMake, MayRename, MayDelete, MayOpen, MayClose}
-use Rattle.tree_history.proofs.Stable.{live-stable}
+use Rattle.tree_history.proofs.Stable.{live-stable, eq-stable}
 
 -- a file is no directory
 other : {P : Type 0} → File ≡ Directory → P
@@ -49,20 +52,24 @@ pub may-delete : (kind : Kind) (s : Tables) (opens : List ℕ) (x : ℕ) → Non
 may-delete Directory s opens x n = record {
   subject = live-stable (dirs s) x (n .0);
   held = n .1 .0;
-  once = n .1 .1 .0;
+  alone = n .1 .1 .0;
   not-root = λ _. n .1 .1 .1 .0;
   childless = λ _. n .1 .1 .1 .1 .0;
 }
 may-delete File s opens x n = record {
   subject = live-stable (files s) x (n .0);
   held = n .1 .0;
-  once = n .1 .1 .0;
+  alone = n .1 .1 .0;
   not-root = λ e. other e;
   childless = λ e. other e;
 }
 
-pub may-open : (v : View) (opens : List ℕ) (x : ℕ) → None (openTests v opens x) → MayOpen v opens x
-may-open v opens x n = record { subject = live-stable v x (n .0); few = lt-of-not-le (n .1 .0) }
+pub may-open : (v : View) (opens : List ℕ) (x : ℕ) (want : Want) → None (openTests v opens x want) → MayOpen v opens x want
+may-open v opens x want n = record {
+  subject = live-stable v x (n .0);
+  few = lt-of-not-le (n .1 .0);
+  single = λ e. eq-stable (writer (opened opens x)) 0 (λ k. n .1 .1 .0 (e, k));
+}
 
-pub may-close : (v : View) (opens : List ℕ) (x : ℕ) → None (closeTests v opens x) → MayClose v opens x
-may-close v opens x n = record { subject = live-stable v x (n .0); held = n .1 .0 }
+pub may-close : (v : View) (opens : List ℕ) (x : ℕ) (want : Want) → None (closeTests v opens x want) → MayClose v opens x want
+may-close v opens x want n = record { subject = live-stable v x (n .0); held = n .1 .0 }

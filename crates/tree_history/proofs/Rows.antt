@@ -46,7 +46,7 @@ none-giving refuse (r ∷ rs) n = (n .0, none-giving refuse rs (n .1))
 
 -- whole promises ---------------------------------------------------------------------------------------------------------------------------------------
 
--- the rows of sizes, work list and soundness; short is when the work list or the open counts are too short
+-- the rows of sizes, work list and soundness; short is when the work list or the open records are too short
 abbrev pub front : {A : Type 0} → (Answer → A) → Tables → Type 0 → List ℕ → List (Row (Beside A))
 front refuse s short work =
     entryGate (λ a w. beside (refuse a) w) s
@@ -70,7 +70,7 @@ module _ {A : Type 0} (P : A → Type 0) (refuse : Answer → A) (s : Tables) (G
   of-call short (inr (m, inr (i, inr (w, inr (u, p))))) =
       of-within P (worked s work) own done o g (f (λ l. record { lent = l; fits = m; inside = i; sound = sound-stable (dirs s) (files s) u })) p
 
-  -- a call that takes no open counts, and one that takes those of a kind's table
+  -- a call that takes no open records, and one that takes those of a kind's table
   pub of-tree : TreePromise refuse s work own done o → P (o .given)
   unfolding TreePromise
   of-tree p = of-call (length work < roomsIn s) p

@@ -53,10 +53,10 @@ good s L (set-carried kind work x bytes o b q) = changes.good-set-carried s L wo
 good s L (make kind work p name bytes o bn bb q) = changes.good-make s L work kind p name bytes bn bb o q
 good s L (rename kind work x p name o bn q) = changes.good-rename s L work kind x p name bn o q
 good s L (delete kind work x o q) = changes.good-delete s L work kind x o q
-good s L (opening kind work x o q) = changes.good-open s L work kind x o q
-good s L (closing kind work x o q) = changes.good-close s L work kind x o q
+good s L (opening kind work x want o q) = changes.good-open s L work kind x want o q
+good s L (closing kind work x want o q) = changes.good-close s L work kind x want o q
 
--- kept: a public call on tables of bytes, answered Done, leaves sound tables of bytes, as long as they were; refused, it leaves tables and open counts as
+-- kept: a public call on tables of bytes, answered Done, leaves sound tables of bytes, as long as they were; refused, it leaves tables and open records as
 -- they were
 pub kept : (s u : State) (answer : Answer) → Lent (s .tables) → Call s answer u → KeptBy s answer u
 kept s u answer L c = let g = good s L c in (g .done, g .same)

@@ -8,6 +8,7 @@ use Rattle.order.specs.declared.Answer.the-variants.{Done}
 use Rattle.tree_test.specs.Promise.{TestPromise}
 use Rattle.tree_test.specs.declared.Tested.{Tested}
 use Rattle.tree_sound.specs.Tables.{Tables}
+use Rattle.tree_opens.specs.declared.Want.{Want}
 use Rattle.tree_promises.specs.Calls.{Lookup, Make, Change, Opening, Listing, Stat, Shown, Carry}
 use Rattle.tree_promises.specs.Format.{FormatPromise}
 use Rattle.tree_promises.specs.Public.{
@@ -29,7 +30,7 @@ use Rattle.tree.specs.Name.{NameAnswerPromise}
 use Rattle.words.specs.Word.{AreBytes}
 use Rattle.tree_history.specs.Whole.{Whole, SameSizes}
 
--- what the calls are lent from one to the next: the four tables, and the open counts of the directories and of the files
+-- what the calls are lent from one to the next: the four tables, and the open records of the directories and of the files
 pub record State : Type 0 where
   pub tables : Tables
   pub dirOpens : List ℕ
@@ -38,7 +39,7 @@ pub record State : Type 0 where
 abbrev pub state : Tables → List ℕ → List ℕ → State
 state tables dirOpens fileOpens = record { tables = tables; dirOpens = dirOpens; fileOpens = fileOpens }
 
--- the open counts of the kind's table; and the state with tables t and these open counts of it
+-- the open records of the kind's table; and the state with tables t and these open records of it
 abbrev pub opensOf : (kind : Kind) (s : State) → List ℕ
 opensOf Directory s = s .dirOpens
 opensOf File s = s .fileOpens
@@ -77,13 +78,13 @@ pub data Call (s : State) : Answer → State → Type 0 where
       → Call s (o .given .answer) (changed kind s (o .given .tables) (o .given .opens))
   delete : (kind : Kind) (work : List ℕ) (x : ℕ) (o : Beside Change) → DeletePromise kind (s .tables) (opensOf kind s) work x o
       → Call s (o .given .answer) (changed kind s (o .given .tables) (o .given .opens))
-  opening : (kind : Kind) (work : List ℕ) (x : ℕ) (o : Beside Opening) → OpenPromise kind (s .tables) (opensOf kind s) work x o
+  opening : (kind : Kind) (work : List ℕ) (x : ℕ) (want : Want) (o : Beside Opening) → OpenPromise kind (s .tables) (opensOf kind s) work x want o
       → Call s (o .given .answer) (changed kind s (s .tables) (o .given .opens))
-  closing : (kind : Kind) (work : List ℕ) (x : ℕ) (o : Beside Opening) → ClosePromise kind (s .tables) (opensOf kind s) work x o
+  closing : (kind : Kind) (work : List ℕ) (x : ℕ) (want : Want) (o : Beside Opening) → ClosePromise kind (s .tables) (opensOf kind s) work x want o
       → Call s (o .given .answer) (changed kind s (s .tables) (o .given .opens))
 
 -- the state u after a call on the state s with this answer: where the answer is Done, tables of bytes that are sound and as long as they were; else
--- tables and open counts as they were
+-- tables and open records as they were
 abbrev pub KeptBy : State → Answer → State → Type 0
 KeptBy s answer u =
     (answer ≡ Done → Whole (u .tables) × SameSizes (s .tables) (u .tables))

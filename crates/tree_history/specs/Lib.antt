@@ -4,3 +4,4 @@ pub mod Run
 pub mod May
 pub mod Room
 pub mod Names
+pub mod Held

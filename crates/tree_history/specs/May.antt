@@ -10,6 +10,10 @@ use Rattle.tree_table.specs.View.{View, LiveIn}
 use Rattle.tree_table.specs.Steps.{freeOf}
 use Rattle.tree_sound.specs.Tables.{Tables, dirs, files}
 use Rattle.tree_opens.specs.Opens.{opened}
+use Rattle.tree_opens.specs.Record.{readers, writer, total}
+use Rattle.tree_opens.specs.Step.{holds}
+use Rattle.tree_opens.specs.declared.Want.{Want}
+use Rattle.tree_opens.specs.declared.Want.the-variants.{Writer}
 use Rattle.tree_promises.specs.declared.Kind.{Kind}
 use Rattle.tree_promises.specs.declared.Kind.the-variants.{Directory}
 use Rattle.tree_promises.specs.Legal.{legal}
@@ -35,16 +39,17 @@ pub record MayRename (kind : Kind) (s : Tables) (x p : ℕ) (name : List ℕ) : 
 -- entry x may be deleted
 pub record MayDelete (kind : Kind) (s : Tables) (opens : List ℕ) (x : ℕ) : Type 0 where
   pub subject : LiveIn (kindView kind s) x
-  pub held : opened opens x ≡ 0 → ⊥
-  pub once : 1 < opened opens x → ⊥
+  pub held : writer (opened opens x) ≡ 0 → ⊥
+  pub alone : 0 < readers (opened opens x) → ⊥
   pub not-root : kind ≡ Directory → x ≡ 1 → ⊥
   pub childless : kind ≡ Directory → (0 < dirs s .head x) ⊎ (0 < files s .head x) → ⊥
 
--- entry x of the table v may be opened once more, or closed once
-pub record MayOpen (v : View) (opens : List ℕ) (x : ℕ) : Type 0 where
+-- entry x of the table v may be opened once more by a reader or by the writer, or closed once
+pub record MayOpen (v : View) (opens : List ℕ) (x : ℕ) (want : Want) : Type 0 where
   pub subject : LiveIn v x
-  pub few : opened opens x < 65535
+  pub few : total (opened opens x) < 65535
+  pub single : want ≡ Writer → writer (opened opens x) ≡ 0
 
-pub record MayClose (v : View) (opens : List ℕ) (x : ℕ) : Type 0 where
+pub record MayClose (v : View) (opens : List ℕ) (x : ℕ) (want : Want) : Type 0 where
   pub subject : LiveIn v x
-  pub held : opened opens x ≡ 0 → ⊥
+  pub held : holds (opened opens x) want ≡ 0 → ⊥

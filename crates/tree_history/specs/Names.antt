@@ -33,10 +33,10 @@ pub record AllLegal (s : Tables) : Type 0 where
 abbrev pub badMake : Answer
 badMake = InvalidValue
 
--- what rename answers to one, of a live entry x that is opened so many times, whatever the new parent is
-abbrev pub badRename : (kind : Kind) (opens x : ℕ) → Answer
-badRename Directory opens x = pick (eqb opens 0) NotOpen (pick (eqb x 1) DeletingRoot InvalidValue)
-badRename File opens x = pick (eqb opens 0) NotOpen InvalidValue
+-- what rename answers to one, of a live entry x that so many writers hold, whatever the new parent is
+abbrev pub badRename : (kind : Kind) (writer x : ℕ) → Answer
+badRename Directory writer x = pick (eqb writer 0) NotOpen (pick (eqb x 1) DeletingRoot InvalidValue)
+badRename File writer x = pick (eqb writer 0) NotOpen InvalidValue
 
 -- what lookup answers of a name that is there, and what the test answers of sound tables that hold one, whether or not the name is legal
 abbrev pub namedLookup : (legal : Bool) → Answer

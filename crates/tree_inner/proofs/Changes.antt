@@ -31,7 +31,7 @@ use Rattle.tree_promises.specs.Legal.{legal}
 use Rattle.tree_promises.specs.Has.{above, Has, HasOther}
 use Rattle.tree_promises.specs.Steps.{unlinkedFrom, linkedTo}
 use Rattle.order.specs.Giving.{giving}
-use Rattle.tree_promises.specs.Calls.{heldTests, onceTests, deleteTests, renameTests, makeTests, changeGives, deleteRows, deleteDone, renameDone}
+use Rattle.tree_promises.specs.Calls.{heldTests, aloneTests, deleteTests, renameTests, makeTests, changeGives, deleteRows, deleteDone, renameDone}
 use Rattle.tree_promises.specs.inner.Ready.{Ready, ReadyOpens, LiveAt, Single, alone}
 use Rattle.tree_inner.specs.inner.Seat.{InParent}
 use Rattle.tree_inner.specs.inner.Judge.{JudgedBy}
@@ -40,7 +40,8 @@ use Rattle.tree_inner.specs.declared.judge.Judged.the-variants.{Go, Refu
 use Rattle.tree_inner.proofs.Lists.{inside, all-fit, count-few, child-ends, child-list, dir-single, file-single, ends-of, list-of}
 use Rattle.order.specs.Tells.{Tells}
 use Rattle.tree_test.proofs.Cases.{tells-not}
-use Rattle.tree_inner.proofs.Judges.{passed, given-first, none-first, live-sure}
+use Rattle.tree_inner.proofs.Given.{given-first, none-first}
+use Rattle.tree_inner.proofs.Judges.{passed, live-sure}
 
 -- ---- where a live entry stands in its parent's list
 
@@ -265,7 +266,7 @@ other-key v x {k} {k′} {r} e T = subst (λ z. Tells (HasOther v x z) r) e T
 
 -- what the tests that passed say
 module _ (s : Tables) (R : Ready s) (opens : List ℕ) (x : ℕ) where
-  module _ (n : None (onceTests (files s) opens x)) where
+  module _ (n : None (aloneTests (files s) opens x)) where
     gone-file : LiveIn (files s) x
     gone-file = live-sure 48 (s .fileTable) x (n .0)
 
@@ -344,11 +345,11 @@ module _ (s : Tables) (R : Ready s) (opens : List ℕ) (x : ℕ) where
             subst (λ z. 0 < z / 4) (sym eh) (R .dir-buckets),
           )
 
--- ---- the ends of delete, for `search`: what the tests that passed, the steps and the open counts give together
+-- ---- the ends of delete, for `search`: what the tests that passed, the steps and the open records give together
 
 module _ (dh d h f opens : List ℕ) (x : ℕ) (j : Judged) where
-  pub delete-file-counted : ReadyOpens File (tables dh d h f) opens → JudgedBy (onceTests (alone 48 f) opens x) j → j ≡ Go → Counted opens x
-  delete-file-counted R J go = file-counted (tables dh d h f) (R .ready) opens x (passed (onceTests (alone 48 f) opens x) j J go) (R .counted)
+  pub delete-file-counted : ReadyOpens File (tables dh d h f) opens → JudgedBy (aloneTests (alone 48 f) opens x) j → j ≡ Go → Counted opens x
+  delete-file-counted R J go = file-counted (tables dh d h f) (R .ready) opens x (passed (aloneTests (alone 48 f) opens x) j J go) (R .counted)
 
   pub delete-dir-counted : ReadyOpens Directory (tables dh d h f) opens → JudgedBy (deleteTests Directory (tables dh d [] []) opens x) j → j ≡ Go → Counted opens x
   delete-dir-counted R J go = dir-counted (tables dh d h f) (R .ready) opens x (passed (deleteTests Directory (tables dh d [] []) opens x) j J go) (R .counted)
@@ -357,14 +358,14 @@ module _ (dh d h f opens : List ℕ) (x : ℕ) (j : Judged) (go : j ≡ Go) wher
   abbrev here : Tables
   here = tables dh d h f
 
-  module _ (J : JudgedBy (onceTests (files here) opens x) j) where
+  module _ (J : JudgedBy (aloneTests (files here) opens x) j) where
     pub delete-file-done : (d′ h′ f1 f2 opens′ : List ℕ)
         → (d′ ≡ unlinkedFrom File (tables [] d h f) x .dirTable) × (h′ ≡ unlinkedFrom File (tables [] d h f) x .fileHash) × (f1 ≡ unlinkedFrom File (tables [] d h f) x .fileTable)
         → f2 ≡ wrote 48 f1 (giveWrites 48 (field 48 f1) x) → opens′ ≡ withOpen opens x 0
         → First (deleteRows File here opens x) (deleteDone File here opens x) (changeGives Done (tables dh d′ h′ f2) opens′)
     delete-file-done d′ h′ f1 f2 opens′ u e eo =
-        call-done (λ a. changeGives a here opens) (deleteDone File here opens x) (changeGives Done (tables dh d′ h′ f2) opens′) (onceTests (files here) opens x)
-        (passed (onceTests (files here) opens x) j J go) (deleted-file dh d h f d′ h′ f1 f2 opens opens′ x (u .0) (u .1) (u .2) e eo)
+        call-done (λ a. changeGives a here opens) (deleteDone File here opens x) (changeGives Done (tables dh d′ h′ f2) opens′) (aloneTests (files here) opens x)
+        (passed (aloneTests (files here) opens x) j J go) (deleted-file dh d h f d′ h′ f1 f2 opens opens′ x (u .0) (u .1) (u .2) e eo)
 
   module _ (J : JudgedBy (deleteTests Directory here opens x) j) where
     pub delete-dir-done : (h′ d1 d2 opens′ : List ℕ)

@@ -26,8 +26,9 @@ use Rattle.tree_sound.specs.Tables.{Tables, tables}
 use Rattle.tree_promises.specs.declared.Kind.the-variants.{Directory}
 use Rattle.tree_promises.specs.Has.{HasOther}
 use Rattle.order.specs.Giving.{giving}
-use Rattle.tree_promises.specs.Calls.{heldTests, onceTests, deleteTests}
+use Rattle.tree_promises.specs.Calls.{heldTests, aloneTests, deleteTests}
 use Rattle.tree_opens.specs.Opens.{opened, Counted}
+use Rattle.tree_opens.specs.Record.{readers, writer}
 use Rattle.tree_promises.specs.inner.Ready.{LiveAt, Single, SingleOpens, alone, hashed}
 use Rattle.tree_inner.specs.inner.Judge.{JudgedBy}
 use Rattle.tree_inner.specs.declared.judge.Judged.{Judged}
@@ -60,17 +61,6 @@ refused-still rs qs j a J e = subst (JudgedBy (rs ++ qs)) (sym e) (given-front r
 pub passed : (rs : List (Row Answer)) (j : Judged) → JudgedBy rs j → j ≡ Go → None rs
 passed rs j J e = subst (JudgedBy rs) e J
 
--- ---- what a call gives
-
-pub given-first : {A : Type 0} (g : Answer → A) (d : A) (rs : List (Row Answer)) (a : Answer) → Given rs a → First (giving g rs) d (g a)
-given-first g d [] a p = absurd p
-given-first g d (r ∷ rs) a (inl p) = inl (p .0, ap g (p .1))
-given-first g d (r ∷ rs) a (inr p) = inr (p .0, given-first g d rs a (p .1))
-
-pub none-first : {A : Type 0} (g : Answer → A) (d : A) (rs : List (Row Answer)) → None rs → First (giving g rs) d d
-none-first g d [] n = refl
-none-first g d (r ∷ rs) n = inr (n .0, none-first g d rs (n .1))
-
 -- ---- live
 
 less-sure : (a b : ℕ) → ((a < b → ⊥) → ⊥) → a < b
@@ -89,7 +79,7 @@ module _ (t : List ℕ) (w x : ℕ) (opens : List ℕ) (r : Bool) (T : Tells (Li
   pub held-none : not r ≡ true → Given (heldTests (alone w t) opens x) NotFound
   held-none e = inl (tells-not T (not-true r e), refl)
 
-  module _ (n : ℕ) (e : not r ≡ false) (count : n ≡ opened opens x) where
+  module _ (n : ℕ) (e : not r ≡ false) (count : n ≡ writer (opened opens x)) where
     pub held-shut : n ≡ 0 → Given (heldTests (alone w t) opens x) NotOpen
     held-shut g = inr (λ k. k (T .yes (not-false r e)), inl (sym count ∙ g, refl))
 
@@ -104,20 +94,20 @@ module _ (t : List ℕ) (w x : ℕ) (opens : List ℕ) (j : Judged) (J : JudgedB
   held-counted h S =
       let l : x < field w t 0 1 = live-sure w t x (held .0) .1 in omega (arith, S .single .table .count-max, S .single .table .max-room, S .counted)
 
-  module _ (n : ℕ) (count : n ≡ opened opens x) where
-    pub once-busy : 1 < n → Given (onceTests (alone w t) opens x) Busy
-    once-busy g = given-behind (heldTests (alone w t) opens x) (row (1 < opened opens x) Busy ∷ []) Busy held (inl (omega arith, refl))
+  module _ (n : ℕ) (count : n ≡ readers (opened opens x)) where
+    pub alone-busy : 0 < n → Given (aloneTests (alone w t) opens x) Busy
+    alone-busy g = given-behind (heldTests (alone w t) opens x) (row (0 < readers (opened opens x)) Busy ∷ []) Busy held (inl (omega arith, refl))
 
-    pub once-go : n ≤ 1 → None (onceTests (alone w t) opens x)
-    once-go g = none-both (heldTests (alone w t) opens x) (row (1 < opened opens x) Busy ∷ []) held (λ (k : 1 < opened opens x). omega arith, tt)
+    pub alone-go : n ≤ 0 → None (aloneTests (alone w t) opens x)
+    alone-go g = none-both (heldTests (alone w t) opens x) (row (0 < readers (opened opens x)) Busy ∷ []) held (λ (k : 0 < readers (opened opens x)). omega arith, tt)
 
 -- the tests of one table by itself are those of the table among the four
-module _ {h d : List ℕ} (S : Single h d 40) (opens : List ℕ) (x : ℕ) (n : None (onceTests (alone 40 d) opens x)) where
+module _ {h d : List ℕ} (S : Single h d 40) (opens : List ℕ) (x : ℕ) (n : None (aloneTests (alone 40 d) opens x)) where
   abbrev s : Tables
   s = tables h d [] []
 
-  pub once-fits : x * 40 + 40 ≤ length d
-  once-fits = let l = live-sure 40 d x (n .0) in inside d 40 x (field 40 d 0 1) (l .1) (all-fit h d 40 S)
+  pub alone-fits : x * 40 + 40 ≤ length d
+  alone-fits = let l = live-sure 40 d x (n .0) in inside d 40 x (field 40 d 0 1) (l .1) (all-fit h d 40 S)
 
   pub dir-root : x ≡ 1 → Given (deleteTests Directory s opens x) DeletingRoot
   dir-root e = inr (n .0, inr (n .1 .0, inr (n .1 .1 .0, inl (e, refl))))

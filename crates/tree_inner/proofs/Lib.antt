@@ -1,5 +1,6 @@
 pub mod Lists
 pub mod Live
+pub mod Given
 pub mod Opens
 pub mod Lookups
 pub mod Listings

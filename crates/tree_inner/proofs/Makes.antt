@@ -18,6 +18,7 @@ use Rattle.tree_table.specs.View.{removedOf, LiveIn}
 use Rattle.tree_table.specs.Steps.{taken, takeWrites, freeOf}
 use Rattle.tree_table.proofs.Field.{length-wrote}
 use Rattle.tree_opens.specs.Opens.{withOpen, Counted, AllCounted}
+use Rattle.tree_opens.specs.Record.{writerAlone}
 use Rattle.tree_promises.specs.Kinds.{kindRoom}
 use Rattle.tree_sound.specs.Tables.{Tables, tables, dirs, files}
 use Rattle.tree_promises.specs.declared.Kind.the-variants.{Directory, File}
@@ -139,22 +140,22 @@ made-dir h d d1 d2 h3 d3 d4 x p name padding ex e1 e2 eh ed e4 =
 -- and what the call gives
 pub gave-file : (dh d h f d′ h′ f′ opens opens′ : List ℕ) (x p : ℕ) (name carried : List ℕ) → x ≡ taken (alone 48 f)
     → d′ ≡ made File (tables [] d h f) p name carried .dirTable → h′ ≡ made File (tables [] d h f) p name carried .fileHash → f′ ≡ made File (tables [] d h f) p name carried .fileTable
-    → opens′ ≡ withOpen opens x 1
+    → opens′ ≡ withOpen opens x writerAlone
     → makeGives Done x (tables dh d′ h′ f′) opens′ ≡ makeDone File (tables dh d h f) opens p name carried
 gave-file dh d h f d′ h′ f′ opens opens′ x p name carried ex ed eh ef eo =
     ap (λ z. makeGives Done x (tables dh d′ h′ f′) z) eo
-    ∙ ap (λ z. makeGives Done z (tables dh d′ h′ f′) (withOpen opens z 1)) ex
-    ∙ ap (λ z. makeGives Done (taken (alone 48 f)) (tables dh z h′ f′) (withOpen opens (taken (alone 48 f)) 1)) ed
-    ∙ ap₂ (λ y z. makeGives Done (taken (alone 48 f)) (tables dh (made File (tables [] d h f) p name carried .dirTable) y z) (withOpen opens (taken (alone 48 f)) 1)) eh ef
+    ∙ ap (λ z. makeGives Done z (tables dh d′ h′ f′) (withOpen opens z writerAlone)) ex
+    ∙ ap (λ z. makeGives Done (taken (alone 48 f)) (tables dh z h′ f′) (withOpen opens (taken (alone 48 f)) writerAlone)) ed
+    ∙ ap₂ (λ y z. makeGives Done (taken (alone 48 f)) (tables dh (made File (tables [] d h f) p name carried .dirTable) y z) (withOpen opens (taken (alone 48 f)) writerAlone)) eh ef
 
 pub gave-dir : (h d fh f h′ d′ opens opens′ : List ℕ) (x p : ℕ) (name padding : List ℕ) → x ≡ taken (alone 40 d)
     → h′ ≡ made Directory (tables h d [] []) p name padding .dirHash → d′ ≡ made Directory (tables h d [] []) p name padding .dirTable
-    → opens′ ≡ withOpen opens x 1
+    → opens′ ≡ withOpen opens x writerAlone
     → makeGives Done x (tables h′ d′ fh f) opens′ ≡ makeDone Directory (tables h d fh f) opens p name padding
 gave-dir h d fh f h′ d′ opens opens′ x p name padding ex eh ed eo =
     ap (λ z. makeGives Done x (tables h′ d′ fh f) z) eo
-    ∙ ap (λ z. makeGives Done z (tables h′ d′ fh f) (withOpen opens z 1)) ex
-    ∙ ap₂ (λ y z. makeGives Done (taken (alone 40 d)) (tables y z fh f) (withOpen opens (taken (alone 40 d)) 1)) eh ed
+    ∙ ap (λ z. makeGives Done z (tables h′ d′ fh f) (withOpen opens z writerAlone)) ex
+    ∙ ap₂ (λ y z. makeGives Done (taken (alone 40 d)) (tables y z fh f) (withOpen opens (taken (alone 40 d)) writerAlone)) eh ed
 
 -- ---- the ends of make, for `search`
 
@@ -178,7 +179,7 @@ module _ (dh d h f opens : List ℕ) (p : ℕ) (name : List ℕ) (j : Judged) (g
   module _ (J : JudgedBy (makeTests here (files here) p name) j) (d′ h′ f′ : List ℕ) (x : ℕ) (carried : List ℕ)
       (new : (x ≡ taken (alone 48 f)) × (d′ ≡ made File (tables [] d h f) p name carried .dirTable)
       × (h′ ≡ made File (tables [] d h f) p name carried .fileHash) × (f′ ≡ made File (tables [] d h f) p name carried .fileTable)) where
-    pub make-file-done : (opens′ : List ℕ) → opens′ ≡ withOpen opens x 1
+    pub make-file-done : (opens′ : List ℕ) → opens′ ≡ withOpen opens x writerAlone
         → First (makeRows here (files here) opens p name) (makeDone File here opens p name carried) (makeGives Done x (tables dh d′ h′ f′) opens′)
     make-file-done opens′ eo =
         call-done (λ a. makeGives a 0 here opens) (makeDone File here opens p name carried) (makeGives Done x (tables dh d′ h′ f′) opens′)
@@ -188,7 +189,7 @@ module _ (dh d h f opens : List ℕ) (p : ℕ) (name : List ℕ) (j : Judged) (g
   module _ (J : JudgedBy (makeTests here (dirs here) p name) j) (h′ d′ : List ℕ) (x : ℕ) (padding : List ℕ)
       (new : (x ≡ taken (alone 40 d)) × (h′ ≡ made Directory (tables dh d [] []) p name padding .dirHash)
       × (d′ ≡ made Directory (tables dh d [] []) p name padding .dirTable)) where
-    pub make-dir-done : (opens′ : List ℕ) → opens′ ≡ withOpen opens x 1
+    pub make-dir-done : (opens′ : List ℕ) → opens′ ≡ withOpen opens x writerAlone
         → First (makeRows here (dirs here) opens p name) (makeDone Directory here opens p name padding) (makeGives Done x (tables h′ d′ h f) opens′)
     make-dir-done opens′ eo =
         call-done (λ a. makeGives a 0 here opens) (makeDone Directory here opens p name padding) (makeGives Done x (tables h′ d′ h f) opens′)

@@ -10,7 +10,7 @@ ghost use Rattle.tree_table.specs.Steps.{freeOf};
 ghost use Rattle.tree_sound.specs.Tables.{Tables, tables, dirs, files};
 ghost use Rattle.tree_promises.specs.declared.Kind.the-variants.{Directory, File};
 ghost use Rattle.tree_promises.specs.Has.{HasOther};
-ghost use Rattle.tree_promises.specs.Calls.{heldTests, onceTests, deleteTests, renameTests, makeTests};
+ghost use Rattle.tree_promises.specs.Calls.{heldTests, aloneTests, deleteTests, renameTests, makeTests};
 ghost use Rattle.tree_promises.specs.inner.Ready.{ReadyOpens, Single, SingleOpens, alone, hashed};
 ghost use Rattle.tree_inner.specs.inner.Judge.{JudgedBy};
 use crate::look::live;
@@ -26,7 +26,7 @@ pub enum Judged {
     Refused { answer: Answer },
 }
 
-// Whether inode x is live and open: NotFound, NotOpen.
+// Whether inode x is live and a writer holds it: NotFound, NotOpen.
 pub fn judge_held(hash: &[u8], table: &[u8], w: usize, opens: &[u32], x: u32) -> Judged
     requires { ⌜ SingleOpens (now hash) (now table) w (now opens) ⌝ }
     ensures { λ r. ⌜ JudgedBy (heldTests (alone w (now (table .entry))) (now (opens .entry)) x) r ⌝ }
@@ -36,7 +36,7 @@ pub fn judge_held(hash: &[u8], table: &[u8], w: usize, opens: &[u32], x: u32) ->
             answer: Answer::NotFound,
         };
     }
-    if tree_opens::record_of(opens, x) == 0 {
+    if tree_opens::writer_of(opens, x) == 0 {
         return Judged::Refused {
             answer: Answer::NotOpen,
         };
@@ -44,16 +44,16 @@ pub fn judge_held(hash: &[u8], table: &[u8], w: usize, opens: &[u32], x: u32) ->
     Judged::Go
 }
 
-// Whether inode x is live and opened once: NotFound, NotOpen, Busy.
+// Whether inode x is live and a writer holds it alone: NotFound, NotOpen, Busy.
 pub fn judge_delete(hash: &[u8], table: &[u8], w: usize, opens: &[u32], x: u32) -> Judged
     requires { ⌜ SingleOpens (now hash) (now table) w (now opens) ⌝ }
-    ensures { λ r. ⌜ JudgedBy (onceTests (alone w (now (table .entry))) (now (opens .entry)) x) r ⌝ }
+    ensures { λ r. ⌜ JudgedBy (aloneTests (alone w (now (table .entry))) (now (opens .entry)) x) r ⌝ }
 {
     let held = judge_held(hash, table, w, opens, x);
     let Judged::Go = held else {
         return held;
     };
-    if tree_opens::record_of(opens, x) > 1 {
+    if tree_opens::readers_of(opens, x) > 0 {
         return Judged::Refused {
             answer: Answer::Busy,
         };

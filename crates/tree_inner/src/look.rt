@@ -1,4 +1,4 @@
-// What stands in sound entry tables: the inner calls that look, and those that touch open counts alone. Each requires soundness and tests nothing.
+// What stands in sound entry tables: the inner calls that look, and those that touch open records alone. Each requires soundness and tests nothing.
 ghost use mathlib.Core.Path.{_≡_};
 ghost use Prim.Native.Nat.{_-_, _/_, _≤_};
 ghost use Rattle.order.specs.First.{First};
@@ -13,6 +13,8 @@ use order::Answer;
 use tree_key::SaveExtDirEntry;
 use tree_key::SaveExtFileEntry;
 use tree_key::SaveExtKey;
+use tree_opens::Stepped;
+use tree_opens::Want;
 
 // Whether inode x of a table is live: it stands in the bucket of its own key.
 pub fn live(hash: &[u8], table: &[u8], w: usize, x: u32) -> bool
@@ -33,36 +35,42 @@ pub fn live(hash: &[u8], table: &[u8], w: usize, x: u32) -> bool
     tree_table::in_list(table, w, w - 4, first, x)
 }
 
-// Adds 1 to the open count of inode x.
-pub fn open(hash: &[u8], table: &[u8], w: usize, opens: &mut [u32], x: u32) -> Answer
+// Opens inode x once more, for a reader or for the writer.
+pub fn open(hash: &[u8], table: &[u8], w: usize, opens: &mut [u32], x: u32, want: Want) -> Answer
     requires { ⌜ SingleOpens (now hash) (now table) w (now opens) ⌝ }
-    ensures { λ r. ⌜ First (openRows (alone w (now (table .entry))) (now (opens .entry)) x) (openDone (now (opens .entry)) x) (openingGives r (now (opens .exit))) ⌝ }
+    ensures { λ r. ⌜ First (openRows (alone w (now (table .entry))) (now (opens .entry)) x want) (openDone (now (opens .entry)) x want) (openingGives r (now (opens .exit))) ⌝ }
 {
     if !live(hash, table, w, x) {
         return Answer::NotFound;
     }
-    let n = tree_opens::record_of(opens, x);
-    if n >= 65535 {
-        return Answer::TooManyOpens;
+    let record = tree_opens::record_of(opens, x);
+    let stepped = tree_opens::one_more(record, want);
+    match stepped {
+        Stepped::Refused { answer } => answer,
+        Stepped::To(next) => {
+            tree_opens::put_record(opens, x, next);
+            Answer::Done
+        }
     }
-    tree_opens::put_record(opens, x, n + 1);
-    Answer::Done
 }
 
-// Takes 1 from the open count of inode x.
-pub fn close(hash: &[u8], table: &[u8], w: usize, opens: &mut [u32], x: u32) -> Answer
+// Gives back an open of inode x, a reader's or the writer's.
+pub fn close(hash: &[u8], table: &[u8], w: usize, opens: &mut [u32], x: u32, want: Want) -> Answer
     requires { ⌜ SingleOpens (now hash) (now table) w (now opens) ⌝ }
-    ensures { λ r. ⌜ First (closeRows (alone w (now (table .entry))) (now (opens .entry)) x) (closeDone (now (opens .entry)) x) (openingGives r (now (opens .exit))) ⌝ }
+    ensures { λ r. ⌜ First (closeRows (alone w (now (table .entry))) (now (opens .entry)) x want) (closeDone (now (opens .entry)) x want) (openingGives r (now (opens .exit))) ⌝ }
 {
     if !live(hash, table, w, x) {
         return Answer::NotFound;
     }
-    let n = tree_opens::record_of(opens, x);
-    if n == 0 {
-        return Answer::NotOpen;
+    let record = tree_opens::record_of(opens, x);
+    let stepped = tree_opens::one_less(record, want);
+    match stepped {
+        Stepped::Refused { answer } => answer,
+        Stepped::To(next) => {
+            tree_opens::put_record(opens, x, next);
+            Answer::Done
+        }
     }
-    tree_opens::put_record(opens, x, n - 1);
-    Answer::Done
 }
 
 // A lookup's answer: the entry's inode, and the number of entries compared.

@@ -24,6 +24,9 @@ use tree_key::SaveExtDirEntry;
 use tree_key::SaveExtFileEntry;
 use tree_key::SaveExtKey;
 
+// The record of a new entry: the writer's open, and no readers.
+const MADE: u32 = 2147483648;
+
 // A make's answer: the new entry's inode.
 pub struct Made {
     pub answer: Answer,
@@ -80,7 +83,7 @@ fn new_dir(hash: &mut [u8], dirs: &mut [u8], parent: u32, name: &[u8; 16], paddi
     x
 }
 
-// Makes a file, opened once.
+// Makes a file, held by its writer.
 pub fn make_file(
     dir_hash: &[u8],
     dirs: &mut [u8],
@@ -110,7 +113,7 @@ pub fn make_file(
         Judged::Refused { answer } => Made { answer, inode: 0 },
         Judged::Go => {
             let x = new_file(dirs, hash, files, parent, name, carried);
-            tree_opens::put_record(opens, x, 1);
+            tree_opens::put_record(opens, x, MADE);
             Made {
                 answer: Answer::Done,
                 inode: x,
@@ -119,7 +122,7 @@ pub fn make_file(
     }
 }
 
-// Makes a directory, opened once.
+// Makes a directory, held by its writer.
 pub fn make_dir(
     hash: &mut [u8],
     dirs: &mut [u8],
@@ -141,7 +144,7 @@ pub fn make_dir(
         Judged::Refused { answer } => Made { answer, inode: 0 },
         Judged::Go => {
             let x = new_dir(hash, dirs, parent, name, padding);
-            tree_opens::put_record(opens, x, 1);
+            tree_opens::put_record(opens, x, MADE);
             Made {
                 answer: Answer::Done,
                 inode: x,

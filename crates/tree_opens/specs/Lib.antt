@@ -1,1 +1,3 @@
 pub mod Opens
+pub mod Record
+pub mod Step

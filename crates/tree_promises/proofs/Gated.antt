@@ -76,7 +76,7 @@ module _ (s : Tables) (short : Type 0) (work work′ : List ℕ) (g : Gated) (sa
   long : short → ⊥
   long h = told .0 .1 .1 .0 h
 
--- ---- a call that takes no open counts
+-- ---- a call that takes no open records
 
 pub tree-refused : {A : Type 0} (refuse : Answer → A) (s : Tables) (work work′ : List ℕ) (own : List (Row A)) (done : A) (g : Gated) (a : Answer) (o : A)
     → TreeGateOf s work work′ g → g ≡ Refused a → o ≡ refuse a → TreePromise refuse s work own done (beside o work′)
@@ -92,7 +92,7 @@ pub tree-ready : (s : Tables) (work work′ : List ℕ) (g : Gated) → TreeGate
 unfolding TreeGateOf
 tree-ready s work work′ g says e = ready s (length work < roomsIn s) work work′ g says e
 
--- ---- a call that takes the open counts of a kind's table
+-- ---- a call that takes the open records of a kind's table
 
 abbrev Short : Tables → ℕ → ℕ → List ℕ → Type 0
 Short s opens room work = (length work < roomsIn s) ⊎ (opens < room)

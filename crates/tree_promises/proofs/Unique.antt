@@ -13,6 +13,7 @@ use Rattle.tree_key.specs.Key.{nameKey}
 use Rattle.tree_table.specs.View.{View}
 use Rattle.tree_test.specs.Gate.{treeGate, openGate}
 use Rattle.tree_sound.specs.Tables.{Tables}
+use Rattle.tree_opens.specs.declared.Want.{Want}
 use Rattle.tree_promises.specs.declared.Kind.{Kind}
 use Rattle.tree_promises.specs.Kinds.{carriedMany, kindView, kindRoom}
 use Rattle.tree_promises.specs.Calls as calls
@@ -76,8 +77,10 @@ module _ (kind : Kind) (s : Tables) (work : List ℕ) where
     pub one-delete : (x : ℕ) → One (promised.DeletePromise kind s opens work x)
     one-delete x = one-opens (λ a. calls.changeGives a s opens) s kind opens work (calls.deleteRows kind s opens x) (calls.deleteDone kind s opens x)
 
-    pub one-open : (x : ℕ) → One (promised.OpenPromise kind s opens work x)
-    one-open x = one-opens (λ a. calls.openingGives a opens) s kind opens work (calls.openRows (kindView kind s) opens x) (calls.openDone opens x)
+    pub one-open : (x : ℕ) (want : Want) → One (promised.OpenPromise kind s opens work x want)
+    one-open x want =
+        one-opens (λ a. calls.openingGives a opens) s kind opens work (calls.openRows (kindView kind s) opens x want) (calls.openDone opens x want)
 
-    pub one-close : (x : ℕ) → One (promised.ClosePromise kind s opens work x)
-    one-close x = one-opens (λ a. calls.openingGives a opens) s kind opens work (calls.closeRows (kindView kind s) opens x) (calls.closeDone opens x)
+    pub one-close : (x : ℕ) (want : Want) → One (promised.ClosePromise kind s opens work x want)
+    one-close x want =
+        one-opens (λ a. calls.openingGives a opens) s kind opens work (calls.closeRows (kindView kind s) opens x want) (calls.closeDone opens x want)

@@ -4,7 +4,7 @@ use mathlib.Core.Path.{_≡_}
 use mathlib.Core.List.{List, [], _∷_, _++_}
 use mathlib.Core.Bool.{false}
 use mathlib.Core.Logic.{_⊎_}
-use Prim.Native.Nat.{ℕ, _+_, _-_, _*_, _<_, _≤_}
+use Prim.Native.Nat.{ℕ, _+_, _-_, _*_, _<_}
 use lib.ListN.{length, take, drop}
 use Rattle.order.specs.First.{Row, row, First}
 use Rattle.order.specs.Giving.{giving}
@@ -20,8 +20,6 @@ use Rattle.order.specs.declared.Answer.the-variants.{
   DeletingRoot,
   NotEmpty,
   IntoItself,
-  NotOpen,
-  TooManyOpens,
 }
 use Rattle.links.specs.Links.{_∈_}
 use Rattle.tree_key.specs.Key.{nameKey}
@@ -30,6 +28,10 @@ use Rattle.tree_table.specs.Steps.{taken, freeOf}
 use Rattle.tree_table.specs.Chain.{seekIn}
 use Rattle.tree_sound.specs.Tables.{Tables, dirs, files}
 use Rattle.tree_opens.specs.Opens.{opened, withOpen}
+use Rattle.tree_opens.specs.Record.{readers, writerAlone}
+use Rattle.tree_opens.specs.Step.{more, less, moreTests, lessTests}
+use Rattle.tree_opens.specs.declared.Want.{Want}
+use Rattle.tree_opens.specs.declared.Want.the-variants.{Writer}
 use Rattle.tree_promises.specs.declared.Kind.{Kind}
 use Rattle.tree_promises.specs.declared.Kind.the-variants.{Directory, File}
 use Rattle.tree_promises.specs.Legal.{legal}
@@ -63,7 +65,7 @@ lookupDone v k =
 
 -- make ---------------------------------------------------------------------------------------------------------------------------------------------
 
--- the answer, the new inode, the tables and the open counts afterwards
+-- the answer, the new inode, the tables and the open records afterwards
 pub record Make : Type 0 where
   pub answer : Answer
   pub inode : ℕ
@@ -85,14 +87,14 @@ makeTests s v p name =
 abbrev pub makeRows : (s : Tables) (v : View) (opens : List ℕ) (p : ℕ) (name : List ℕ) → List (Row Make)
 makeRows s v opens p name = giving (λ a. makeGives a 0 s opens) (makeTests s v p name)
 
--- bytes are those that the entry carries
+-- bytes are those that the entry carries; the new entry has the writer's open and no readers
 abbrev pub makeDone : (kind : Kind) (s : Tables) (opens : List ℕ) (p : ℕ) (name bytes : List ℕ) → Make
 makeDone kind s opens p name bytes =
-    makeGives Done (taken (kindView kind s)) (made kind s p name bytes) (withOpen opens (taken (kindView kind s)) 1)
+    makeGives Done (taken (kindView kind s)) (made kind s p name bytes) (withOpen opens (taken (kindView kind s)) writerAlone)
 
 -- rename, delete, open and close -------------------------------------------------------------------------------------------------------------------
 
--- the answer, the tables and the open counts afterwards
+-- the answer, the tables and the open records afterwards
 pub record Change : Type 0 where
   pub answer : Answer
   pub tables : Tables
@@ -101,9 +103,13 @@ pub record Change : Type 0 where
 abbrev pub changeGives : (answer : Answer) (tables : Tables) (opens : List ℕ) → Change
 changeGives answer tables opens = record { answer = answer; tables = tables; opens = opens }
 
--- inode x of the table v is live and open
+-- close gives back an open of the kind, which inode x of the table v must have
+abbrev pub closeTests : (v : View) (opens : List ℕ) (x : ℕ) (want : Want) → List (Row Answer)
+closeTests v opens x want = liveTests v x ++ lessTests (opened opens x) want
+
+-- rename and delete need the writer's open
 abbrev pub heldTests : (v : View) (opens : List ℕ) (x : ℕ) → List (Row Answer)
-heldTests v opens x = liveTests v x ++ (row (opened opens x ≡ 0) NotOpen ∷ [])
+heldTests v opens x = closeTests v opens x Writer
 
 -- of a directory: the root stays, and none goes to itself or below itself
 abbrev pub rootTests : (kind : Kind) (x : ℕ) → List (Row Answer)
@@ -114,7 +120,7 @@ abbrev pub ringTests : (kind : Kind) (s : Tables) (x p : ℕ) → List (Row Answ
 ringTests Directory s x p = row (x ∈ above (dirs s) p) IntoItself ∷ []
 ringTests File s x p = []
 
--- the new name is judged once the subject is, and before the parent. Rename needs no entry but the subject's own, so it can't run out of room
+-- the new name is judged once the subject is, and before the parent. Readers do not keep a rename off. Rename needs no entry but the subject's own, so it can't run out of room
 -- (tree_history/proofs/Space.antt): no row asks for one
 abbrev pub renameTests : (kind : Kind) (s : Tables) (opens : List ℕ) (x p : ℕ) (name : List ℕ) → List (Row Answer)
 renameTests kind s opens x p name =
@@ -132,9 +138,9 @@ renameRows kind s opens x p name = giving (λ a. changeGives a s opens) (renameT
 abbrev pub renameDone : (kind : Kind) (s : Tables) (opens : List ℕ) (x p : ℕ) (name : List ℕ) → Change
 renameDone kind s opens x p name = changeGives Done (renamed kind s x p name) opens
 
--- delete needs exactly one open, and leaves 0
-abbrev pub onceTests : (v : View) (opens : List ℕ) (x : ℕ) → List (Row Answer)
-onceTests v opens x = heldTests v opens x ++ (row (1 < opened opens x) Busy ∷ [])
+-- delete is Busy while readers remain, and leaves nothing open
+abbrev pub aloneTests : (v : View) (opens : List ℕ) (x : ℕ) → List (Row Answer)
+aloneTests v opens x = heldTests v opens x ++ (row (0 < readers (opened opens x)) Busy ∷ [])
 
 -- and of a directory, that it is not the root and has no children
 abbrev pub emptyTests : (kind : Kind) (s : Tables) (x : ℕ) → List (Row Answer)
@@ -142,7 +148,7 @@ emptyTests Directory s x = rootTests Directory x ++ (row ((0 < dirs s .head x) �
 emptyTests File s x = []
 
 abbrev pub deleteTests : (kind : Kind) (s : Tables) (opens : List ℕ) (x : ℕ) → List (Row Answer)
-deleteTests kind s opens x = onceTests (kindView kind s) opens x ++ emptyTests kind s x
+deleteTests kind s opens x = aloneTests (kindView kind s) opens x ++ emptyTests kind s x
 
 abbrev pub deleteRows : (kind : Kind) (s : Tables) (opens : List ℕ) (x : ℕ) → List (Row Change)
 deleteRows kind s opens x = giving (λ a. changeGives a s opens) (deleteTests kind s opens x)
@@ -150,7 +156,7 @@ deleteRows kind s opens x = giving (λ a. changeGives a s opens) (deleteTests ki
 abbrev pub deleteDone : (kind : Kind) (s : Tables) (opens : List ℕ) (x : ℕ) → Change
 deleteDone kind s opens x = changeGives Done (deleted kind s x) (withOpen opens x 0)
 
--- the answer, the open counts afterwards
+-- the answer, the open records afterwards
 pub record Opening : Type 0 where
   pub answer : Answer
   pub opens : List ℕ
@@ -158,23 +164,20 @@ pub record Opening : Type 0 where
 abbrev pub openingGives : (answer : Answer) (opens : List ℕ) → Opening
 openingGives answer opens = record { answer = answer; opens = opens }
 
-abbrev pub openTests : (v : View) (opens : List ℕ) (x : ℕ) → List (Row Answer)
-openTests v opens x = liveTests v x ++ (row (65535 ≤ opened opens x) TooManyOpens ∷ [])
+abbrev pub openTests : (v : View) (opens : List ℕ) (x : ℕ) (want : Want) → List (Row Answer)
+openTests v opens x want = liveTests v x ++ moreTests (opened opens x) want
 
-abbrev pub openRows : (v : View) (opens : List ℕ) (x : ℕ) → List (Row Opening)
-openRows v opens x = giving (λ a. openingGives a opens) (openTests v opens x)
+abbrev pub openRows : (v : View) (opens : List ℕ) (x : ℕ) (want : Want) → List (Row Opening)
+openRows v opens x want = giving (λ a. openingGives a opens) (openTests v opens x want)
 
-abbrev pub openDone : (opens : List ℕ) (x : ℕ) → Opening
-openDone opens x = openingGives Done (withOpen opens x (opened opens x + 1))
+abbrev pub openDone : (opens : List ℕ) (x : ℕ) (want : Want) → Opening
+openDone opens x want = openingGives Done (withOpen opens x (more (opened opens x) want))
 
-abbrev pub closeTests : (v : View) (opens : List ℕ) (x : ℕ) → List (Row Answer)
-closeTests v opens x = heldTests v opens x
+abbrev pub closeRows : (v : View) (opens : List ℕ) (x : ℕ) (want : Want) → List (Row Opening)
+closeRows v opens x want = giving (λ a. openingGives a opens) (closeTests v opens x want)
 
-abbrev pub closeRows : (v : View) (opens : List ℕ) (x : ℕ) → List (Row Opening)
-closeRows v opens x = giving (λ a. openingGives a opens) (closeTests v opens x)
-
-abbrev pub closeDone : (opens : List ℕ) (x : ℕ) → Opening
-closeDone opens x = openingGives Done (withOpen opens x (opened opens x - 1))
+abbrev pub closeDone : (opens : List ℕ) (x : ℕ) (want : Want) → Opening
+closeDone opens x want = openingGives Done (withOpen opens x (less (opened opens x) want))
 
 -- listing ------------------------------------------------------------------------------------------------------------------------------------------
 

@@ -1,5 +1,5 @@
 -- What format promises: its rows, and the tables that it makes, with maxima dm of the directories and fm of the files. It takes no work list and no open
--- counts.
+-- records.
 use mathlib.Core.List.{List, [], _∷_}
 use mathlib.Core.Logic.{_⊎_}
 use Prim.Native.Nat.{ℕ, _*_, _%_, _<_}

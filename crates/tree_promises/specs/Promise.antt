@@ -16,11 +16,11 @@ use Rattle.tree_promises.specs.Kinds.{kindRoom}
 abbrev pub worked : (s : Tables) (work : List ℕ) → List ℕ
 worked s work = cleared (roomsIn s) work
 
--- of a call that takes no open counts
+-- of a call that takes no open records
 unfoldable pub TreePromise : {A : Type 0} (refuse : Answer → A) (s : Tables) (work : List ℕ) (own : List (Row A)) (done : A) → Beside A → Type 0
 TreePromise refuse s work own done o = Promised (treeGate (λ a w. beside (refuse a) w) s work) (worked s work) own done o
 
--- of a call that takes the open counts of the kind's table
+-- of a call that takes the open records of the kind's table
 unfoldable pub OpensPromise : {A : Type 0} (kind : Kind) (refuse : Answer → A) (s : Tables) (opens work : List ℕ) (own : List (Row A)) (done : A) → Beside A → Type 0
 OpensPromise kind refuse s opens work own done o =
     Promised (openGate (λ a w. beside (refuse a) w) s (length opens) (kindRoom kind s) work) (worked s work) own done o

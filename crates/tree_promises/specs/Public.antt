@@ -1,5 +1,5 @@
 -- The promise of each call on the entry tables, whole: sizes, work list and soundness, then the call's own rows, on all inputs. s are the four tables as
--- they are lent, work the work list, opens the open counts of the kind's table, x an inode, p a parent's inode. The last argument is what is given: the
+-- they are lent, work the work list, opens the open records of the kind's table, x an inode, p a parent's inode. The last argument is what is given: the
 -- answer with its fields and what stands in every lent buffer afterwards, beside the work list. The two calls on a name are in crate tree.
 use mathlib.Core.List.{List, []}
 use Prim.Native.Nat.{ℕ}
@@ -8,6 +8,7 @@ use Rattle.order.specs.Beside.{Beside}
 use Rattle.tree_key.specs.Key.{nameKey}
 use Rattle.tree_table.specs.View.{View}
 use Rattle.tree_sound.specs.Tables.{Tables}
+use Rattle.tree_opens.specs.declared.Want.{Want}
 use Rattle.tree_promises.specs.declared.Kind.{Kind}
 use Rattle.tree_promises.specs.declared.Kind.the-variants.{Directory, File}
 use Rattle.tree_promises.specs.Kinds.{carriedMany, kindView}
@@ -54,13 +55,14 @@ module _ (kind : Kind) (s : Tables) where
   DeletePromise opens work x =
       OpensPromise kind (λ a. calls.changeGives a s opens) s opens work (calls.deleteRows kind s opens x) (calls.deleteDone kind s opens x)
 
-  abbrev pub OpenPromise : (opens work : List ℕ) (x : ℕ) → Beside calls.Opening → Type 0
-  OpenPromise opens work x =
-      OpensPromise kind (λ a. calls.openingGives a opens) s opens work (calls.openRows (kindView kind s) opens x) (calls.openDone opens x)
+  -- open and close of x, for a reader or for the writer
+  abbrev pub OpenPromise : (opens work : List ℕ) (x : ℕ) (want : Want) → Beside calls.Opening → Type 0
+  OpenPromise opens work x want =
+      OpensPromise kind (λ a. calls.openingGives a opens) s opens work (calls.openRows (kindView kind s) opens x want) (calls.openDone opens x want)
 
-  abbrev pub ClosePromise : (opens work : List ℕ) (x : ℕ) → Beside calls.Opening → Type 0
-  ClosePromise opens work x =
-      OpensPromise kind (λ a. calls.openingGives a opens) s opens work (calls.closeRows (kindView kind s) opens x) (calls.closeDone opens x)
+  abbrev pub ClosePromise : (opens work : List ℕ) (x : ℕ) (want : Want) → Beside calls.Opening → Type 0
+  ClosePromise opens work x want =
+      OpensPromise kind (λ a. calls.openingGives a opens) s opens work (calls.closeRows (kindView kind s) opens x want) (calls.closeDone opens x want)
 
 -- by the calls' names -------------------------------------------------------------------------------------------------------------------------------
 
@@ -94,14 +96,14 @@ DeleteDirPromise = DeletePromise Directory
 abbrev pub DeleteFilePromise : (s : Tables) (opens work : List ℕ) (x : ℕ) → Beside calls.Change → Type 0
 DeleteFilePromise = DeletePromise File
 
-abbrev pub OpenDirPromise : (s : Tables) (opens work : List ℕ) (x : ℕ) → Beside calls.Opening → Type 0
+abbrev pub OpenDirPromise : (s : Tables) (opens work : List ℕ) (x : ℕ) (want : Want) → Beside calls.Opening → Type 0
 OpenDirPromise = OpenPromise Directory
 
-abbrev pub OpenFilePromise : (s : Tables) (opens work : List ℕ) (x : ℕ) → Beside calls.Opening → Type 0
+abbrev pub OpenFilePromise : (s : Tables) (opens work : List ℕ) (x : ℕ) (want : Want) → Beside calls.Opening → Type 0
 OpenFilePromise = OpenPromise File
 
-abbrev pub CloseDirPromise : (s : Tables) (opens work : List ℕ) (x : ℕ) → Beside calls.Opening → Type 0
+abbrev pub CloseDirPromise : (s : Tables) (opens work : List ℕ) (x : ℕ) (want : Want) → Beside calls.Opening → Type 0
 CloseDirPromise = ClosePromise Directory
 
-abbrev pub CloseFilePromise : (s : Tables) (opens work : List ℕ) (x : ℕ) → Beside calls.Opening → Type 0
+abbrev pub CloseFilePromise : (s : Tables) (opens work : List ℕ) (x : ℕ) (want : Want) → Beside calls.Opening → Type 0
 CloseFilePromise = ClosePromise File

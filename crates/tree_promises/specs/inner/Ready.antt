@@ -22,7 +22,7 @@ pub record Ready (s : Tables) : Type 0 where
   pub few-files : fileRoom (s .fileTable) ≤ 65536
   pub sound : SoundIn s
 
--- and open counts for every entry of the kind's table
+-- and open records for every entry of the kind's table
 pub record ReadyOpens (kind : Kind) (s : Tables) (opens : List ℕ) : Type 0 where
   pub ready : Ready s
   pub counted : AllCounted opens (kindRoom kind s)
@@ -44,7 +44,7 @@ pub record Single (h t : List ℕ) (w : ℕ) : Type 0 where
   pub head : ℕ → ℕ
   pub table : Table (viewOf (buckets h) (length t / w) root (field w t) (hashAt h) head)
 
--- and open counts for every entry of it
+-- and open records for every entry of it
 pub record SingleOpens (h t : List ℕ) (w : ℕ) (opens : List ℕ) : Type 0 where
   pub single : Single h t w
   pub counted : AllCounted opens (length t / w)

@@ -1,7 +1,7 @@
 use Rattle.tree_inner.proofs.Changes.{delete-file-counted, delete-file-done, call-refused, delete-file-asks, give-file-asks}
 use Rattle.tree_sound.specs.Tables.{tables, files}
 use Rattle.tree_promises.specs.declared.Kind.the-variants.{File}
-use Rattle.tree_promises.specs.Calls.{onceTests, changeGives, deleteDone}
+use Rattle.tree_promises.specs.Calls.{aloneTests, changeGives, deleteDone}
 use Rattle.tree_inner.proofs.Judges.{passed}
 use borrow.Author.Needs.{needs}
 use Rattle.tree_inner.proofs.change.delete_file.Statement.{statement}
@@ -21,7 +21,7 @@ unlink-file-requires c κs =
     let args = c .before .before .before .before .before .before .before .before .before .before .before .before .before .before .args in
     let at-pre = c .before .before .before .before .before .before .before .before .before .before .before .before .before .before .pre in
     let at-judge-delete = c .before .before .before .before .before .judge-delete in
-    delete-file-asks (tables (args .dir-hash .now) (args .dirs .now) (args .hash .now) (args .files .now)) (at-pre .ready) (args .opens .now) (args .x) (passed (onceTests (files (tables (args .dir-hash .now) (args .dirs .now) (args .hash .now) (args .files .now))) (args .opens .now) (args .x)) _ (at-judge-delete .ensures) (c .before .before .before .enum-told .given .1))
+    delete-file-asks (tables (args .dir-hash .now) (args .dirs .now) (args .hash .now) (args .files .now)) (at-pre .ready) (args .opens .now) (args .x) (passed (aloneTests (files (tables (args .dir-hash .now) (args .dirs .now) (args .hash .now) (args .files .now))) (args .opens .now) (args .x)) _ (at-judge-delete .ensures) (c .before .before .before .enum-told .given .1))
 
 give-requires : tie.Need-give-requires
 give-requires c κs =
@@ -30,7 +30,7 @@ give-requires c κs =
     let at-judge-delete = c .before .before .before .before .before .before .before .before .before .before .before .before .before .judge-delete in
     let at-enum-told = c .before .before .before .before .before .before .before .before .before .before .before .enum-told in
     let at-unlink-file = c .before .before .before .before .before .before .before .unlink-file in
-    give-file-asks (tables (args .dir-hash .now) (args .dirs .now) (args .hash .now) (args .files .now)) (at-pre .ready) (args .opens .now) (args .x) (passed (onceTests (files (tables (args .dir-hash .now) (args .dirs .now) (args .hash .now) (args .files .now))) (args .opens .now) (args .x)) _ (at-judge-delete .ensures) (at-enum-told .given .1)) (at-unlink-file .ensures .2)
+    give-file-asks (tables (args .dir-hash .now) (args .dirs .now) (args .hash .now) (args .files .now)) (at-pre .ready) (args .opens .now) (args .x) (passed (aloneTests (files (tables (args .dir-hash .now) (args .dirs .now) (args .hash .now) (args .files .now))) (args .opens .now) (args .x)) _ (at-judge-delete .ensures) (at-enum-told .given .1)) (at-unlink-file .ensures .2)
 
 put-record-requires : tie.Need-put-record-requires
 put-record-requires c κs = search (delete-file-counted)
@@ -48,7 +48,7 @@ returns : tie.Need-returns
 returns c =
     let args = c .before .before .before .before .before .before .before .before .before .before .before .before .args in
     let at-judge-delete = c .before .before .before .judge-delete in
-    call-refused (λ a. changeGives a (tables (args .dir-hash .now) (args .dirs .now) (args .hash .now) (args .files .now)) (args .opens .now)) (deleteDone File (tables (args .dir-hash .now) (args .dirs .now) (args .hash .now) (args .files .now)) (args .opens .now) (args .x)) (onceTests (files (tables (args .dir-hash .now) (args .dirs .now) (args .hash .now) (args .files .now))) (args .opens .now) (args .x)) (at-judge-delete .result) _ (at-judge-delete .ensures) (c .before .judged .given .1)
+    call-refused (λ a. changeGives a (tables (args .dir-hash .now) (args .dirs .now) (args .hash .now) (args .files .now)) (args .opens .now)) (deleteDone File (tables (args .dir-hash .now) (args .dirs .now) (args .hash .now) (args .files .now)) (args .opens .now) (args .x)) (aloneTests (files (tables (args .dir-hash .now) (args .dirs .now) (args .hash .now) (args .files .now))) (args .opens .now) (args .x)) (at-judge-delete .result) _ (at-judge-delete .ensures) (c .before .judged .given .1)
 
 same-length-4 : tie.Need-same-length-4
 same-length-4 c = search needs

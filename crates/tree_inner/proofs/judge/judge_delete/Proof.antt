@@ -1,4 +1,4 @@
-use Rattle.tree_inner.proofs.Judges.{refused-still, held-counted, once-busy, once-go}
+use Rattle.tree_inner.proofs.Judges.{refused-still, held-counted, alone-busy, alone-go}
 use Rattle.tree_promises.specs.Calls.{heldTests}
 use Rattle.tree_promises.specs.inner.Ready.{alone}
 use borrow.Author.Needs.{needs}
@@ -19,14 +19,14 @@ returns c =
     let args = c .before .before .before .before .before .before .args in
     refused-still (heldTests (alone (args .w) (args .table .now)) (args .opens .now) (args .x)) _ _ _ (c .before .before .judge-held .ensures) (c .enum-told2 .given .1)
 
-record-of-requires : tie.Need-record-of-requires
-record-of-requires c κs = search (held-counted)
+readers-of-requires : tie.Need-readers-of-requires
+readers-of-requires c κs = search (held-counted)
 
 returns-2 : tie.Need-returns-2
-returns-2 c = search (once-busy)
+returns-2 c = search (alone-busy)
 
 returns-3 : tie.Need-returns-3
-returns-3 c = search (once-go)
+returns-3 c = search (alone-go)
 
 pub judge-delete-spec : {M : Type 1} → statement M
 judge-delete-spec =
@@ -36,6 +36,6 @@ judge-delete-spec =
     enum-told
     enum-told-2
     returns
-    record-of-requires
+    readers-of-requires
     returns-2
     returns-3)

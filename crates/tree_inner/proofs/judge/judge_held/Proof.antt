@@ -10,8 +10,8 @@ live-requires c κs = search needs
 returns : tie.Need-returns
 returns c = search (held-none)
 
-record-of-requires : tie.Need-record-of-requires
-record-of-requires c κs = search (live-counted)
+writer-of-requires : tie.Need-writer-of-requires
+writer-of-requires c κs = search (live-counted)
 
 returns-2 : tie.Need-returns-2
 returns-2 c = search (held-shut)
@@ -20,4 +20,4 @@ returns-3 : tie.Need-returns-3
 returns-3 c = search (held-go)
 
 pub judge-held-spec : {M : Type 1} → statement M
-judge-held-spec = tie.close (tie.spec live-requires returns record-of-requires returns-2 returns-3)
+judge-held-spec = tie.close (tie.spec live-requires returns writer-of-requires returns-2 returns-3)

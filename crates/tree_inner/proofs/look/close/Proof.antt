@@ -1,4 +1,4 @@
-use Rattle.tree_inner.proofs.Opens.{live-counted, close-none, close-shut, close-done}
+use Rattle.tree_inner.proofs.Opens.{live-counted, close-none, close-refused, close-done}
 use borrow.Author.Needs.{needs}
 use Rattle.tree_inner.proofs.look.close.Statement.{statement}
 use Rattle.tree_inner.proofs.look.close.Tie as tie
@@ -12,17 +12,23 @@ returns c = search (close-none)
 record-of-requires : tie.Need-record-of-requires
 record-of-requires c κs = search (live-counted)
 
+one-less-requires : tie.Need-one-less-requires
+one-less-requires c κs = search needs
+
+enum-known-stepped : tie.Need-enum-known-stepped
+enum-known-stepped c = search needs
+
+enum-known-stepped-2 : tie.Need-enum-known-stepped-2
+enum-known-stepped-2 c = search needs
+
+put-record-requires : tie.Need-put-record-requires
+put-record-requires c κs = search (live-counted)
+
 same-length : tie.Need-same-length
 same-length c = search needs
 
 returns-2 : tie.Need-returns-2
-returns-2 c = search (close-shut)
-
-sub-put-record : tie.Need-sub-put-record
-sub-put-record c = search needs
-
-put-record-requires : tie.Need-put-record-requires
-put-record-requires c κs = search (live-counted)
+returns-2 c = search (close-refused)
 
 same-length-2 : tie.Need-same-length-2
 same-length-2 c = search needs
@@ -37,9 +43,11 @@ close-spec =
     live-requires
     returns
     record-of-requires
+    one-less-requires
+    enum-known-stepped
+    enum-known-stepped-2
+    put-record-requires
     same-length
     returns-2
-    sub-put-record
-    put-record-requires
     same-length-2
     returns-3)

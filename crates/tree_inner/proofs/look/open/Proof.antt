@@ -1,4 +1,4 @@
-use Rattle.tree_inner.proofs.Opens.{live-counted, open-none, open-full, open-done}
+use Rattle.tree_inner.proofs.Opens.{live-counted, open-none, open-refused, open-done}
 use borrow.Author.Needs.{needs}
 use Rattle.tree_inner.proofs.look.open.Statement.{statement}
 use Rattle.tree_inner.proofs.look.open.Tie as tie
@@ -12,17 +12,23 @@ returns c = search (open-none)
 record-of-requires : tie.Need-record-of-requires
 record-of-requires c κs = search (live-counted)
 
+one-more-requires : tie.Need-one-more-requires
+one-more-requires c κs = search needs
+
+enum-known-stepped : tie.Need-enum-known-stepped
+enum-known-stepped c = search needs
+
+enum-known-stepped-2 : tie.Need-enum-known-stepped-2
+enum-known-stepped-2 c = search needs
+
+put-record-requires : tie.Need-put-record-requires
+put-record-requires c κs = search (live-counted)
+
 same-length : tie.Need-same-length
 same-length c = search needs
 
 returns-2 : tie.Need-returns-2
-returns-2 c = search (open-full)
-
-add-put-record : tie.Need-add-put-record
-add-put-record c = search needs
-
-put-record-requires : tie.Need-put-record-requires
-put-record-requires c κs = search (live-counted)
+returns-2 c = search (open-refused)
 
 same-length-2 : tie.Need-same-length-2
 same-length-2 c = search needs
@@ -37,9 +43,11 @@ open-spec =
     live-requires
     returns
     record-of-requires
+    one-more-requires
+    enum-known-stepped
+    enum-known-stepped-2
+    put-record-requires
     same-length
     returns-2
-    add-put-record
-    put-record-requires
     same-length-2
     returns-3)
