@@ -6,7 +6,7 @@
  *    refused by a number (see MUKTHIBAN_DONE and the rest); nothing else is
  *    required of the caller but what C itself asks (next paragraph).
  *  - As it is proved it ends, and touches no memory but what it was lent.
- *  - A refusal changes no table, no data, no buffer, no list and no open count,
+ *  - A refusal changes no table, no data, no buffer, no list and no open record,
  *    and every other field of its answer is 0: also the place that carried
  *    bytes are read into, which is such a field. There are two exceptions:
  *    lookup's `compared` with MUKTHIBAN_NOT_FOUND is kept, and `entry` and
@@ -34,8 +34,11 @@
  *  dir_hash, dir_table, file_hash, file_table
  *               the four tables of the tree; directory entries are 40 bytes
  *               wide, file entries 48; a bucket is 4 bytes
- *  opens        open counts, one place an inode, at least the room of that
- *               call's own table (directories or files)
+ *  opens        open records, one place an inode, at least the room of that
+ *               call's own table (directories or files). A record is a u32: the
+ *               top bit (MUKTHIBAN_HELD) says that a writer holds the inode,
+ *               the low 31 bits count its readers. 0 is nothing open
+ *  kind         of an open: MUKTHIBAN_READER or MUKTHIBAN_WRITER
  *  inode        1 is the root directory; file inode 1 is an ordinary file
  *  parent       the inode of a directory
  *  name         16 bytes, all of them compared
@@ -224,7 +227,7 @@ mukthiban_found mukthiban_tree_lookup_file(const uint8_t *dir_hash, size_t dir_h
                                            uint32_t *work, size_t work_len,
                                            uint32_t parent, const uint8_t name[16]);
 
-/* Makes a directory with those 4 carried bytes (its padding) and open count 1. opens: the directories'.
+/* Makes a directory with those 4 carried bytes (its padding), held by its writer. opens: the directories'.
  * Answers 1, 2, 3, 9, 2 (name), 10 (parent), 11, 6. */
 mukthiban_made mukthiban_tree_make_dir(uint8_t *dir_hash, size_t dir_hash_len,
                                        uint8_t *dir_table, size_t dir_table_len,
@@ -234,7 +237,7 @@ mukthiban_made mukthiban_tree_make_dir(uint8_t *dir_hash, size_t dir_hash_len,
                                        uint32_t *opens, size_t opens_len,
                                        uint32_t parent, const uint8_t name[16], const uint8_t carried[4]);
 
-/* Makes a file entry with those 20 carried bytes and open count 1. opens: the files'.
+/* Makes a file entry with those 20 carried bytes, held by its writer. opens: the files'.
  * Answers 1, 2, 3, 9, 2 (name), 10 (parent), 11, 6. */
 mukthiban_made mukthiban_tree_make_file(const uint8_t *dir_hash, size_t dir_hash_len,
                                         uint8_t *dir_table, size_t dir_table_len,
@@ -244,9 +247,9 @@ mukthiban_made mukthiban_tree_make_file(const uint8_t *dir_hash, size_t dir_hash
                                         uint32_t *opens, size_t opens_len,
                                         uint32_t parent, const uint8_t name[16], const uint8_t carried[20]);
 
-/* Gives an open directory another parent and name (legal as for make; the name that it has is not judged); inode, carried
- * bytes, children and open count stay. opens: the directories'. Answers 1, 2, 3, 9, 10 (subject), 16, 13, 2 (name), 10 (parent), 15, 11:
- * never 6, since the entry keeps its place in the table. */
+/* Gives a directory that a writer holds another parent and name (legal as for make; the name that it has is not judged);
+ * inode, carried bytes, children and opens stay. Readers do not keep it off. opens: the directories'. Answers 1, 2, 3, 9,
+ * 10 (subject), 16, 13, 2 (name), 10 (parent), 15, 11: never 6, since the entry keeps its place in the table. */
 mukthiban_plain mukthiban_tree_rename_dir(uint8_t *dir_hash, size_t dir_hash_len,
                                           uint8_t *dir_table, size_t dir_table_len,
                                           const uint8_t *file_hash, size_t file_hash_len,
@@ -255,7 +258,7 @@ mukthiban_plain mukthiban_tree_rename_dir(uint8_t *dir_hash, size_t dir_hash_len
                                           const uint32_t *opens, size_t opens_len,
                                           uint32_t inode, uint32_t parent, const uint8_t name[16]);
 
-/* Gives an open file another parent and name; inode, carried bytes and open count stay. opens: the files'.
+/* Gives a file that a writer holds another parent and name; inode, carried bytes and opens stay. opens: the files'.
  * Answers 1, 2, 3, 9, 10 (subject), 16, 2 (name), 10 (parent), 11: never 6. */
 mukthiban_plain mukthiban_tree_rename_file(const uint8_t *dir_hash, size_t dir_hash_len,
                                            uint8_t *dir_table, size_t dir_table_len,
@@ -265,7 +268,8 @@ mukthiban_plain mukthiban_tree_rename_file(const uint8_t *dir_hash, size_t dir_h
                                            const uint32_t *opens, size_t opens_len,
                                            uint32_t inode, uint32_t parent, const uint8_t name[16]);
 
-/* Deletes a directory without children, opened exactly once; its open count becomes 0. opens: the directories'.
+/* Deletes a directory without children, held by its writer and no reader; nothing of it is open then. opens: the
+ * directories'.
  * Answers 1, 2, 3, 9, 10, 16, 12, 13, 14. */
 mukthiban_plain mukthiban_tree_delete_dir(uint8_t *dir_hash, size_t dir_hash_len,
                                           uint8_t *dir_table, size_t dir_table_len,
@@ -275,7 +279,8 @@ mukthiban_plain mukthiban_tree_delete_dir(uint8_t *dir_hash, size_t dir_hash_len
                                           uint32_t *opens, size_t opens_len,
                                           uint32_t inode);
 
-/* Deletes a file entry, opened exactly once; its open count becomes 0. Its blocks are the caller's to give back.
+/* Deletes a file entry, held by its writer and no reader; nothing of it is open then. Its blocks are the caller's to
+ * give back.
  * opens: the files'. Answers 1, 2, 3, 9, 10, 16, 12. */
 mukthiban_plain mukthiban_tree_delete_file(const uint8_t *dir_hash, size_t dir_hash_len,
                                            uint8_t *dir_table, size_t dir_table_len,
@@ -349,41 +354,45 @@ mukthiban_plain mukthiban_tree_set_carried_file(const uint8_t *dir_hash, size_t 
                                                 uint32_t *work, size_t work_len,
                                                 uint32_t inode, const uint8_t carried[20]);
 
-/* Adds 1 to a directory's open count. opens: the directories'. Answers 1, 2, 3, 9, 10, 17. */
+/* Opens a directory once more, for a reader or for the writer. Another kind is 2, with the sizes. opens: the directories'.
+ * Answers 1, 2, 3, 9, 10, 17, 12. */
 mukthiban_plain mukthiban_tree_open_dir(const uint8_t *dir_hash, size_t dir_hash_len,
                                         const uint8_t *dir_table, size_t dir_table_len,
                                         const uint8_t *file_hash, size_t file_hash_len,
                                         const uint8_t *file_table, size_t file_table_len,
                                         uint32_t *work, size_t work_len,
                                         uint32_t *opens, size_t opens_len,
-                                        uint32_t inode);
+                                        uint32_t inode, uint32_t kind);
 
-/* Adds 1 to a file's open count. opens: the files'. Answers 1, 2, 3, 9, 10, 17. */
+/* Opens a file once more, for a reader or for the writer. Another kind is 2, with the sizes. opens: the files'.
+ * Answers 1, 2, 3, 9, 10, 17, 12. */
 mukthiban_plain mukthiban_tree_open_file(const uint8_t *dir_hash, size_t dir_hash_len,
                                          const uint8_t *dir_table, size_t dir_table_len,
                                          const uint8_t *file_hash, size_t file_hash_len,
                                          const uint8_t *file_table, size_t file_table_len,
                                          uint32_t *work, size_t work_len,
                                          uint32_t *opens, size_t opens_len,
-                                         uint32_t inode);
+                                         uint32_t inode, uint32_t kind);
 
-/* Takes 1 from a directory's open count. opens: the directories'. Answers 1, 2, 3, 9, 10, 16. */
+/* Gives back an open of a directory, a reader's or the writer's. Another kind is 2, with the sizes. opens: the directories'.
+ * Answers 1, 2, 3, 9, 10, 16. */
 mukthiban_plain mukthiban_tree_close_dir(const uint8_t *dir_hash, size_t dir_hash_len,
                                          const uint8_t *dir_table, size_t dir_table_len,
                                          const uint8_t *file_hash, size_t file_hash_len,
                                          const uint8_t *file_table, size_t file_table_len,
                                          uint32_t *work, size_t work_len,
                                          uint32_t *opens, size_t opens_len,
-                                         uint32_t inode);
+                                         uint32_t inode, uint32_t kind);
 
-/* Takes 1 from a file's open count. opens: the files'. Answers 1, 2, 3, 9, 10, 16. */
+/* Gives back an open of a file, a reader's or the writer's. Another kind is 2, with the sizes. opens: the files'.
+ * Answers 1, 2, 3, 9, 10, 16. */
 mukthiban_plain mukthiban_tree_close_file(const uint8_t *dir_hash, size_t dir_hash_len,
                                           const uint8_t *dir_table, size_t dir_table_len,
                                           const uint8_t *file_hash, size_t file_hash_len,
                                           const uint8_t *file_table, size_t file_table_len,
                                           uint32_t *work, size_t work_len,
                                           uint32_t *opens, size_t opens_len,
-                                          uint32_t inode);
+                                          uint32_t inode, uint32_t kind);
 
 /* ---- Both layers ---- */
 

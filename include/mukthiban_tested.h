@@ -12,7 +12,7 @@
  *    table, and n = table_len / 8 - 1.
  *  - Data that fit: block_len is from 1 to 65,536 and data_len = n * block_len.
  *  - Sound tables: mukthiban_tree_test answered MUKTHIBAN_DONE on the four.
- *  - Open counts for every directory or file: opens_len is at least the room
+ *  - Open records for every directory or file: opens_len is at least the room
  *    of that table (its length divided by 40 or 48).
  * Whatever these calls answer, sound tables stay sound: so after one test any
  * number of them may follow, as long as nothing else writes to the tables.
@@ -150,8 +150,8 @@ mukthiban_found mukthiban_tested_tree_lookup_file(const uint8_t *dir_hash, size_
                                                   const uint8_t *file_table, size_t file_table_len,
                                                   uint32_t parent, const uint8_t name[16]);
 
-/* Makes a directory, opened once. Answers 2 (name), 10 (parent), 11, 6.
- * Requires: sound tables, open counts for every directory. */
+/* Makes a directory, held by its writer. Answers 2 (name), 10 (parent), 11, 6.
+ * Requires: sound tables, open records for every directory. */
 mukthiban_made mukthiban_tested_tree_make_dir(uint8_t *dir_hash, size_t dir_hash_len,
                                               uint8_t *dir_table, size_t dir_table_len,
                                               const uint8_t *file_hash, size_t file_hash_len,
@@ -159,8 +159,8 @@ mukthiban_made mukthiban_tested_tree_make_dir(uint8_t *dir_hash, size_t dir_hash
                                               uint32_t *opens, size_t opens_len, uint32_t parent,
                                               const uint8_t name[16], const uint8_t carried[4]);
 
-/* Makes a file entry, opened once. Answers 2 (name), 10 (parent), 11, 6.
- * Requires: sound tables, open counts for every file. */
+/* Makes a file entry, held by its writer. Answers 2 (name), 10 (parent), 11, 6.
+ * Requires: sound tables, open records for every file. */
 mukthiban_made mukthiban_tested_tree_make_file(const uint8_t *dir_hash, size_t dir_hash_len,
                                                uint8_t *dir_table, size_t dir_table_len,
                                                uint8_t *file_hash, size_t file_hash_len,
@@ -168,8 +168,8 @@ mukthiban_made mukthiban_tested_tree_make_file(const uint8_t *dir_hash, size_t d
                                                uint32_t *opens, size_t opens_len, uint32_t parent,
                                                const uint8_t name[16], const uint8_t carried[20]);
 
-/* Gives an open directory another parent and name. Answers 10 (subject), 16, 13, 2 (name), 10 (parent), 15, 11.
- * Requires: sound tables, open counts for every directory. */
+/* Gives a directory that a writer holds another parent and name. Answers 10 (subject), 16, 13, 2 (name), 10 (parent), 15, 11.
+ * Requires: sound tables, open records for every directory. */
 mukthiban_plain mukthiban_tested_tree_rename_dir(uint8_t *dir_hash, size_t dir_hash_len,
                                                  uint8_t *dir_table, size_t dir_table_len,
                                                  const uint8_t *file_hash, size_t file_hash_len,
@@ -177,8 +177,8 @@ mukthiban_plain mukthiban_tested_tree_rename_dir(uint8_t *dir_hash, size_t dir_h
                                                  const uint32_t *opens, size_t opens_len, uint32_t inode,
                                                  uint32_t parent, const uint8_t name[16]);
 
-/* Gives an open file another parent and name. Answers 10 (subject), 16, 2 (name), 10 (parent), 11.
- * Requires: sound tables, open counts for every file. */
+/* Gives a file that a writer holds another parent and name. Answers 10 (subject), 16, 2 (name), 10 (parent), 11.
+ * Requires: sound tables, open records for every file. */
 mukthiban_plain mukthiban_tested_tree_rename_file(const uint8_t *dir_hash, size_t dir_hash_len,
                                                   uint8_t *dir_table, size_t dir_table_len,
                                                   uint8_t *file_hash, size_t file_hash_len,
@@ -186,16 +186,16 @@ mukthiban_plain mukthiban_tested_tree_rename_file(const uint8_t *dir_hash, size_
                                                   const uint32_t *opens, size_t opens_len, uint32_t inode,
                                                   uint32_t parent, const uint8_t name[16]);
 
-/* Deletes a directory without children, opened exactly once. Answers 10, 16, 12, 13, 14.
- * Requires: sound tables, open counts for every directory. */
+/* Deletes a directory without children, held by its writer and no reader. Answers 10, 16, 12, 13, 14.
+ * Requires: sound tables, open records for every directory. */
 mukthiban_plain mukthiban_tested_tree_delete_dir(uint8_t *dir_hash, size_t dir_hash_len,
                                                  uint8_t *dir_table, size_t dir_table_len,
                                                  const uint8_t *file_hash, size_t file_hash_len,
                                                  const uint8_t *file_table, size_t file_table_len,
                                                  uint32_t *opens, size_t opens_len, uint32_t inode);
 
-/* Deletes a file entry, opened exactly once. Answers 10, 16, 12.
- * Requires: sound tables, open counts for every file. */
+/* Deletes a file entry, held by its writer and no reader. Answers 10, 16, 12.
+ * Requires: sound tables, open records for every file. */
 mukthiban_plain mukthiban_tested_tree_delete_file(const uint8_t *dir_hash, size_t dir_hash_len,
                                                   uint8_t *dir_table, size_t dir_table_len,
                                                   uint8_t *file_hash, size_t file_hash_len,
@@ -267,37 +267,41 @@ mukthiban_plain mukthiban_tested_tree_set_carried_file(const uint8_t *dir_hash, 
                                                        uint8_t *file_table, size_t file_table_len,
                                                        uint32_t inode, const uint8_t carried[20]);
 
-/* Adds 1 to a directory's open count. Answers 10, 17.
- * Requires: sound tables, open counts for every directory. */
+/* Opens a directory once more, for a reader or for the writer. Answers 10, 17, 12.
+ * Requires: sound tables, open records for every directory, and MUKTHIBAN_READER or MUKTHIBAN_WRITER as the kind. */
 mukthiban_plain mukthiban_tested_tree_open_dir(const uint8_t *dir_hash, size_t dir_hash_len,
                                                const uint8_t *dir_table, size_t dir_table_len,
                                                const uint8_t *file_hash, size_t file_hash_len,
                                                const uint8_t *file_table, size_t file_table_len,
-                                               uint32_t *opens, size_t opens_len, uint32_t inode);
+                                               uint32_t *opens, size_t opens_len, uint32_t inode,
+                                               uint32_t kind);
 
-/* Adds 1 to a file's open count. Answers 10, 17.
- * Requires: sound tables, open counts for every file. */
+/* Opens a file once more, for a reader or for the writer. Answers 10, 17, 12.
+ * Requires: sound tables, open records for every file, and MUKTHIBAN_READER or MUKTHIBAN_WRITER as the kind. */
 mukthiban_plain mukthiban_tested_tree_open_file(const uint8_t *dir_hash, size_t dir_hash_len,
                                                 const uint8_t *dir_table, size_t dir_table_len,
                                                 const uint8_t *file_hash, size_t file_hash_len,
                                                 const uint8_t *file_table, size_t file_table_len,
-                                                uint32_t *opens, size_t opens_len, uint32_t inode);
+                                                uint32_t *opens, size_t opens_len, uint32_t inode,
+                                                uint32_t kind);
 
-/* Takes 1 from a directory's open count. Answers 10, 16.
- * Requires: sound tables, open counts for every directory. */
+/* Gives back an open of a directory, a reader's or the writer's. Answers 10, 16.
+ * Requires: sound tables, open records for every directory, and MUKTHIBAN_READER or MUKTHIBAN_WRITER as the kind. */
 mukthiban_plain mukthiban_tested_tree_close_dir(const uint8_t *dir_hash, size_t dir_hash_len,
                                                 const uint8_t *dir_table, size_t dir_table_len,
                                                 const uint8_t *file_hash, size_t file_hash_len,
                                                 const uint8_t *file_table, size_t file_table_len,
-                                                uint32_t *opens, size_t opens_len, uint32_t inode);
+                                                uint32_t *opens, size_t opens_len, uint32_t inode,
+                                                uint32_t kind);
 
-/* Takes 1 from a file's open count. Answers 10, 16.
- * Requires: sound tables, open counts for every file. */
+/* Gives back an open of a file, a reader's or the writer's. Answers 10, 16.
+ * Requires: sound tables, open records for every file, and MUKTHIBAN_READER or MUKTHIBAN_WRITER as the kind. */
 mukthiban_plain mukthiban_tested_tree_close_file(const uint8_t *dir_hash, size_t dir_hash_len,
                                                  const uint8_t *dir_table, size_t dir_table_len,
                                                  const uint8_t *file_hash, size_t file_hash_len,
                                                  const uint8_t *file_table, size_t file_table_len,
-                                                 uint32_t *opens, size_t opens_len, uint32_t inode);
+                                                 uint32_t *opens, size_t opens_len, uint32_t inode,
+                                                 uint32_t kind);
 
 #ifdef __cplusplus
 }

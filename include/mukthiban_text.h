@@ -15,7 +15,7 @@ static inline const char *mukthiban_text(uint32_t answer)
     case MUKTHIBAN_INVALID_VALUE:
         return "a size or a number is outside its bounds, no blocks were asked for, or a new name is not legal";
     case MUKTHIBAN_WORK_TOO_SHORT:
-        return "the work list or the open counts have too few places";
+        return "the work list or the open records have too few places";
     case MUKTHIBAN_BROKEN_FAT:
         return "the block table is not sound: its chains can't be trusted";
     case MUKTHIBAN_NOT_A_FILE:
@@ -33,7 +33,7 @@ static inline const char *mukthiban_text(uint32_t answer)
     case MUKTHIBAN_ALREADY_EXIST:
         return "another entry has that name already";
     case MUKTHIBAN_BUSY:
-        return "it is opened more than once";
+        return "a writer holds it already, or readers remain";
     case MUKTHIBAN_DELETING_ROOT:
         return "the root directory can't be deleted or renamed";
     case MUKTHIBAN_NOT_EMPTY:
@@ -41,7 +41,7 @@ static inline const char *mukthiban_text(uint32_t answer)
     case MUKTHIBAN_INTO_ITSELF:
         return "a directory can't be moved into itself or below itself";
     case MUKTHIBAN_NOT_OPEN:
-        return "it is not open";
+        return "the open that this needs is not held";
     case MUKTHIBAN_TOO_MANY_OPENS:
         return "it is opened 65,535 times already";
     case MUKTHIBAN_READ_ONLY_VOLUME:

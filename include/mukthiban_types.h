@@ -24,14 +24,15 @@
 #define MUKTHIBAN_MAX_BLOCK_LENGTH 65536 /* bytes in a block */
 #define MUKTHIBAN_MAX_BUCKETS 65536     /* hash buckets of a table */
 #define MUKTHIBAN_MAX_ENTRIES 65536     /* entries of an entry table, entry 0 included */
-#define MUKTHIBAN_MAX_OPENS 65535u      /* opens of one inode */
+#define MUKTHIBAN_MAX_OPENS 65535u      /* opens of one inode, readers and writer together */
+#define MUKTHIBAN_HELD 0x80000000u      /* the top bit of an open record: a writer holds the inode */
 
 /* The numbers that a call can answer; mukthiban_text.h has a text for each. */
 enum {
     MUKTHIBAN_DONE = 0,
     MUKTHIBAN_SIZE_MISMATCH = 1,  /* a length that fits no table, or does not fit the others */
-    MUKTHIBAN_INVALID_VALUE = 2,  /* a size or a number outside its bounds; 0 blocks asked for; a new name that is not legal */
-    MUKTHIBAN_WORK_TOO_SHORT = 3, /* the work list or the open counts have too few places */
+    MUKTHIBAN_INVALID_VALUE = 2,  /* a size, a number or a kind outside its bounds; 0 blocks asked for; a new name that is not legal */
+    MUKTHIBAN_WORK_TOO_SHORT = 3, /* the work list or the open records have too few places */
     MUKTHIBAN_BROKEN_FAT = 4,     /* the block table is not sound */
     MUKTHIBAN_NOT_A_FILE = 5,     /* the block is no file's first block */
     MUKTHIBAN_NO_SPACE = 6,       /* too few free blocks, or no free entry */
@@ -40,17 +41,20 @@ enum {
     MUKTHIBAN_BROKEN_TREE = 9,    /* the entry tables are not sound */
     MUKTHIBAN_NOT_FOUND = 10,     /* no live entry with that inode or key */
     MUKTHIBAN_ALREADY_EXIST = 11, /* another live entry of that table has the key */
-    MUKTHIBAN_BUSY = 12,          /* delete with more than one open */
+    MUKTHIBAN_BUSY = 12,          /* a second writer, or delete while readers remain */
     MUKTHIBAN_DELETING_ROOT = 13, /* delete or rename of directory 1 */
     MUKTHIBAN_NOT_EMPTY = 14,     /* delete of a directory with children */
     MUKTHIBAN_INTO_ITSELF = 15,   /* a directory moved to itself or below itself */
-    MUKTHIBAN_NOT_OPEN = 16,      /* close, delete or rename at open count 0 */
+    MUKTHIBAN_NOT_OPEN = 16,      /* close of what is not held; delete or rename without the writer */
     MUKTHIBAN_TOO_MANY_OPENS = 17, /* open at 65,535 opens or more */
     MUKTHIBAN_READ_ONLY_VOLUME = 20 /* a change with a block length other than 512 and 4,096 */
 };
 
 /* The kinds of mukthiban_tree_name. */
 enum { MUKTHIBAN_DIRECTORY = 0, MUKTHIBAN_FILE = 1 };
+
+/* The kinds of an open: many readers, and one writer. */
+enum { MUKTHIBAN_READER = 0, MUKTHIBAN_WRITER = 1 };
 
 /* The rules that a broken block table breaks, in the order in which they are
  * looked for, and the entry that is blamed (entry 0 is the head, entry b + 1

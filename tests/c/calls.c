@@ -256,6 +256,44 @@ static void broken(void)
     EXPECT(mukthiban_fat_test(table, 16, WORK).rule == MUKTHIBAN_NO_SECOND);
 }
 
+/* Readers and one writer, of directory 2 and file 1, which were made and have nothing else open. */
+static void opened(void)
+{
+    EXPECT(mukthiban_tree_open_dir(FOUR, WORK, DIR_OPENS, 2, MUKTHIBAN_READER).answer == MUKTHIBAN_DONE);
+    EXPECT(dir_opens[2] == MUKTHIBAN_HELD + 1);
+    EXPECT(mukthiban_tree_open_dir(FOUR, WORK, DIR_OPENS, 2, MUKTHIBAN_WRITER).answer == MUKTHIBAN_BUSY);
+    EXPECT(mukthiban_tree_rename_dir(FOUR, WORK, DIR_OPENS, 2, 1, a).answer == MUKTHIBAN_DONE);
+    EXPECT(mukthiban_tree_delete_dir(FOUR, WORK, DIR_OPENS, 2).answer == MUKTHIBAN_BUSY);
+    EXPECT(mukthiban_tree_close_dir(FOUR, WORK, DIR_OPENS, 2, MUKTHIBAN_WRITER).answer == MUKTHIBAN_DONE);
+    EXPECT(dir_opens[2] == 1);
+    EXPECT(mukthiban_tree_delete_dir(FOUR, WORK, DIR_OPENS, 2).answer == MUKTHIBAN_NOT_OPEN);
+    EXPECT(mukthiban_tree_rename_dir(FOUR, WORK, DIR_OPENS, 2, 1, b).answer == MUKTHIBAN_NOT_OPEN);
+    EXPECT(mukthiban_tree_open_dir(FOUR, WORK, DIR_OPENS, 2, MUKTHIBAN_WRITER).answer == MUKTHIBAN_DONE);
+    EXPECT(mukthiban_tree_close_dir(FOUR, WORK, DIR_OPENS, 2, MUKTHIBAN_READER).answer == MUKTHIBAN_DONE);
+    EXPECT(mukthiban_tree_delete_dir(FOUR, WORK, DIR_OPENS, 2).answer == MUKTHIBAN_DONE && dir_opens[2] == 0);
+    EXPECT(mukthiban_tree_delete_dir(FOUR, WORK, DIR_OPENS, 1).answer == MUKTHIBAN_NOT_OPEN);
+
+    EXPECT(mukthiban_tree_close_file(FOUR, WORK, FILE_OPENS, 1, MUKTHIBAN_READER).answer == MUKTHIBAN_NOT_OPEN);
+    EXPECT(mukthiban_tree_close_file(FOUR, WORK, FILE_OPENS, 1, MUKTHIBAN_WRITER).answer == MUKTHIBAN_DONE);
+    EXPECT(file_opens[1] == 0);
+    EXPECT(mukthiban_tree_close_file(FOUR, WORK, FILE_OPENS, 1, MUKTHIBAN_WRITER).answer == MUKTHIBAN_NOT_OPEN);
+    file_opens[1] = MUKTHIBAN_HELD + MUKTHIBAN_MAX_OPENS - 1;
+    EXPECT(mukthiban_tree_open_file(FOUR, WORK, FILE_OPENS, 1, MUKTHIBAN_READER).answer == MUKTHIBAN_TOO_MANY_OPENS);
+    EXPECT(mukthiban_tree_open_file(FOUR, WORK, FILE_OPENS, 1, MUKTHIBAN_WRITER).answer == MUKTHIBAN_TOO_MANY_OPENS);
+    file_opens[1] = 0;
+    work[0] = 7;
+    EXPECT(mukthiban_tree_open_file(FOUR, WORK, FILE_OPENS, 1, 2).answer == MUKTHIBAN_INVALID_VALUE);
+    EXPECT(mukthiban_tree_close_file(FOUR, WORK, FILE_OPENS, 1, 2).answer == MUKTHIBAN_INVALID_VALUE);
+    EXPECT(mukthiban_tree_open_dir(FOUR, WORK, dir_opens, 0, 1, 2).answer == MUKTHIBAN_INVALID_VALUE);
+    EXPECT(mukthiban_tree_close_dir(dir_hash, 3, dir_table, sizeof dir_table, file_hash, sizeof file_hash, file_table,
+                                    sizeof file_table, WORK, DIR_OPENS, 1, 2)
+               .answer == MUKTHIBAN_SIZE_MISMATCH);
+    EXPECT(work[0] == 7 && file_opens[1] == 0);
+    EXPECT(mukthiban_tree_open_file(FOUR, WORK, FILE_OPENS, 1, MUKTHIBAN_WRITER).answer == MUKTHIBAN_DONE);
+    EXPECT(file_opens[1] == MUKTHIBAN_HELD);
+    EXPECT(mukthiban_tree_delete_file(FOUR, WORK, FILE_OPENS, 1).answer == MUKTHIBAN_DONE && file_opens[1] == 0);
+}
+
 static void tree(void)
 {
     uint8_t bytes4[4], bytes20[20];
@@ -271,9 +309,9 @@ static void tree(void)
     EXPECT(mukthiban_tree_test(FOUR, WORK).answer == MUKTHIBAN_DONE);
 
     made = mukthiban_tree_make_dir(FOUR, WORK, DIR_OPENS, 1, a, four);
-    EXPECT(made.answer == MUKTHIBAN_DONE && made.inode == 2 && dir_opens[2] == 1);
+    EXPECT(made.answer == MUKTHIBAN_DONE && made.inode == 2 && dir_opens[2] == MUKTHIBAN_HELD);
     made = mukthiban_tree_make_file(FOUR, WORK, FILE_OPENS, 2, b, twenty);
-    EXPECT(made.answer == MUKTHIBAN_DONE && made.inode == 1 && file_opens[1] == 1);
+    EXPECT(made.answer == MUKTHIBAN_DONE && made.inode == 1 && file_opens[1] == MUKTHIBAN_HELD);
     EXPECT(mukthiban_tree_make_file(FOUR, WORK, FILE_OPENS, 2, b, twenty).answer == MUKTHIBAN_ALREADY_EXIST);
     EXPECT(mukthiban_tree_make_file(FOUR, WORK, FILE_OPENS, 3, b, twenty).answer == MUKTHIBAN_NOT_FOUND);
 
@@ -320,18 +358,7 @@ static void tree(void)
     EXPECT(mukthiban_tree_rename_dir(FOUR, WORK, DIR_OPENS, 2, 2, b).answer == MUKTHIBAN_INTO_ITSELF);
     EXPECT(mukthiban_tree_rename_dir(FOUR, WORK, DIR_OPENS, 2, 1, b).answer == MUKTHIBAN_DONE);
     EXPECT(mukthiban_tree_rename_file(FOUR, WORK, FILE_OPENS, 1, 1, a).answer == MUKTHIBAN_DONE);
-    EXPECT(mukthiban_tree_open_dir(FOUR, WORK, DIR_OPENS, 2).answer == MUKTHIBAN_DONE && dir_opens[2] == 2);
-    EXPECT(mukthiban_tree_delete_dir(FOUR, WORK, DIR_OPENS, 2).answer == MUKTHIBAN_BUSY);
-    EXPECT(mukthiban_tree_close_dir(FOUR, WORK, DIR_OPENS, 2).answer == MUKTHIBAN_DONE && dir_opens[2] == 1);
-    EXPECT(mukthiban_tree_delete_dir(FOUR, WORK, DIR_OPENS, 2).answer == MUKTHIBAN_DONE && dir_opens[2] == 0);
-    EXPECT(mukthiban_tree_delete_dir(FOUR, WORK, DIR_OPENS, 1).answer == MUKTHIBAN_NOT_OPEN);
-    EXPECT(mukthiban_tree_close_file(FOUR, WORK, FILE_OPENS, 1).answer == MUKTHIBAN_DONE && file_opens[1] == 0);
-    EXPECT(mukthiban_tree_close_file(FOUR, WORK, FILE_OPENS, 1).answer == MUKTHIBAN_NOT_OPEN);
-    file_opens[1] = 65535;
-    EXPECT(mukthiban_tree_open_file(FOUR, WORK, FILE_OPENS, 1).answer == MUKTHIBAN_TOO_MANY_OPENS);
-    file_opens[1] = 0;
-    EXPECT(mukthiban_tree_open_file(FOUR, WORK, FILE_OPENS, 1).answer == MUKTHIBAN_DONE && file_opens[1] == 1);
-    EXPECT(mukthiban_tree_delete_file(FOUR, WORK, FILE_OPENS, 1).answer == MUKTHIBAN_DONE && file_opens[1] == 0);
+    opened();
     file_table[0] = 99;
     EXPECT(mukthiban_tree_test(FOUR, WORK).answer == MUKTHIBAN_BROKEN_TREE);
 }

@@ -274,16 +274,16 @@ static void changes(void)
          mukthiban_tested_tree_rename_dir(TREE(b), DIR_OPENS(b), 2, 2, three));
     SAME(MUKTHIBAN_DONE, mukthiban_tree_rename_file(TREE(a), WORK, FILE_OPENS(a), 1, 1, three),
          mukthiban_tested_tree_rename_file(TREE(b), FILE_OPENS(b), 1, 1, three));
-    SAME(MUKTHIBAN_DONE, mukthiban_tree_open_dir(TREE(a), WORK, DIR_OPENS(a), 2),
-         mukthiban_tested_tree_open_dir(TREE(b), DIR_OPENS(b), 2));
+    SAME(MUKTHIBAN_DONE, mukthiban_tree_open_dir(TREE(a), WORK, DIR_OPENS(a), 2, MUKTHIBAN_READER),
+         mukthiban_tested_tree_open_dir(TREE(b), DIR_OPENS(b), 2, MUKTHIBAN_READER));
     SAME(MUKTHIBAN_BUSY, mukthiban_tree_delete_dir(TREE(a), WORK, DIR_OPENS(a), 2),
          mukthiban_tested_tree_delete_dir(TREE(b), DIR_OPENS(b), 2));
-    SAME(MUKTHIBAN_DONE, mukthiban_tree_close_dir(TREE(a), WORK, DIR_OPENS(a), 2),
-         mukthiban_tested_tree_close_dir(TREE(b), DIR_OPENS(b), 2));
-    SAME(MUKTHIBAN_DONE, mukthiban_tree_open_file(TREE(a), WORK, FILE_OPENS(a), 1),
-         mukthiban_tested_tree_open_file(TREE(b), FILE_OPENS(b), 1));
-    SAME(MUKTHIBAN_DONE, mukthiban_tree_close_file(TREE(a), WORK, FILE_OPENS(a), 1),
-         mukthiban_tested_tree_close_file(TREE(b), FILE_OPENS(b), 1));
+    SAME(MUKTHIBAN_DONE, mukthiban_tree_close_dir(TREE(a), WORK, DIR_OPENS(a), 2, MUKTHIBAN_READER),
+         mukthiban_tested_tree_close_dir(TREE(b), DIR_OPENS(b), 2, MUKTHIBAN_READER));
+    SAME(MUKTHIBAN_DONE, mukthiban_tree_open_file(TREE(a), WORK, FILE_OPENS(a), 1, MUKTHIBAN_READER),
+         mukthiban_tested_tree_open_file(TREE(b), FILE_OPENS(b), 1, MUKTHIBAN_READER));
+    SAME(MUKTHIBAN_DONE, mukthiban_tree_close_file(TREE(a), WORK, FILE_OPENS(a), 1, MUKTHIBAN_READER),
+         mukthiban_tested_tree_close_file(TREE(b), FILE_OPENS(b), 1, MUKTHIBAN_READER));
     SAME(MUKTHIBAN_DONE, mukthiban_tree_delete_file(TREE(a), WORK, FILE_OPENS(a), 1),
          mukthiban_tested_tree_delete_file(TREE(b), FILE_OPENS(b), 1));
 }

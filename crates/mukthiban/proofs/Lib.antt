@@ -5,3 +5,5 @@ pub mod OneMerge
 pub mod OnePlan
 pub mod OneVolume
 pub mod OneMap
+pub mod Asked
+pub mod OneOpens

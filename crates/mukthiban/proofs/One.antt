@@ -282,16 +282,6 @@ pub export-tree-delete : (kind : Kind) (s : Tables) (opens work : List ℕ) (x :
 export-tree-delete kind s opens work x =
     one-beside (λ (a : Answer) (x : Tables × List ℕ). tree.changeGives a (x .0) (x .1)) (λ g. g .answer) (λ g. (g .tables, g .opens)) (promised.DeletePromise kind s opens work x) (λ a x. refl) (λ a x. refl) (tree-one.one-delete kind s work opens x)
 
-pub export-tree-open : (kind : Kind) (s : Tables) (opens work : List ℕ) (x : ℕ)
-    → OneExport {X = List ℕ × List ℕ} (λ a x. beside (tree.openingGives a (x .0)) (x .1)) (promised.OpenPromise kind s opens work x)
-export-tree-open kind s opens work x =
-    one-beside (λ (a : Answer) (x : List ℕ). tree.openingGives a x) (λ g. g .answer) (λ g. g .opens) (promised.OpenPromise kind s opens work x) (λ a x. refl) (λ a x. refl) (tree-one.one-open kind s work opens x)
-
-pub export-tree-close : (kind : Kind) (s : Tables) (opens work : List ℕ) (x : ℕ)
-    → OneExport {X = List ℕ × List ℕ} (λ a x. beside (tree.openingGives a (x .0)) (x .1)) (promised.ClosePromise kind s opens work x)
-export-tree-close kind s opens work x =
-    one-beside (λ (a : Answer) (x : List ℕ). tree.openingGives a x) (λ g. g .answer) (λ g. g .opens) (promised.ClosePromise kind s opens work x) (λ a x. refl) (λ a x. refl) (tree-one.one-close kind s work opens x)
-
 -- ---- the name, whose field is the place in the table that the kind selects
 
 pub one-name : (s : Tables) (work : List ℕ) (kind x : ℕ) → One (NamePromise s work kind x)

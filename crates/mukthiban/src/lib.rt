@@ -7,6 +7,7 @@ mod look;
 mod map;
 mod merge;
 mod name;
+mod opens;
 mod plan;
 mod tested_blocks;
 mod tested_carried;

@@ -1,8 +1,8 @@
-// The calls that look at the entry tables, and those that touch open counts and carried bytes alone.
+// The calls that look at the entry tables, and those that touch carried bytes alone.
 ghost use Rattle.order.specs.Beside.{beside};
 ghost use Rattle.tree_sound.specs.Tables.{tables, dirs, files};
-ghost use Rattle.tree_promises.specs.Calls.{lookupGives, listGives, statGives, shownGives, carryGives, openingGives};
-ghost use Rattle.tree_promises.specs.Public.{LookupPromise, ListPromise, StatPromise, CarriedDirPromise, CarriedFilePromise, SetCarriedDirPromise, SetCarriedFilePromise, OpenDirPromise, OpenFilePromise, CloseDirPromise, CloseFilePromise};
+ghost use Rattle.tree_promises.specs.Calls.{lookupGives, listGives, statGives, shownGives, carryGives};
+ghost use Rattle.tree_promises.specs.Public.{LookupPromise, ListPromise, StatPromise, CarriedDirPromise, CarriedFilePromise, SetCarriedDirPromise, SetCarriedFilePromise};
 ghost use Rattle.mukthiban.specs.Export.{Exported};
 use crate::Found;
 use crate::Listed;
@@ -115,58 +115,6 @@ pub extern "C" fn mukthiban_tree_set_carried_dir(
 }
 
 #[no_mangle]
-pub extern "C" fn mukthiban_tree_open_dir(
-    dir_hash: &[u8],
-    dir_table: &[u8],
-    file_hash: &[u8],
-    file_table: &[u8],
-    work: &mut [u32],
-    opens: &mut [u32],
-    inode: u32,
-) -> Plain
-    ensures { λ p. ⌜ Exported (p .answer) (λ a. OpenDirPromise (tables (now («dir_hash» .entry)) (now («dir_table» .entry)) (now («file_hash» .entry)) (now («file_table» .entry))) (now (opens .entry)) (now (work .entry)) inode (beside (openingGives a (now (opens .exit))) (now (work .exit)))) ⌝ }
-{
-    let answer = tree::opens::open_dir(
-        dir_hash,
-        dir_table,
-        file_hash,
-        file_table,
-        work,
-        opens,
-        inode,
-    );
-    Plain {
-        answer: order::number(answer),
-    }
-}
-
-#[no_mangle]
-pub extern "C" fn mukthiban_tree_close_dir(
-    dir_hash: &[u8],
-    dir_table: &[u8],
-    file_hash: &[u8],
-    file_table: &[u8],
-    work: &mut [u32],
-    opens: &mut [u32],
-    inode: u32,
-) -> Plain
-    ensures { λ p. ⌜ Exported (p .answer) (λ a. CloseDirPromise (tables (now («dir_hash» .entry)) (now («dir_table» .entry)) (now («file_hash» .entry)) (now («file_table» .entry))) (now (opens .entry)) (now (work .entry)) inode (beside (openingGives a (now (opens .exit))) (now (work .exit)))) ⌝ }
-{
-    let answer = tree::opens::close_dir(
-        dir_hash,
-        dir_table,
-        file_hash,
-        file_table,
-        work,
-        opens,
-        inode,
-    );
-    Plain {
-        answer: order::number(answer),
-    }
-}
-
-#[no_mangle]
 pub extern "C" fn mukthiban_tree_lookup_file(
     dir_hash: &[u8],
     dir_table: &[u8],
@@ -265,58 +213,6 @@ pub extern "C" fn mukthiban_tree_set_carried_file(
         work,
         inode,
         bytes,
-    );
-    Plain {
-        answer: order::number(answer),
-    }
-}
-
-#[no_mangle]
-pub extern "C" fn mukthiban_tree_open_file(
-    dir_hash: &[u8],
-    dir_table: &[u8],
-    file_hash: &[u8],
-    file_table: &[u8],
-    work: &mut [u32],
-    opens: &mut [u32],
-    inode: u32,
-) -> Plain
-    ensures { λ p. ⌜ Exported (p .answer) (λ a. OpenFilePromise (tables (now («dir_hash» .entry)) (now («dir_table» .entry)) (now («file_hash» .entry)) (now («file_table» .entry))) (now (opens .entry)) (now (work .entry)) inode (beside (openingGives a (now (opens .exit))) (now (work .exit)))) ⌝ }
-{
-    let answer = tree::opens::open_file(
-        dir_hash,
-        dir_table,
-        file_hash,
-        file_table,
-        work,
-        opens,
-        inode,
-    );
-    Plain {
-        answer: order::number(answer),
-    }
-}
-
-#[no_mangle]
-pub extern "C" fn mukthiban_tree_close_file(
-    dir_hash: &[u8],
-    dir_table: &[u8],
-    file_hash: &[u8],
-    file_table: &[u8],
-    work: &mut [u32],
-    opens: &mut [u32],
-    inode: u32,
-) -> Plain
-    ensures { λ p. ⌜ Exported (p .answer) (λ a. CloseFilePromise (tables (now («dir_hash» .entry)) (now («dir_table» .entry)) (now («file_hash» .entry)) (now («file_table» .entry))) (now (opens .entry)) (now (work .entry)) inode (beside (openingGives a (now (opens .exit))) (now (work .exit)))) ⌝ }
-{
-    let answer = tree::opens::close_file(
-        dir_hash,
-        dir_table,
-        file_hash,
-        file_table,
-        work,
-        opens,
-        inode,
     );
     Plain {
         answer: order::number(answer),

@@ -38,7 +38,7 @@ fn named(answer: Answer, at: usize) -> Named
 }
 
 // The answer to a kind that is neither: whether the sizes fit. No two tables have so little room that one place of work is enough, so the test ends there.
-fn other_kind(dir_hash: &[u8], dir_table: &[u8], file_hash: &[u8], file_table: &[u8]) -> Answer
+pub fn other_kind(dir_hash: &[u8], dir_table: &[u8], file_hash: &[u8], file_table: &[u8]) -> Answer
     ensures { λ r. ⌜ First (row (Misfit (now («dir_hash» .entry)) (now («dir_table» .entry)) (now («file_hash» .entry)) (now («file_table» .entry))) SizeMismatch ∷ []) InvalidValue r ⌝ }
 {
     let mut work = [0u32; 1];

@@ -1,11 +1,14 @@
-// The inner calls on the entry tables that touch open counts, for a side that has tested its tables once and keeps them sound.
+// The inner calls on the entry tables that touch open records, for a side that has tested its tables once and keeps them sound.
 ghost use Rattle.order.specs.First.{First};
 ghost use Rattle.tree_promises.specs.declared.Kind.the-variants.{Directory, File};
 ghost use Rattle.tree_promises.specs.inner.Ready.{ReadyOpens};
 ghost use Rattle.tree_sound.specs.Tables.{tables, dirs, files};
 ghost use Rattle.tree_promises.specs.Calls.{openRows, openDone, closeRows, closeDone, openingGives};
 ghost use Rattle.mukthiban.specs.Export.{Exported};
+ghost use Rattle.mukthiban.specs.Opening.{wantOf};
+ghost use Prim.Native.Nat.{_≤_};
 use crate::Plain;
+use crate::opens::want_of;
 use tree_key::SaveExtDirEntry;
 use tree_key::SaveExtFileEntry;
 
@@ -17,11 +20,20 @@ pub extern "C" fn mukthiban_tested_tree_open_dir(
     file_table: &[u8],
     opens: &mut [u32],
     inode: u32,
+    kind: u32,
 ) -> Plain
-    requires { ⌜ ReadyOpens Directory (tables (now «dir_hash») (now «dir_table») (now «file_hash») (now «file_table»)) (now opens) ⌝ }
-    ensures { λ p. ⌜ Exported (p .answer) (λ a. First (openRows (dirs (tables (now («dir_hash» .entry)) (now («dir_table» .entry)) (now («file_hash» .entry)) (now («file_table» .entry)))) (now (opens .entry)) inode) (openDone (now (opens .entry)) inode) (openingGives a (now (opens .exit)))) ⌝ }
+    requires { ⌜ ReadyOpens Directory (tables (now «dir_hash») (now «dir_table») (now «file_hash») (now «file_table»)) (now opens) × (kind ≤ 1) ⌝ }
+    ensures { λ p. ⌜ Exported (p .answer) (λ a. First (openRows (dirs (tables (now («dir_hash» .entry)) (now («dir_table» .entry)) (now («file_hash» .entry)) (now («file_table» .entry)))) (now (opens .entry)) inode (wantOf kind)) (openDone (now (opens .entry)) inode (wantOf kind)) (openingGives a (now (opens .exit)))) ⌝ }
 {
-    let answer = tree_inner::look::open(dir_hash, dir_table, SaveExtDirEntry::WIDTH, opens, inode);
+    let want = want_of(kind);
+    let answer = tree_inner::look::open(
+        dir_hash,
+        dir_table,
+        SaveExtDirEntry::WIDTH,
+        opens,
+        inode,
+        want,
+    );
     Plain {
         answer: order::number(answer),
     }
@@ -35,16 +47,19 @@ pub extern "C" fn mukthiban_tested_tree_open_file(
     file_table: &[u8],
     opens: &mut [u32],
     inode: u32,
+    kind: u32,
 ) -> Plain
-    requires { ⌜ ReadyOpens File (tables (now «dir_hash») (now «dir_table») (now «file_hash») (now «file_table»)) (now opens) ⌝ }
-    ensures { λ p. ⌜ Exported (p .answer) (λ a. First (openRows (files (tables (now («dir_hash» .entry)) (now («dir_table» .entry)) (now («file_hash» .entry)) (now («file_table» .entry)))) (now (opens .entry)) inode) (openDone (now (opens .entry)) inode) (openingGives a (now (opens .exit)))) ⌝ }
+    requires { ⌜ ReadyOpens File (tables (now «dir_hash») (now «dir_table») (now «file_hash») (now «file_table»)) (now opens) × (kind ≤ 1) ⌝ }
+    ensures { λ p. ⌜ Exported (p .answer) (λ a. First (openRows (files (tables (now («dir_hash» .entry)) (now («dir_table» .entry)) (now («file_hash» .entry)) (now («file_table» .entry)))) (now (opens .entry)) inode (wantOf kind)) (openDone (now (opens .entry)) inode (wantOf kind)) (openingGives a (now (opens .exit)))) ⌝ }
 {
+    let want = want_of(kind);
     let answer = tree_inner::look::open(
         file_hash,
         file_table,
         SaveExtFileEntry::WIDTH,
         opens,
         inode,
+        want,
     );
     Plain {
         answer: order::number(answer),
@@ -59,11 +74,20 @@ pub extern "C" fn mukthiban_tested_tree_close_dir(
     file_table: &[u8],
     opens: &mut [u32],
     inode: u32,
+    kind: u32,
 ) -> Plain
-    requires { ⌜ ReadyOpens Directory (tables (now «dir_hash») (now «dir_table») (now «file_hash») (now «file_table»)) (now opens) ⌝ }
-    ensures { λ p. ⌜ Exported (p .answer) (λ a. First (closeRows (dirs (tables (now («dir_hash» .entry)) (now («dir_table» .entry)) (now («file_hash» .entry)) (now («file_table» .entry)))) (now (opens .entry)) inode) (closeDone (now (opens .entry)) inode) (openingGives a (now (opens .exit)))) ⌝ }
+    requires { ⌜ ReadyOpens Directory (tables (now «dir_hash») (now «dir_table») (now «file_hash») (now «file_table»)) (now opens) × (kind ≤ 1) ⌝ }
+    ensures { λ p. ⌜ Exported (p .answer) (λ a. First (closeRows (dirs (tables (now («dir_hash» .entry)) (now («dir_table» .entry)) (now («file_hash» .entry)) (now («file_table» .entry)))) (now (opens .entry)) inode (wantOf kind)) (closeDone (now (opens .entry)) inode (wantOf kind)) (openingGives a (now (opens .exit)))) ⌝ }
 {
-    let answer = tree_inner::look::close(dir_hash, dir_table, SaveExtDirEntry::WIDTH, opens, inode);
+    let want = want_of(kind);
+    let answer = tree_inner::look::close(
+        dir_hash,
+        dir_table,
+        SaveExtDirEntry::WIDTH,
+        opens,
+        inode,
+        want,
+    );
     Plain {
         answer: order::number(answer),
     }
@@ -77,16 +101,19 @@ pub extern "C" fn mukthiban_tested_tree_close_file(
     file_table: &[u8],
     opens: &mut [u32],
     inode: u32,
+    kind: u32,
 ) -> Plain
-    requires { ⌜ ReadyOpens File (tables (now «dir_hash») (now «dir_table») (now «file_hash») (now «file_table»)) (now opens) ⌝ }
-    ensures { λ p. ⌜ Exported (p .answer) (λ a. First (closeRows (files (tables (now («dir_hash» .entry)) (now («dir_table» .entry)) (now («file_hash» .entry)) (now («file_table» .entry)))) (now (opens .entry)) inode) (closeDone (now (opens .entry)) inode) (openingGives a (now (opens .exit)))) ⌝ }
+    requires { ⌜ ReadyOpens File (tables (now «dir_hash») (now «dir_table») (now «file_hash») (now «file_table»)) (now opens) × (kind ≤ 1) ⌝ }
+    ensures { λ p. ⌜ Exported (p .answer) (λ a. First (closeRows (files (tables (now («dir_hash» .entry)) (now («dir_table» .entry)) (now («file_hash» .entry)) (now («file_table» .entry)))) (now (opens .entry)) inode (wantOf kind)) (closeDone (now (opens .entry)) inode (wantOf kind)) (openingGives a (now (opens .exit)))) ⌝ }
 {
+    let want = want_of(kind);
     let answer = tree_inner::look::close(
         file_hash,
         file_table,
         SaveExtFileEntry::WIDTH,
         opens,
         inode,
+        want,
     );
     Plain {
         answer: order::number(answer),

@@ -5,6 +5,7 @@ use crate::merged::merged_table;
 use crate::{block_history, tree_history};
 use port::{BlockCall, Blocks, Kind, Tree, TreeCall};
 use rules::blocks::layout;
+use rules::opens::readers;
 use rules::tree::tree;
 use std::collections::{HashSet, VecDeque};
 
@@ -138,10 +139,11 @@ fn all_tree_calls(lent: &Tree) -> Vec<TreeCall> {
         }
         for inode in 0..=lent.opens(kind).len() as u32 {
             calls.push(TreeCall::Delete { kind, inode });
-            calls.push(TreeCall::Close { kind, inode });
-            // Counts stay small, so that the tables that can be reached are finitely many.
-            if lent.opens(kind).get(inode as usize).is_none_or(|count| *count < 1) {
-                calls.push(TreeCall::Open { kind, inode });
+            calls.extend([0, 1].map(|want| TreeCall::Close { kind, inode, want }));
+            calls.push(TreeCall::Open { kind, inode, want: 1 });
+            // Readers stay few, so that the tables that can be reached are finitely many.
+            if lent.opens(kind).get(inode as usize).is_none_or(|record| readers(*record) < 1) {
+                calls.push(TreeCall::Open { kind, inode, want: 0 });
             }
         }
     }

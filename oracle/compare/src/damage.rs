@@ -6,6 +6,7 @@ use crate::tree_history::seen;
 use crate::{block_history, trees, volumes};
 use port::{BlockCall, Blocks, Kind, Tree, TreeCall};
 use rules::blocks::{layout, set_node, Run};
+use rules::opens::WRITER;
 use rules::tree::{moved, tree, FourMut};
 use rules::{put_word, word};
 
@@ -193,6 +194,7 @@ pub fn wild_tree_call(chance: &mut Chance, lent: &Tree) -> TreeCall {
     let inode = chance.within(0, these) as u32;
     let name = trees::any_name(chance);
     let carried = [chance.next() as u8; 20];
+    let want = chance.pick(&[0, 0, 0, 1, 1, 1, 2, u32::MAX]);
     match chance.below(12) {
         0 => TreeCall::Lookup { kind, parent, name: trees::any_bytes_name(chance) },
         1 => TreeCall::Make { kind, parent, name, carried },
@@ -204,8 +206,8 @@ pub fn wild_tree_call(chance: &mut Chance, lent: &Tree) -> TreeCall {
         7 => TreeCall::NameAnswer { kind: chance.below(3) as u32, inode },
         8 => TreeCall::Carried { kind, inode },
         9 => TreeCall::SetCarried { kind, inode, carried },
-        10 => TreeCall::Open { kind, inode },
-        _ => TreeCall::Close { kind, inode },
+        10 => TreeCall::Open { kind, inode, want },
+        _ => TreeCall::Close { kind, inode, want },
     }
 }
 
@@ -272,11 +274,12 @@ fn wrongly_moved(chance: &mut Chance, lent: &mut Tree) {
     moved(&mut four, &held, kind, inode, parent, &name);
 }
 
-/// Sound tables, damaged in a few places; counts at their edges.
+/// Sound tables, damaged in a few places; records at their edges.
 pub fn damaged_tree(chance: &mut Chance) {
     let mut lent = if chance.one_in(3) { trees::small_sound(chance) } else { trees::any_sound(chance) };
-    for count in lent.dir_opens.iter_mut().chain(lent.file_opens.iter_mut()) {
-        *count = chance.pick(&[0, 1, 1, 2, 65_534, 65_535, 65_536, 70_000, u32::MAX]);
+    for record in lent.dir_opens.iter_mut().chain(lent.file_opens.iter_mut()) {
+        let readers = chance.pick(&[0, 0, 0, 1, 2, 65_533, 65_534, 65_535, 65_536, 70_000, u32::MAX >> 1]);
+        *record = readers + chance.pick(&[0, WRITER, WRITER]);
     }
     lent.list = chance.words(8);
     let most = lent.dir_opens.len().max(lent.file_opens.len());

@@ -177,8 +177,10 @@ fn every_tree_call(kind: Kind, inode: u32, other: u32) -> Vec<TreeCall> {
         TreeCall::NameAnswer { kind: other, inode },
         TreeCall::Carried { kind, inode },
         TreeCall::SetCarried { kind, inode, carried },
-        TreeCall::Open { kind, inode },
-        TreeCall::Close { kind, inode },
+        TreeCall::Open { kind, inode, want: 0 },
+        TreeCall::Open { kind, inode, want: other },
+        TreeCall::Close { kind, inode, want: 1 },
+        TreeCall::Close { kind, inode, want: other },
     ]
 }
 

@@ -6,6 +6,7 @@ use crate::stored;
 use crate::trees::{self, any_bytes_name, any_name};
 use original::Tables;
 use port::{Answered, Kind, Tree, TreeCall};
+use rules::opens::{total, WRITER};
 use rules::tree::{tree, Four};
 
 pub struct Session {
@@ -19,15 +20,16 @@ pub fn seen(lent: &Tree) -> Four<'_> {
 }
 
 impl Session {
-    /// The original opens as many handles as the counts say, which must be small and of live inodes.
+    /// The original opens as many handles as there are readers and writers, which must be few and of live inodes. It knows no kinds of open: a
+    /// handle is either.
     pub fn new(lent: Tree) -> Session {
         let original = original::PRESENT.then(|| {
             let mut tables = Tables::open(lent.four()).expect("the original opens sound tables");
-            for (x, count) in lent.dir_opens.iter().enumerate() {
-                (0..*count).for_each(|_| tables.open_dir(x as u32));
+            for (x, record) in lent.dir_opens.iter().enumerate() {
+                (0..total(*record)).for_each(|_| tables.open_dir(x as u32));
             }
-            for (x, count) in lent.file_opens.iter().enumerate() {
-                (0..*count).for_each(|_| tables.open_file(x as u32));
+            for (x, record) in lent.file_opens.iter().enumerate() {
+                (0..total(*record)).for_each(|_| tables.open_file(x as u32));
             }
             tables
         });
@@ -44,11 +46,11 @@ impl Session {
             }
             let same = original.holds(self.lent.four());
             assert!(same, "the original's bytes differ after {call:?}\nrules {}\noriginal {}", check::short(&self.lent), check::short(&original.four()));
-            for (x, count) in self.lent.dir_opens.iter().enumerate() {
-                assert_eq!(original.dir_opens(x as u32), *count, "opens of directory {x} after {call:?}");
+            for (x, record) in self.lent.dir_opens.iter().enumerate() {
+                assert_eq!(original.dir_opens(x as u32), total(*record), "opens of directory {x} after {call:?}");
             }
-            for (x, count) in self.lent.file_opens.iter().enumerate() {
-                assert_eq!(original.file_opens(x as u32), *count, "opens of file {x} after {call:?}");
+            for (x, record) in self.lent.file_opens.iter().enumerate() {
+                assert_eq!(original.file_opens(x as u32), total(*record), "opens of file {x} after {call:?}");
             }
             if followed && has_counterpart(call) {
                 stored::confirm_tree();
@@ -92,10 +94,12 @@ fn followed(call: &TreeCall, number: u32) -> bool {
     match call {
         // NoSpace and AlreadyExist; a dead parent is taken there, and any name.
         TreeCall::Make { .. } => matches!(number, 0 | 6 | 11),
-        // A refused rename has removed the entry already.
+        // A refused rename has removed the entry already, and any handle will do for one.
         TreeCall::Rename { .. } => number == 0,
-        // Busy, DeletingRoot, NotEmpty; a dead or unopened inode has no handle.
+        // Busy, DeletingRoot, NotEmpty; a dead or unopened inode has no handle, and a reader's would do.
         TreeCall::Delete { .. } => matches!(number, 0 | 12 | 13 | 14),
+        // A second writer is let in, and a handle given back is one of either kind.
+        TreeCall::Open { .. } | TreeCall::Close { .. } => number == 0,
         // A lookup's parent needs no handle of its own, so NotFound is common.
         TreeCall::Lookup { .. } => matches!(number, 0 | 10),
         _ => number == 0,
@@ -172,10 +176,10 @@ fn follow(original: &mut Tables, call: &TreeCall, answered: &Answered, lent: &Tr
             assert_eq!(original.set_carried_file(inode, carried), Ok(()), "{call:?}");
         }
         TreeCall::SetCarried { kind: Kind::Dir, .. } => original.set(lent.four()),
-        TreeCall::Open { kind: Kind::Dir, inode } => original.open_dir(inode),
-        TreeCall::Open { kind: Kind::File, inode } => original.open_file(inode),
-        TreeCall::Close { kind: Kind::Dir, inode } => original.close_dir(inode),
-        TreeCall::Close { kind: Kind::File, inode } => original.close_file(inode),
+        TreeCall::Open { kind: Kind::Dir, inode, .. } => original.open_dir(inode),
+        TreeCall::Open { kind: Kind::File, inode, .. } => original.open_file(inode),
+        TreeCall::Close { kind: Kind::Dir, inode, .. } => original.close_dir(inode),
+        TreeCall::Close { kind: Kind::File, inode, .. } => original.close_file(inode),
         _ => {}
     }
 }
@@ -202,6 +206,7 @@ pub fn any_call(chance: &mut Chance, lent: &mut Tree) -> TreeCall {
     // Mostly a name that a new entry may have: the original takes the others.
     let name = if chance.one_in(12) { any_bytes_name(chance) } else { any_name(chance) };
     let carried: [u8; 20] = chance.bytes(20).try_into().unwrap();
+    let want = chance.below(2) as u32;
     let len = chance.pick(&[0, 1, 2, 8, 50, 50]);
     lent.list = chance.words(len);
     match chance.below(40) {
@@ -216,8 +221,8 @@ pub fn any_call(chance: &mut Chance, lent: &mut Tree) -> TreeCall {
         29 => TreeCall::NameAnswer { kind: kind as u32, inode },
         30 => TreeCall::Carried { kind, inode },
         31..=32 => TreeCall::SetCarried { kind, inode, carried },
-        33..=36 => TreeCall::Open { kind, inode },
-        _ => TreeCall::Close { kind, inode },
+        33..=36 => TreeCall::Open { kind, inode, want },
+        _ => TreeCall::Close { kind, inode, want },
     }
 }
 
@@ -248,15 +253,20 @@ fn spare(maximum: usize) -> usize {
     maximum % 4
 }
 
+/// Few readers, or none; with a writer or without.
+fn any_record(chance: &mut Chance) -> u32 {
+    chance.below(3) as u32 + chance.pick(&[0, WRITER])
+}
+
 /// One random history.
 pub fn run(chance: &mut Chance) {
     let mut start = if chance.one_in(2) { trees::formatted(chance) } else { trees::any_sound(chance) };
     let held = tree(seen(&start)).unwrap();
     for x in held.dirs.inodes() {
-        start.dir_opens[x as usize] = chance.below(3) as u32;
+        start.dir_opens[x as usize] = any_record(chance);
     }
     for x in held.files.inodes() {
-        start.file_opens[x as usize] = chance.below(3) as u32;
+        start.file_opens[x as usize] = any_record(chance);
     }
     compare_format(chance);
     let mut session = Session::new(start);

@@ -3,6 +3,7 @@
 
 use original::{Tables, Volume};
 use port::{Answered, BlockCall, Blocks, Kind, Library, Port, Stated, Tree, TreeCall};
+use rules::opens::{total, WRITER};
 use rules::{put_word, word};
 use std::panic::{catch_unwind, AssertUnwindSafe};
 
@@ -94,11 +95,11 @@ fn with_dir(mut lent: Tree, parent: u32, letter: u8) -> Tree {
     lent
 }
 
-/// The original on the same bytes, with one handle of each open inode.
+/// The original on the same bytes, with a handle for each reader and for the writer.
 fn beside(lent: &Tree) -> Tables {
     let mut tables = Tables::open(lent.four()).unwrap();
-    for (x, count) in lent.dir_opens.iter().enumerate() {
-        (0..*count).for_each(|_| tables.open_dir(x as u32));
+    for (x, record) in lent.dir_opens.iter().enumerate() {
+        (0..total(*record)).for_each(|_| tables.open_dir(x as u32));
     }
     tables
 }
@@ -262,8 +263,8 @@ fn directory_into_itself() {
 #[test]
 fn rename_of_the_root_or_of_the_dead() {
     let mut lent = with_dir(tables(4, 2), 1, b'a');
-    lent.dir_opens[1] = 1;
-    lent.dir_opens[3] = 1;
+    lent.dir_opens[1] = WRITER;
+    lent.dir_opens[3] = WRITER;
     for (inode, number) in [(1, 13), (3, 10)] {
         let call = TreeCall::Rename { kind: Kind::Dir, inode, parent: 1, name: name(b'c') };
         assert_eq!(tree_number(call, &lent), number);
@@ -277,7 +278,7 @@ fn rename_of_the_root_or_of_the_dead() {
 #[test]
 fn refused_delete_drops_its_handle() {
     let mut lent = with_dir(tables(4, 2), 1, b'a');
-    lent.dir_opens[2] = 2;
+    lent.dir_opens[2] = WRITER + 1;
     let call = TreeCall::Delete { kind: Kind::Dir, inode: 2 };
     assert_eq!(tree_number(call, &lent), 12);
     if original::PRESENT {
@@ -294,7 +295,7 @@ fn dead_inodes() {
     let (kind, carried) = (Kind::Dir, [0; 20]);
     let make = TreeCall::Make { kind, parent: 3, name: name(b'a'), carried };
     assert_eq!(tree_number(make, &lent), 10);
-    assert_eq!(tree_number(TreeCall::Open { kind, inode: 3 }, &lent), 10);
+    assert_eq!(tree_number(TreeCall::Open { kind, inode: 3, want: 0 }, &lent), 10);
     assert_eq!(tree_number(TreeCall::List { kind, inode: 3 }, &lent), 10);
     if original::PRESENT {
         let mut original = beside(&lent);
@@ -309,17 +310,49 @@ fn dead_inodes() {
         assert_eq!(original.dir_opens(2), 2);
     }
     let mut held = lent.clone();
-    held.dir_opens[2] = 1;
+    held.dir_opens[2] = 3;
     let make = TreeCall::Make { kind, parent: 1, name: name(b'a'), carried };
     assert_eq!(Stated.tree_call(&make, &mut held).number, 0);
-    assert_eq!(held.dir_opens[2], 1);
+    assert_eq!(held.dir_opens[2], WRITER);
+}
+
+#[test]
+fn no_readers_and_no_writer() {
+    let mut lent = with_dir(tables(4, 2), 1, b'a');
+    let (kind, inode) = (Kind::Dir, 2);
+    // A second writer.
+    lent.dir_opens[2] = WRITER;
+    assert_eq!(tree_number(TreeCall::Open { kind, inode, want: 1 }, &lent), 12);
+    // Delete and rename by a reader; a writer's close where a reader holds it.
+    let mut read = lent.clone();
+    read.dir_opens[2] = 1;
+    let rename = TreeCall::Rename { kind, inode, parent: 1, name: name(b'c') };
+    assert_eq!(tree_number(TreeCall::Delete { kind, inode }, &read), 16);
+    assert_eq!(tree_number(rename.clone(), &read), 16);
+    assert_eq!(tree_number(TreeCall::Close { kind, inode, want: 1 }, &read), 16);
+    // A rename while others read, which both allow.
+    let mut shared = lent.clone();
+    shared.dir_opens[2] = WRITER + 2;
+    assert_eq!(tree_number(rename, &shared), 0);
+    if original::PRESENT {
+        let mut original = beside(&lent);
+        original.open_dir(2);
+        assert_eq!(original.dir_opens(2), 2);
+        let mut original = beside(&read);
+        assert_eq!(original.rename_dir(2, 1, name(b'c')), Ok(()));
+        assert_eq!(original.delete_dir(2), Ok(()));
+        let mut original = beside(&shared);
+        assert_eq!(original.rename_dir(2, 1, name(b'c')), Ok(()));
+    }
 }
 
 #[test]
 fn no_limit_of_opens() {
     let mut lent = tables(2, 1);
     lent.dir_opens[1] = 65_535;
-    assert_eq!(tree_number(TreeCall::Open { kind: Kind::Dir, inode: 1 }, &lent), 17);
+    for want in [0, 1] {
+        assert_eq!(tree_number(TreeCall::Open { kind: Kind::Dir, inode: 1, want }, &lent), 17);
+    }
     if original::PRESENT {
         let mut original = beside(&lent);
         original.open_dir(1);

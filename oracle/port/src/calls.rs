@@ -66,8 +66,9 @@ pub enum TreeCall {
     NameAnswer { kind: u32, inode: u32 },
     Carried { kind: Kind, inode: u32 },
     SetCarried { kind: Kind, inode: u32, carried: [u8; 20] },
-    Open { kind: Kind, inode: u32 },
-    Close { kind: Kind, inode: u32 },
+    /// What is opened or given back as the interface's number: 0 a reader's open, 1 the writer's.
+    Open { kind: Kind, inode: u32, want: u32 },
+    Close { kind: Kind, inode: u32, want: u32 },
 }
 
 /// The number and the answer fields in their order; fields that a call does not have are 0.

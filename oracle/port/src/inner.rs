@@ -131,11 +131,11 @@ unsafe fn tree_call(call: &TreeCall, lent: &mut Tree) -> Option<Answered> {
             }
             Kind::File => on_four!(plain, mukthiban_tested_tree_set_carried_file, lent, inode, carried),
         },
-        TreeCall::Open { kind, inode } => with_opens!(
-            plain, kind, mukthiban_tested_tree_open_dir, mukthiban_tested_tree_open_file, lent, inode
+        TreeCall::Open { kind, inode, want } => with_opens!(
+            plain, kind, mukthiban_tested_tree_open_dir, mukthiban_tested_tree_open_file, lent, inode, want
         ),
-        TreeCall::Close { kind, inode } => with_opens!(
-            plain, kind, mukthiban_tested_tree_close_dir, mukthiban_tested_tree_close_file, lent, inode
+        TreeCall::Close { kind, inode, want } => with_opens!(
+            plain, kind, mukthiban_tested_tree_close_dir, mukthiban_tested_tree_close_file, lent, inode, want
         ),
     }
 }

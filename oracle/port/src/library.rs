@@ -176,11 +176,11 @@ unsafe fn tree_call(call: &TreeCall, lent: &mut Tree) -> Answered {
             }
             Kind::File => on_four!(plain, mukthiban_tree_set_carried_file, lent, inode, carried),
         },
-        TreeCall::Open { kind, inode } => with_opens!(
-            plain, kind, mukthiban_tree_open_dir, mukthiban_tree_open_file, lent, inode
+        TreeCall::Open { kind, inode, want } => with_opens!(
+            plain, kind, mukthiban_tree_open_dir, mukthiban_tree_open_file, lent, inode, want
         ),
-        TreeCall::Close { kind, inode } => with_opens!(
-            plain, kind, mukthiban_tree_close_dir, mukthiban_tree_close_file, lent, inode
+        TreeCall::Close { kind, inode, want } => with_opens!(
+            plain, kind, mukthiban_tree_close_dir, mukthiban_tree_close_file, lent, inode, want
         ),
     }
 }

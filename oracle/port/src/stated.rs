@@ -104,7 +104,7 @@ fn asked(call: &TreeCall, lent: &mut Tree) -> Option<Answered> {
     answered
 }
 
-/// Calls that change tables or open counts.
+/// Calls that change tables or open records.
 fn done(call: &TreeCall, lent: &mut Tree) -> Answered {
     match *call {
         TreeCall::Format { dir_max, file_max } => {
@@ -128,13 +128,13 @@ fn done(call: &TreeCall, lent: &mut Tree) -> Answered {
             let (mut four, work, _) = parts(lent, kind);
             plain(tree::set_carried(&mut four, work, kind, inode, carried))
         }
-        TreeCall::Open { kind, inode } => {
+        TreeCall::Open { kind, inode, want } => {
             let (four, work, opens) = parts(lent, kind);
-            plain(tree::open(four.four(), work, opens, kind, inode))
+            plain(tree::open(four.four(), work, opens, kind, inode, want))
         }
-        TreeCall::Close { kind, inode } => {
+        TreeCall::Close { kind, inode, want } => {
             let (four, work, opens) = parts(lent, kind);
-            plain(tree::close(four.four(), work, opens, kind, inode))
+            plain(tree::close(four.four(), work, opens, kind, inode, want))
         }
         _ => unreachable!("asked, not done"),
     }

@@ -13,6 +13,7 @@ pub mod fault;
 pub mod layout;
 pub mod map;
 pub mod merge;
+pub mod opens;
 pub mod plan;
 pub mod sound;
 pub mod tree;

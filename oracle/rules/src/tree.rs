@@ -1,13 +1,12 @@
-//! "Entry tables": the calls, and the open counts.
+//! "Entry tables": the calls, and the open records.
 
 use crate::answer::Answer::{self, *};
 use crate::answer::{refuse, Outcome};
 use crate::entries::*;
+use crate::opens::{self, Want};
 use crate::sound::{is_root, ROOT};
 
 pub use crate::sound::{tree, Four, FourMut, Tree};
-
-const MOST_OPENS: u32 = 65_535;
 
 // The rows that all tree calls share.
 
@@ -24,13 +23,13 @@ pub(crate) fn sizes(four: Four) -> Outcome<()> {
     Ok(())
 }
 
-/// The open counts that a call takes: those of one table.
+/// The open records that a call takes: those of one table.
 struct Opens {
     kind: Kind,
     len: usize,
 }
 
-/// Sizes, work list and open counts, soundness. Once the first two have passed, the named work places are 0.
+/// Sizes, work list and open records, soundness. Once the first two have passed, the named work places are 0.
 fn gate(four: Four, work: &mut [u32], opens: Option<Opens>) -> Outcome<Tree> {
     sizes(four)?;
     let rooms = four.view(Kind::Dir).room() + four.view(Kind::File).room();
@@ -160,7 +159,7 @@ pub fn make(
         four.view_mut(Kind::Dir).set_first_child(inode, Kind::File, 0);
     }
     link(four, kind, inode, parent, name);
-    opens[inode as usize] = 1;
+    opens[inode as usize] = opens::WRITER;
     Ok(inode)
 }
 
@@ -174,7 +173,7 @@ fn at_or_below(four: Four, dir: u32, other: u32) -> bool {
     y == other
 }
 
-/// "Rename removes and adds again, keeping the inode, carried bytes, children and open count." The entry given up is the one taken: there is always room, and entry 0 ends as it was.
+/// "Rename removes and adds again, keeping the inode, carried bytes, children and opens." It needs the writer's open. The entry given up is the one taken: there is always room, and entry 0 ends as it was.
 pub fn rename(
     four: &mut FourMut,
     work: &mut [u32],
@@ -186,7 +185,7 @@ pub fn rename(
 ) -> Outcome<()> {
     let tree = gate(four.four(), work, Some(Opens { kind, len: opens.len() }))?;
     live(&tree, kind, inode)?;
-    refuse(opens[inode as usize] == 0, NotOpen)?;
+    refuse(!opens::held(opens[inode as usize]), NotOpen)?;
     refuse(is_root(kind, inode), DeletingRoot)?;
     refuse(!legal(name), InvalidValue)?;
     live(&tree, Kind::Dir, parent)?;
@@ -197,6 +196,7 @@ pub fn rename(
     Ok(())
 }
 
+/// Delete needs the writer's open, and is Busy while readers remain.
 pub fn delete(
     four: &mut FourMut,
     work: &mut [u32],
@@ -206,8 +206,8 @@ pub fn delete(
 ) -> Outcome<()> {
     let tree = gate(four.four(), work, Some(Opens { kind, len: opens.len() }))?;
     live(&tree, kind, inode)?;
-    refuse(opens[inode as usize] == 0, NotOpen)?;
-    refuse(opens[inode as usize] > 1, Busy)?;
+    refuse(!opens::held(opens[inode as usize]), NotOpen)?;
+    refuse(opens::readers(opens[inode as usize]) > 0, Busy)?;
     refuse(is_root(kind, inode), DeletingRoot)?;
     if kind == Kind::Dir {
         let empty = tree.children(Kind::Dir, inode).is_empty()
@@ -283,17 +283,20 @@ pub fn set_carried(
     Ok(())
 }
 
+/// Open, for a reader or for the writer. At the interface the kind of open is a number; one that is neither answers InvalidValue with the sizes.
 pub fn open(
     four: Four,
     work: &mut [u32],
     opens: &mut [u32],
     kind: Kind,
     inode: u32,
+    want: u32,
 ) -> Outcome<()> {
+    sizes(four)?;
+    let want = Want::of(want).ok_or(InvalidValue)?;
     let tree = gate(four, work, Some(Opens { kind, len: opens.len() }))?;
     live(&tree, kind, inode)?;
-    refuse(opens[inode as usize] >= MOST_OPENS, TooManyOpens)?;
-    opens[inode as usize] += 1;
+    opens[inode as usize] = opens::opened(opens[inode as usize], want)?;
     Ok(())
 }
 
@@ -303,11 +306,13 @@ pub fn close(
     opens: &mut [u32],
     kind: Kind,
     inode: u32,
+    want: u32,
 ) -> Outcome<()> {
+    sizes(four)?;
+    let want = Want::of(want).ok_or(InvalidValue)?;
     let tree = gate(four, work, Some(Opens { kind, len: opens.len() }))?;
     live(&tree, kind, inode)?;
-    refuse(opens[inode as usize] == 0, NotOpen)?;
-    opens[inode as usize] -= 1;
+    opens[inode as usize] = opens::closed(opens[inode as usize], want)?;
     Ok(())
 }
 

@@ -128,19 +128,19 @@ calls! {
     ) -> Plain;
     fn mukthiban_tree_open_dir(
         dir_hash: &[u8], dir_table: &[u8], file_hash: &[u8], file_table: &[u8],
-        work: &mut [u32], opens: &mut [u32], inode: u32,
+        work: &mut [u32], opens: &mut [u32], inode: u32, kind: u32,
     ) -> Plain;
     fn mukthiban_tree_open_file(
         dir_hash: &[u8], dir_table: &[u8], file_hash: &[u8], file_table: &[u8],
-        work: &mut [u32], opens: &mut [u32], inode: u32,
+        work: &mut [u32], opens: &mut [u32], inode: u32, kind: u32,
     ) -> Plain;
     fn mukthiban_tree_close_dir(
         dir_hash: &[u8], dir_table: &[u8], file_hash: &[u8], file_table: &[u8],
-        work: &mut [u32], opens: &mut [u32], inode: u32,
+        work: &mut [u32], opens: &mut [u32], inode: u32, kind: u32,
     ) -> Plain;
     fn mukthiban_tree_close_file(
         dir_hash: &[u8], dir_table: &[u8], file_hash: &[u8], file_table: &[u8],
-        work: &mut [u32], opens: &mut [u32], inode: u32,
+        work: &mut [u32], opens: &mut [u32], inode: u32, kind: u32,
     ) -> Plain;
     fn mukthiban_volume_audit(
         table: &[u8], data: &[u8], block_len: usize,

@@ -102,18 +102,18 @@ calls! {
     ) -> Plain;
     fn mukthiban_tested_tree_open_dir(
         dir_hash: &[u8], dir_table: &[u8], file_hash: &[u8], file_table: &[u8],
-        opens: &mut [u32], inode: u32,
+        opens: &mut [u32], inode: u32, kind: u32,
     ) -> Plain;
     fn mukthiban_tested_tree_open_file(
         dir_hash: &[u8], dir_table: &[u8], file_hash: &[u8], file_table: &[u8],
-        opens: &mut [u32], inode: u32,
+        opens: &mut [u32], inode: u32, kind: u32,
     ) -> Plain;
     fn mukthiban_tested_tree_close_dir(
         dir_hash: &[u8], dir_table: &[u8], file_hash: &[u8], file_table: &[u8],
-        opens: &mut [u32], inode: u32,
+        opens: &mut [u32], inode: u32, kind: u32,
     ) -> Plain;
     fn mukthiban_tested_tree_close_file(
         dir_hash: &[u8], dir_table: &[u8], file_hash: &[u8], file_table: &[u8],
-        opens: &mut [u32], inode: u32,
+        opens: &mut [u32], inode: u32, kind: u32,
     ) -> Plain;
 }

@@ -2,7 +2,7 @@
 //!
 //!     cargo run --example build -- card notes.txt picture.pix
 
-use mukthiban::{name, Parts, Shape, Volume, ROOT};
+use mukthiban::{name, Parts, Shape, Volume, Want, ROOT};
 use std::error::Error;
 use std::fs;
 use std::io::Write;
@@ -40,8 +40,8 @@ fn add(volume: &mut Volume, path: &Path, bytes: &[u8]) -> Result<(), Box<dyn Err
     let mut file = volume.file_mut(inode)?;
     file.set_len(bytes.len() as u64)?;
     file.write_all(bytes)?;
-    // Make has opened it once.
-    Ok(volume.close_file(inode)?)
+    // Make gave the writer's open.
+    Ok(volume.close_file(inode, Want::Writer)?)
 }
 
 /// The parts as files of a folder that is not there yet.

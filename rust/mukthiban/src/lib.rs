@@ -47,7 +47,7 @@ pub mod volume;
 pub use parts::{Parts, Shape};
 pub use record::Record;
 pub use refusal::Refusal;
-pub use tables::{Kind, Name, ROOT};
+pub use tables::{Kind, Name, Want, ROOT};
 #[cfg(feature = "std")]
 pub use whole::{Entry, File, FileMut, NotSound, Volume, Walk};
 

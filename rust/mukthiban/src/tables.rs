@@ -30,6 +30,17 @@ pub enum Kind {
     File = 1,
 }
 
+/// Which open is asked for or given back. An inode has many readers and one writer; delete and rename need the writer's
+/// open, and delete is Busy while readers remain.
+#[derive(Clone, Copy, Debug, PartialEq, Eq, Hash)]
+#[repr(u32)]
+pub enum Want {
+    /// A reader's open.
+    Reader = 0,
+    /// The writer's open.
+    Writer = 1,
+}
+
 /// The four tables, lent to be read.
 #[derive(Clone, Copy)]
 pub struct Tables<'a> {

@@ -27,7 +27,7 @@ use crate::refusal::{judge, Refusal};
 use core::fmt;
 use mukthiban_ffi as ffi;
 
-pub use crate::tables::{Kind, Name, Tables, TablesMut, DIR_WIDTH, FILE_WIDTH, MAX_BUCKETS, MAX_ENTRIES, ROOT};
+pub use crate::tables::{Kind, Name, Tables, TablesMut, Want, DIR_WIDTH, FILE_WIDTH, MAX_BUCKETS, MAX_ENTRIES, ROOT};
 
 /// What lookup answers.
 #[derive(Clone, Copy, Debug, PartialEq, Eq)]
@@ -171,7 +171,7 @@ pub fn lookup_file(tables: Tables<'_>, work: &mut [u32], parent: u32, name: &Nam
     found(on_tables!(mukthiban_tree_lookup_file, read tables, work.as_mut_ptr(), work.len(), parent, name))
 }
 
-/// Makes a directory, opened once. `opens` are the directories'.
+/// Makes a directory, held by its writer. `opens` are the directories'.
 pub fn make_dir(
     tables: &mut TablesMut<'_>,
     work: &mut [u32],
@@ -186,7 +186,7 @@ pub fn make_dir(
     ))
 }
 
-/// Makes a file entry, opened once. `opens` are the files'.
+/// Makes a file entry, held by its writer. `opens` are the files'.
 pub fn make_file(
     tables: &mut TablesMut<'_>,
     work: &mut [u32],
@@ -201,7 +201,7 @@ pub fn make_file(
     ))
 }
 
-/// Gives an open directory another parent and name.
+/// Gives a directory that a writer holds another parent and name. Readers do not keep it off.
 pub fn rename_dir(
     tables: &mut TablesMut<'_>,
     work: &mut [u32],
@@ -217,7 +217,7 @@ pub fn rename_dir(
     judge(r.answer)
 }
 
-/// Gives an open file another parent and name.
+/// Gives a file that a writer holds another parent and name. Readers do not keep it off.
 pub fn rename_file(
     tables: &mut TablesMut<'_>,
     work: &mut [u32],
@@ -233,7 +233,7 @@ pub fn rename_file(
     judge(r.answer)
 }
 
-/// Deletes a directory without children, opened exactly once.
+/// Deletes a directory without children that its writer holds and no reader.
 pub fn delete_dir(tables: &mut TablesMut<'_>, work: &mut [u32], opens: &mut [u32], inode: u32) -> Result<(), Refusal> {
     let r = on_tables!(
         mukthiban_tree_delete_dir, change tables,
@@ -242,7 +242,7 @@ pub fn delete_dir(tables: &mut TablesMut<'_>, work: &mut [u32], opens: &mut [u32
     judge(r.answer)
 }
 
-/// Deletes a file entry, opened exactly once. Its blocks are not touched.
+/// Deletes a file entry that its writer holds and no reader. Its blocks are not touched.
 pub fn delete_file(tables: &mut TablesMut<'_>, work: &mut [u32], opens: &mut [u32], inode: u32) -> Result<(), Refusal> {
     let r = on_tables!(
         mukthiban_tree_delete_file, change tables,
@@ -337,10 +337,16 @@ pub fn set_carried_file(
 macro_rules! open_or_close {
     ($(#[$doc:meta])* $name:ident, $call:ident) => {
         $(#[$doc])*
-        pub fn $name(tables: Tables<'_>, work: &mut [u32], opens: &mut [u32], inode: u32) -> Result<(), Refusal> {
+        pub fn $name(
+            tables: Tables<'_>,
+            work: &mut [u32],
+            opens: &mut [u32],
+            inode: u32,
+            want: Want,
+        ) -> Result<(), Refusal> {
             let r = on_tables!(
                 $call, read tables,
-                work.as_mut_ptr(), work.len(), opens.as_mut_ptr(), opens.len(), inode,
+                work.as_mut_ptr(), work.len(), opens.as_mut_ptr(), opens.len(), inode, want as u32,
             );
             judge(r.answer)
         }
@@ -348,22 +354,22 @@ macro_rules! open_or_close {
 }
 
 open_or_close!(
-    /// Adds 1 to a directory's open count.
+    /// Opens a directory once more, for a reader or for the writer.
     open_dir,
     mukthiban_tree_open_dir
 );
 open_or_close!(
-    /// Adds 1 to a file's open count.
+    /// Opens a file once more, for a reader or for the writer.
     open_file,
     mukthiban_tree_open_file
 );
 open_or_close!(
-    /// Takes 1 from a directory's open count.
+    /// Gives back an open of a directory, a reader's or the writer's.
     close_dir,
     mukthiban_tree_close_dir
 );
 open_or_close!(
-    /// Takes 1 from a file's open count.
+    /// Gives back an open of a file, a reader's or the writer's.
     close_file,
     mukthiban_tree_close_file
 );

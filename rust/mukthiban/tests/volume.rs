@@ -2,7 +2,7 @@
 //! over long random histories. And the checks of RULES 8.
 
 use mukthiban::tree::TablesMut;
-use mukthiban::{fat, tree, Kind, Name, Parts, Refusal, Shape, Volume, ROOT};
+use mukthiban::{fat, tree, Kind, Name, Parts, Refusal, Shape, Volume, Want, ROOT};
 
 /// A small generator, so that a failure comes again.
 struct Dice(u64);
@@ -122,6 +122,7 @@ fn tree_calls_agree() {
             let inode = dice.below(dir_max + 2) as u32;
             let parent = dice.below(dir_max + 1) as u32;
             let n = name(&mut dice);
+            let want = [Want::Reader, Want::Writer][dice.below(2)];
             let (c4, c20) = ([dice.below(256) as u8; 4], [dice.below(256) as u8; 20]);
             let mut list = [7; 16];
             match dice.below(20) {
@@ -182,20 +183,20 @@ fn tree_calls_agree() {
                     );
                 }
                 16 => assert_eq!(
-                    v.open_dir(inode),
-                    tree::open_dir(p.parts.tables(), &mut p.work, &mut p.dir_opens, inode)
+                    v.open_dir(inode, want),
+                    tree::open_dir(p.parts.tables(), &mut p.work, &mut p.dir_opens, inode, want)
                 ),
                 17 => assert_eq!(
-                    v.open_file(inode),
-                    tree::open_file(p.parts.tables(), &mut p.work, &mut p.file_opens, inode)
+                    v.open_file(inode, want),
+                    tree::open_file(p.parts.tables(), &mut p.work, &mut p.file_opens, inode, want)
                 ),
                 18 => assert_eq!(
-                    v.close_dir(inode),
-                    tree::close_dir(p.parts.tables(), &mut p.work, &mut p.dir_opens, inode)
+                    v.close_dir(inode, want),
+                    tree::close_dir(p.parts.tables(), &mut p.work, &mut p.dir_opens, inode, want)
                 ),
                 _ => assert_eq!(
-                    v.close_file(inode),
-                    tree::close_file(p.parts.tables(), &mut p.work, &mut p.file_opens, inode)
+                    v.close_file(inode, want),
+                    tree::close_file(p.parts.tables(), &mut p.work, &mut p.file_opens, inode, want)
                 ),
             }
             assert_eq!(v.parts(), &p.parts);

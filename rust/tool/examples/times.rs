@@ -1,7 +1,7 @@
 //! The times of docs/BENCHMARKS.md's table of the tool: three volumes of 1,000,000 blocks are made in a folder, and the
 //! commands are run on them. `cargo build --release`, then `cargo run --release --example times -- FOLDER`.
 
-use mukthiban::{folder, Record, Shape, Volume, ROOT};
+use mukthiban::{folder, Record, Shape, Volume, Want, ROOT};
 use std::path::{Path, PathBuf};
 use std::process::{Command, Stdio};
 use std::time::Instant;
@@ -19,7 +19,7 @@ fn add(volume: &mut Volume, i: usize, first_block: usize, blocks: usize) {
     let mut carried = [0; 20];
     Record { first_block: first_block as u32, size: blocks as u64 * 512 - 5 }.put(&mut carried);
     let inode = volume.make_file(ROOT, &name(i), &carried).expect("room");
-    volume.close_file(inode).expect("open");
+    volume.close_file(inode, Want::Writer).expect("held");
 }
 
 /// So many files of so many blocks, one after another.

@@ -5,7 +5,7 @@ use crate::fail::{Fail, Outcome};
 use crate::session::Session;
 use crate::tree::stretches;
 use mukthiban::folder::{Access, Folder, Written};
-use mukthiban::{Kind, Name, Record, Refusal, Volume};
+use mukthiban::{Kind, Name, Record, Refusal, Volume, Want};
 use std::path::{Path, PathBuf};
 use std::time::Duration;
 
@@ -76,11 +76,12 @@ impl Change {
     pub fn add(&mut self, parent: u32, name: &Name, bytes: &[u8], mut carried: [u8; 20]) -> Result<(), Refusal> {
         self.record(bytes)?.put(&mut carried);
         let inode = self.volume().make_file(parent, name, &carried)?;
-        self.volume().close_file(inode)
+        self.volume().close_file(inode, Want::Writer)
     }
 
-    /// New bytes for a file that is there.
+    /// New bytes for a file that is there, by its writer.
     pub fn replace(&mut self, inode: u32, bytes: &[u8]) -> Result<(), Refusal> {
+        self.volume().open_file(inode, Want::Writer)?;
         let mut carried = self.volume().carried_file(inode)?;
         let before = Record::of(&carried);
         let now = match (before.size, bytes.len()) {
@@ -97,7 +98,8 @@ impl Change {
             }
         };
         now.put(&mut carried);
-        self.volume().set_carried_file(inode, &carried)
+        self.volume().set_carried_file(inode, &carried)?;
+        self.volume().close_file(inode, Want::Writer)
     }
 
     /// The blocks' bytes in some stretches, as they are in the folder; zeros for all others.
@@ -123,7 +125,7 @@ impl Change {
     /// A new directory, and its inode.
     pub fn make_dir(&mut self, parent: u32, name: &Name, carried: [u8; 4]) -> Result<u32, Refusal> {
         let inode = self.volume().make_dir(parent, name, &carried)?;
-        self.volume().close_dir(inode)?;
+        self.volume().close_dir(inode, Want::Writer)?;
         Ok(inode)
     }
 
@@ -132,14 +134,14 @@ impl Change {
         let volume = self.volume();
         match kind {
             Kind::Dir => {
-                volume.open_dir(inode)?;
+                volume.open_dir(inode, Want::Writer)?;
                 volume.rename_dir(inode, parent, name)?;
-                volume.close_dir(inode)
+                volume.close_dir(inode, Want::Writer)
             }
             Kind::File => {
-                volume.open_file(inode)?;
+                volume.open_file(inode, Want::Writer)?;
                 volume.rename_file(inode, parent, name)?;
-                volume.close_file(inode)
+                volume.close_file(inode, Want::Writer)
             }
         }
     }
@@ -148,11 +150,11 @@ impl Change {
     pub fn remove(&mut self, kind: Kind, inode: u32) -> Result<(), Refusal> {
         let volume = self.volume();
         if kind == Kind::Dir {
-            volume.open_dir(inode)?;
+            volume.open_dir(inode, Want::Writer)?;
             return volume.delete_dir(inode);
         }
         let record = Record::of(&volume.carried_file(inode)?);
-        volume.open_file(inode)?;
+        volume.open_file(inode, Want::Writer)?;
         volume.delete_file(inode)?;
         match record.size {
             0 => Ok(()),

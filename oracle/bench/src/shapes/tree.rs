@@ -127,7 +127,7 @@ pub fn planned(plan: Plan) -> Full {
     let lent = Tree {
         work: vec![0; dir_room + file_room],
         dir_opens: vec![0; dir_room],
-        file_opens: vec![1; file_room],
+        file_opens: vec![rules::opens::WRITER; file_room],
         list: vec![0; files],
         dir_hash,
         dir_table,

@@ -76,9 +76,11 @@ pub fn passed(call: &TreeCall) -> Passed {
         }
         TreeCall::Delete { kind, inode }
         | TreeCall::List { kind, inode }
-        | TreeCall::Carried { kind, inode }
-        | TreeCall::Open { kind, inode }
-        | TreeCall::Close { kind, inode } => Passed { kind: kind as u32, inode, ..zero },
+        | TreeCall::Carried { kind, inode } => Passed { kind: kind as u32, inode, ..zero },
+        // What is opened or given back stands in the parent's place.
+        TreeCall::Open { kind, inode, want } | TreeCall::Close { kind, inode, want } => {
+            Passed { kind: kind as u32, inode, parent: want, ..zero }
+        }
     }
 }
 
@@ -98,8 +100,8 @@ fn tree_of(number: u32, p: Passed) -> TreeCall {
         9 => TreeCall::NameAnswer { kind: p.kind, inode },
         10 => TreeCall::Carried { kind, inode },
         11 => TreeCall::SetCarried { kind, inode, carried },
-        12 => TreeCall::Open { kind, inode },
-        _ => TreeCall::Close { kind, inode },
+        12 => TreeCall::Open { kind, inode, want: parent },
+        _ => TreeCall::Close { kind, inode, want: parent },
     }
 }
 

@@ -59,7 +59,7 @@ impl Volume {
     }
 
     /// A file to be read. `NotAFile` where its record names no chain, `OutOfBound` where it says more bytes than its
-    /// blocks hold. Open counts are not touched.
+    /// blocks hold. Open records are not touched.
     pub fn file(&self, inode: u32) -> Result<File<'_>, Refusal> {
         Ok(File { volume: self, place: Place::open(self, self.record(inode)?)? })
     }

@@ -6,7 +6,7 @@
 use super::Volume;
 use crate::inner::on_tree;
 use crate::refusal::{judge, Refusal};
-use crate::tree::{self, Found, Kind, Missed, Name, Stat};
+use crate::tree::{self, Found, Kind, Missed, Name, Stat, Want};
 
 impl Volume {
     /// Finds a directory by parent and name.
@@ -19,7 +19,7 @@ impl Volume {
         tree::found(unsafe { on_tree!(mukthiban_tested_tree_lookup_file, read self.parts, parent, name) })
     }
 
-    /// Makes a directory, opened once.
+    /// Makes a directory, held by its writer.
     pub fn make_dir(&mut self, parent: u32, name: &Name, carried: &[u8; 4]) -> Result<u32, Refusal> {
         tree::made(unsafe {
             on_tree!(
@@ -29,7 +29,7 @@ impl Volume {
         })
     }
 
-    /// Makes a file entry, opened once.
+    /// Makes a file entry, held by its writer.
     pub fn make_file(&mut self, parent: u32, name: &Name, carried: &[u8; 20]) -> Result<u32, Refusal> {
         tree::made(unsafe {
             on_tree!(
@@ -39,7 +39,7 @@ impl Volume {
         })
     }
 
-    /// Gives an open directory another parent and name.
+    /// Gives a directory that a writer holds another parent and name. Readers do not keep it off.
     pub fn rename_dir(&mut self, inode: u32, parent: u32, name: &Name) -> Result<(), Refusal> {
         let r = unsafe {
             on_tree!(
@@ -50,7 +50,7 @@ impl Volume {
         judge(r.answer)
     }
 
-    /// Gives an open file another parent and name.
+    /// Gives a file that a writer holds another parent and name. Readers do not keep it off.
     pub fn rename_file(&mut self, inode: u32, parent: u32, name: &Name) -> Result<(), Refusal> {
         let r = unsafe {
             on_tree!(
@@ -61,7 +61,7 @@ impl Volume {
         judge(r.answer)
     }
 
-    /// Deletes a directory without children, opened exactly once.
+    /// Deletes a directory without children that its writer holds and no reader.
     pub fn delete_dir(&mut self, inode: u32) -> Result<(), Refusal> {
         let r = unsafe {
             on_tree!(
@@ -72,7 +72,7 @@ impl Volume {
         judge(r.answer)
     }
 
-    /// Deletes a file entry, opened exactly once. Its blocks are given back by [`Volume::delete`].
+    /// Deletes a file entry that its writer holds and no reader. Its blocks are given back by [`Volume::delete`].
     pub fn delete_file(&mut self, inode: u32) -> Result<(), Refusal> {
         let r = unsafe {
             on_tree!(
@@ -145,45 +145,45 @@ impl Volume {
         judge(r.answer)
     }
 
-    /// Adds 1 to a directory's open count.
-    pub fn open_dir(&mut self, inode: u32) -> Result<(), Refusal> {
+    /// Opens a directory once more: a reader to read, the writer to rename or delete.
+    pub fn open_dir(&mut self, inode: u32, want: Want) -> Result<(), Refusal> {
         let r = unsafe {
             on_tree!(
                 mukthiban_tested_tree_open_dir, read self.parts,
-                self.dir_opens.as_mut_ptr(), self.dir_opens.len(), inode,
+                self.dir_opens.as_mut_ptr(), self.dir_opens.len(), inode, want as u32,
             )
         };
         judge(r.answer)
     }
 
-    /// Adds 1 to a file's open count.
-    pub fn open_file(&mut self, inode: u32) -> Result<(), Refusal> {
+    /// Opens a file once more: a reader to read, the writer to change.
+    pub fn open_file(&mut self, inode: u32, want: Want) -> Result<(), Refusal> {
         let r = unsafe {
             on_tree!(
                 mukthiban_tested_tree_open_file, read self.parts,
-                self.file_opens.as_mut_ptr(), self.file_opens.len(), inode,
+                self.file_opens.as_mut_ptr(), self.file_opens.len(), inode, want as u32,
             )
         };
         judge(r.answer)
     }
 
-    /// Takes 1 from a directory's open count.
-    pub fn close_dir(&mut self, inode: u32) -> Result<(), Refusal> {
+    /// Gives back an open of a directory, a reader's or the writer's.
+    pub fn close_dir(&mut self, inode: u32, want: Want) -> Result<(), Refusal> {
         let r = unsafe {
             on_tree!(
                 mukthiban_tested_tree_close_dir, read self.parts,
-                self.dir_opens.as_mut_ptr(), self.dir_opens.len(), inode,
+                self.dir_opens.as_mut_ptr(), self.dir_opens.len(), inode, want as u32,
             )
         };
         judge(r.answer)
     }
 
-    /// Takes 1 from a file's open count.
-    pub fn close_file(&mut self, inode: u32) -> Result<(), Refusal> {
+    /// Gives back an open of a file, a reader's or the writer's.
+    pub fn close_file(&mut self, inode: u32, want: Want) -> Result<(), Refusal> {
         let r = unsafe {
             on_tree!(
                 mukthiban_tested_tree_close_file, read self.parts,
-                self.file_opens.as_mut_ptr(), self.file_opens.len(), inode,
+                self.file_opens.as_mut_ptr(), self.file_opens.len(), inode, want as u32,
             )
         };
         judge(r.answer)

@@ -1,0 +1,52 @@
+-- `mukthiban_tree_open_file` meets its contract.
+use Rattle.mukthiban.proofs.Asked.{open-other, open-asked}
+use Rattle.tree_promises.specs.declared.Kind.the-variants.{File}
+use borrow.Author.Needs.{needs}
+use Rattle.mukthiban.proofs.opens.mukthiban_tree_open_file.Statement.{statement}
+use Rattle.mukthiban.proofs.opens.mukthiban_tree_open_file.Tie as tie
+
+other-kind-requires : tie.Need-other-kind-requires
+other-kind-requires c κs = search needs
+
+number-requires : tie.Need-number-requires
+number-requires c κs = search needs
+
+returns : tie.Need-returns
+returns c =
+    let args = c .before .before .before .before .before .before .before .before .before .args in
+    open-other File (args .dir-hash .now) (args .dir-table .now) (args .file-hash .now) (args .file-table .now) (args .opens .now) (args .work .now) (args .inode) (args .kind) _ _ (c .number .ensures) (c .before .before .if1 .taken) (c .before .other-kind .ensures)
+
+want-of-requires : tie.Need-want-of-requires
+want-of-requires c κs = search needs
+
+open-file-requires : tie.Need-open-file-requires
+open-file-requires c κs = search needs
+
+number-requires-2 : tie.Need-number-requires-2
+number-requires-2 c κs = search needs
+
+same-length : tie.Need-same-length
+same-length c = search needs
+
+same-length-2 : tie.Need-same-length-2
+same-length-2 c = search needs
+
+returns-2 : tie.Need-returns-2
+returns-2 c =
+    let args = c .before .before .before .before .before .before .before .before .before .before .before .before .before .before .before .before .args in
+    open-asked File (args .dir-hash .now) (args .dir-table .now) (args .file-hash .now) (args .file-table .now) (args .opens .now) (args .work .now) (args .inode) (args .kind) _ _ (c .number2 .ensures) (c .before .before .before .before .before .before .before .before .before .if1 .left) _ (c .before .before .before .before .before .before .before .before .want-of .ensures) _ _
+    (c .before .before .before .before .before .open-file .ensures)
+
+pub mukthiban-tree-open-file-spec : {M : Type 1} → statement M
+mukthiban-tree-open-file-spec =
+    tie.close
+    (tie.spec
+    other-kind-requires
+    number-requires
+    returns
+    want-of-requires
+    open-file-requires
+    number-requires-2
+    same-length
+    same-length-2
+    returns-2)
