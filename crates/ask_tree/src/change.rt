@@ -1,6 +1,15 @@
-// The tree calls that change tables or open counts.
+// The tree calls that change tables or open records.
 use crate::Said;
 use crate::says;
+use tree_opens::Want;
+
+// The open that open and close are asked for, by what stands in the parent's place: 0 is a reader's, another number the writer's.
+fn wanted(parent: u32) -> Want {
+    if parent == 0 {
+        return Want::Reader;
+    }
+    Want::Writer
+}
 
 // The four bytes that a directory takes.
 fn padding(carried: [u8; 20]) -> [u8; 4] {
@@ -41,11 +50,13 @@ pub fn dirs(
             says(answer, 0, 0)
         }
         12 => {
-            let answer = tree::opens::open_dir(dh, d, fh, f, work, opens, inode);
+            let want = wanted(parent);
+            let answer = tree::opens::open_dir(dh, d, fh, f, work, opens, inode, want);
             says(answer, 0, 0)
         }
         _ => {
-            let answer = tree::opens::close_dir(dh, d, fh, f, work, opens, inode);
+            let want = wanted(parent);
+            let answer = tree::opens::close_dir(dh, d, fh, f, work, opens, inode, want);
             says(answer, 0, 0)
         }
     }
@@ -84,11 +95,13 @@ pub fn files(
             says(answer, 0, 0)
         }
         12 => {
-            let answer = tree::opens::open_file(dh, d, fh, f, work, opens, inode);
+            let want = wanted(parent);
+            let answer = tree::opens::open_file(dh, d, fh, f, work, opens, inode, want);
             says(answer, 0, 0)
         }
         _ => {
-            let answer = tree::opens::close_file(dh, d, fh, f, work, opens, inode);
+            let want = wanted(parent);
+            let answer = tree::opens::close_file(dh, d, fh, f, work, opens, inode, want);
             says(answer, 0, 0)
         }
     }

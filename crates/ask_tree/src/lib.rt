@@ -26,7 +26,7 @@ pub fn says(answer: Answer, one: u64, two: u64) -> Said {
     }
 }
 
-// A call on one kind that changes tables or open counts.
+// A call on one kind that changes tables or open records.
 fn changes(
     which: u32,
     kind: Kind,
