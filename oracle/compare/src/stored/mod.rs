@@ -11,7 +11,7 @@ use blocks::{block_fits, block_number, kept_part};
 use port::{Answered, BlockCall, Blocks, Tree, TreeCall};
 use std::cell::RefCell;
 use std::collections::HashMap;
-use tree::{passed, tree_fits, tree_number};
+use tree::{kinds_fit, tree_fits, tree_number};
 
 pub const BLOCK_MARK: u32 = u32::from_le_bytes(*b"MUKB");
 pub const TREE_MARK: u32 = u32::from_le_bytes(*b"MUKT");
@@ -89,8 +89,7 @@ pub fn offer_tree(call: &TreeCall, before: &Tree, after: &Tree, answered: &Answe
     KEPT.with_borrow_mut(|kept| {
         let Some(kept) = kept else { return };
         let key = (true, tree_number(call), answered.number);
-        // A kind that is neither is the C interface's own matter.
-        if kept.wants(key, passed(call).kind <= 1 && tree_fits(before)) {
+        if kept.wants(key, kinds_fit(call) && tree_fits(before)) {
             kept.tree.push(Record {
                 call: call.clone(),
                 before: before.clone(),

@@ -84,6 +84,14 @@ pub fn passed(call: &TreeCall) -> Passed {
     }
 }
 
+/// Whether each kind is one of its two: others are the C interface's own matter.
+pub(super) fn kinds_fit(call: &TreeCall) -> bool {
+    match *call {
+        TreeCall::Open { want, .. } | TreeCall::Close { want, .. } => want <= 1,
+        _ => passed(call).kind <= 1,
+    }
+}
+
 fn tree_of(number: u32, p: Passed) -> TreeCall {
     let kind = if p.kind == 0 { Kind::Dir } else { Kind::File };
     let Passed { inode, parent, name, carried, .. } = p;
