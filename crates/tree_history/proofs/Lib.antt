@@ -12,5 +12,7 @@ pub mod Theorems
 pub mod Reach
 pub mod Space
 pub mod Cures
+pub mod Lives
 pub mod Moves
 pub mod Held
+pub mod HeldLive

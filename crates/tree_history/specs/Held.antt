@@ -7,11 +7,13 @@ use Rattle.order.specs.Answer.{numberOf}
 use Rattle.order.specs.declared.Answer.{Answer}
 use Rattle.order.specs.declared.Answer.the-variants.{Done, Busy, NotOpen}
 use Rattle.links.specs.Change.{pick}
+use Rattle.tree_table.specs.View.{LiveIn}
 use Rattle.tree_opens.specs.Opens.{opened}
 use Rattle.tree_opens.specs.declared.Want.{Want}
 use Rattle.tree_opens.specs.declared.Want.the-variants.{Reader, Writer}
 use Rattle.tree_promises.specs.declared.Kind.{Kind}
 use Rattle.tree_promises.specs.declared.Kind.the-variants.{Directory, File}
+use Rattle.tree_promises.specs.Kinds.{kindView}
 use Rattle.tree_history.specs.Call as step
 use Rattle.tree_history.specs.Call.{State, Call, opensOf}
 use Rattle.tree_history.specs.Run.{Run, none, calls}
@@ -75,6 +77,30 @@ counted gone want n = 0
 abbrev pub out : {s t : State} → Run s t → (kind : Kind) (x : ℕ) (want : Want) → ℕ
 out none kind x want = 0
 out (calls t u a r c) kind x want = counted (moveOf kind x c) want (out r kind x want)
+
+-- whatever has an open is live
+abbrev pub HeldLive : State → Type 0
+HeldLive s = (kind : Kind) (x : ℕ) → (opened (opensOf kind s) x ≡ 0 → ⊥) → LiveIn (kindView kind (s .tables)) x
+
+-- no call of a history is a format, which takes the entries and leaves the records
+abbrev pub NoFormat : {s u : State} {a : Answer} → Call s a u → Type 0
+NoFormat (step.format dm fm o q) = ⊥
+NoFormat (step.make k work p name bytes o bn bb q) = Unit {0}
+NoFormat (step.delete k work y o q) = Unit {0}
+NoFormat (step.opening k work y want o q) = Unit {0}
+NoFormat (step.closing k work y want o q) = Unit {0}
+NoFormat (step.test work o q) = Unit {0}
+NoFormat (step.lookup k work p name o q) = Unit {0}
+NoFormat (step.list k work y list o q) = Unit {0}
+NoFormat (step.stat work o q) = Unit {0}
+NoFormat (step.name-answer work k y o q) = Unit {0}
+NoFormat (step.carried k work y o q) = Unit {0}
+NoFormat (step.set-carried k work y bytes o b q) = Unit {0}
+NoFormat (step.rename k work y p name o b q) = Unit {0}
+
+abbrev pub Unformatted : {s t : State} → Run s t → Type 0
+Unformatted none = Unit {0}
+Unformatted (calls t u a r c) = Unformatted r × NoFormat c
 
 -- what a rename that else may go answers of an entry that its writer holds, beside so many readers
 abbrev pub heldRename : (readers : ℕ) → Answer

@@ -44,7 +44,7 @@ macro_rules! on_four {
     };
 }
 
-/// The same with the open counts of the kind: one call for directories, one for files.
+/// The same with the open records of the kind: one call for directories, one for files.
 macro_rules! with_opens {
     ($to:ident, $kind:expr, $dir:ident, $file:ident, $lent:ident $(, $more:expr)*) => {
         match $kind {

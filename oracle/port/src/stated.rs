@@ -21,7 +21,7 @@ fn seen(lent: &Tree) -> Four<'_> {
     Four { dir_hash, dir_table, file_hash, file_table }
 }
 
-/// The four tables, the work list and the open counts of one kind.
+/// The four tables, the work list and the open records of one kind.
 fn parts(lent: &mut Tree, kind: Kind) -> (FourMut<'_>, &mut [u32], &mut [u32]) {
     let four = FourMut {
         dir_hash: &mut lent.dir_hash,
@@ -64,7 +64,7 @@ fn block_call(call: &BlockCall, lent: &mut Blocks) -> Answered {
     }
 }
 
-/// Calls that change no table and take no open counts.
+/// Calls that change no table and take no open records.
 fn asked(call: &TreeCall, lent: &mut Tree) -> Option<Answered> {
     let (mut work, mut list) = (std::mem::take(&mut lent.work), std::mem::take(&mut lent.list));
     let four = seen(lent);
