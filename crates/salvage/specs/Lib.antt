@@ -1,0 +1,3 @@
+pub mod Follow
+pub mod Calls
+pub mod inner
