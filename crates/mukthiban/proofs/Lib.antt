@@ -3,6 +3,7 @@ pub mod One
 pub mod OneInner
 pub mod OneMerge
 pub mod OnePlan
+pub mod OneSalvage
 pub mod OneVolume
 pub mod OneMap
 pub mod Asked

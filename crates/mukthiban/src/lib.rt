@@ -9,6 +9,7 @@ mod merge;
 mod name;
 mod opens;
 mod plan;
+mod salvage;
 mod tested_blocks;
 mod tested_carried;
 mod tested_change;
@@ -113,6 +114,15 @@ pub struct Audited {
 // How many moves a plan has, two places of the lent list each.
 #[repr(C)]
 pub struct Planned {
+    pub answer: u32,
+    pub count: usize,
+    pub entry: usize,
+    pub rule: u32,
+}
+
+// How many blocks of a chain were followed, and why there are no more: entry and rule are 0 where the chain is whole.
+#[repr(C)]
+pub struct Salvaged {
     pub answer: u32,
     pub count: usize,
     pub entry: usize,

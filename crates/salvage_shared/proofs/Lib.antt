@@ -1,0 +1,5 @@
+pub mod Counted
+pub mod Goings
+pub mod Loops
+pub mod Outs
+pub mod Theorems
