@@ -31,6 +31,7 @@
  *  work         room for the call's own use: n places for block calls; for tree
  *               calls the two rooms added (room: table length / entry width)
  *  first_block  a file's first block (a block number, from 0)
+ *  firsts       some first blocks
  *  dir_hash, dir_table, file_hash, file_table
  *               the four tables of the tree; directory entries are 40 bytes
  *               wide, file entries 48; a bucket is 4 bytes
@@ -407,6 +408,24 @@ mukthiban_audited mukthiban_volume_audit(const uint8_t *table, size_t table_len,
                                          const uint8_t *file_hash, size_t file_hash_len,
                                          const uint8_t *file_table, size_t file_table_len,
                                          uint32_t *work, size_t work_len,
+                                         uint32_t *list, size_t list_len);
+
+/* ---- Salvage: a block table of any bytes ---- */
+
+/* Writes to list the blocks of the chain that first_block starts, as far as it can be followed, in its order: while each
+ * node can be read, names back the one before it, and has no block that came before. Soundness is not asked for. Places
+ * of list past them stay. entry and rule say why there are no more (mukthiban_salvaged). Answers 1, 2, 3, 5 (no node can
+ * be read there), 8. */
+mukthiban_salvaged mukthiban_salvage_chain(const uint8_t *table, size_t table_len,
+                                           uint32_t *work, size_t work_len,
+                                           size_t first_block,
+                                           uint32_t *list, size_t list_len);
+
+/* Writes to list, for each of firsts, what its chain is worth beside the others: MUKTHIBAN_CHAIN_WHOLE and so on. Places
+ * of list past them stay. Answers 1, 2 (also for more than 1,000,000 firsts), 3, 8 (fewer places than firsts). */
+mukthiban_plain mukthiban_salvage_shared(const uint8_t *table, size_t table_len,
+                                         uint32_t *work, size_t work_len,
+                                         const uint32_t *firsts, size_t firsts_len,
                                          uint32_t *list, size_t list_len);
 
 #ifdef __cplusplus

@@ -70,6 +70,14 @@ enum {
     MUKTHIBAN_LINKS = 7           /* the first entry of the lowest node that a link of it does not name back, or in a ring */
 };
 
+/* What is told of a chain beside others, by mukthiban_salvage_shared. */
+enum {
+    MUKTHIBAN_CHAIN_WHOLE = 0,    /* whole, and no other whole chain of the list has a block of it */
+    MUKTHIBAN_CHAIN_CUT = 1,      /* not whole */
+    MUKTHIBAN_CHAIN_SHARED = 2,   /* whole, but another has a block of it too, or it is named twice */
+    MUKTHIBAN_CHAIN_UNJUDGED = 3  /* not followed: those before it in the list have over 4n blocks together */
+};
+
 /* Answers: the number first, then the call's own fields; those of the block
  * calls that judge a table end with entry and rule, which are 0 unless the number
  * is MUKTHIBAN_BROKEN_FAT and then say where it is broken. Those of block calls and
@@ -133,6 +141,17 @@ typedef struct {
     uint32_t answer;
     size_t free;
 } mukthiban_counted;
+
+/* A chain of a table of any bytes: how many places of the lent list hold its blocks, and why there are no more. Rule 0
+ * and entry 0: the chain is whole. Rules 1 to 5 and the entry: where the next node can't be read. Rule 7: the entry's
+ * node names a next that is no block, does not name it back, or has a block that came before. Rule 8: the first node,
+ * whose entry it is, has a previous. */
+typedef struct {
+    uint32_t answer;
+    size_t count;
+    size_t entry;
+    uint32_t rule;
+} mukthiban_salvaged;
 
 /* Listing: how many places of the lent list hold the directory's children. */
 typedef struct {

@@ -9,7 +9,7 @@ mod merge;
 mod name;
 mod opens;
 mod plan;
-mod salvage;
+mod salvages;
 mod tested_blocks;
 mod tested_carried;
 mod tested_change;

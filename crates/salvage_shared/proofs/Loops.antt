@@ -300,6 +300,8 @@ module _ (n : ℕ) (t : Bytes) (w firsts ks l : List ℕ) (i : ℕ) (g : Telling
       }
 
   pub telling-end : length firsts ≤ i → Kinds n t w firsts ks → TellsAll n t w firsts ks l
-  telling-end h a = record { is = λ c d.
-      sym (g .is c d ∙ ap (λ (bs : List ℕ). sets l i (tells n t c bs (drop i ks))) (drop-of-length-le firsts {i = i} h))
-      ∙ sets-all (tells n t c firsts ks) ks (tells-many n t c firsts ks (a .many)) }
+  telling-end h a = record {
+    is = λ c d.
+        sym (g .is c d ∙ ap (λ (bs : List ℕ). sets l i (tells n t c bs (drop i ks))) (drop-of-length-le firsts {i = i} h))
+        ∙ sets-all (tells n t c firsts ks) ks (tells-many n t c firsts ks (a .many));
+  }

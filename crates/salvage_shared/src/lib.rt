@@ -226,7 +226,13 @@ pub struct Answered {
 }
 
 // The same of a table of n blocks and a work list of n places.
-fn shared_sized(table: &[u8], n: usize, work: &mut [u32], firsts: &[u32], list: &mut [u32]) -> Answered
+fn shared_sized(
+    table: &[u8],
+    n: usize,
+    work: &mut [u32],
+    firsts: &[u32],
+    list: &mut [u32],
+) -> Answered
     requires { ⌜ Sized n (now table) (now work) ⌝ }
     requires { ⌜ length (now firsts) ≤ 1000000 ⌝ }
     ensures { λ r. ⌜ SharedSays n (now (table .entry)) (now (firsts .entry)) (now (list .entry)) (sharedGives (r .answer) (now (list .exit))) (now (work .exit)) ⌝ }

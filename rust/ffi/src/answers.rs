@@ -30,6 +30,8 @@ answers! {
     Planned { answer: u32, count: usize, entry: usize, rule: u32 }
     /// Stretch query of a free map.
     Counted { answer: u32, free: usize }
+    /// A chain of a table of any bytes: entry and rule say why it ends, 0 and 0 where it is whole.
+    Salvaged { answer: u32, count: usize, entry: usize, rule: u32 }
     /// Listing.
     Listed { answer: u32, count: usize }
     /// Make.

@@ -147,4 +147,10 @@ calls! {
         dir_hash: &[u8], dir_table: &[u8], file_hash: &[u8], file_table: &[u8],
         work: &mut [u32], list: &mut [u32],
     ) -> Audited;
+    fn mukthiban_salvage_chain(
+        table: &[u8], work: &mut [u32], first_block: usize, list: &mut [u32],
+    ) -> Salvaged;
+    fn mukthiban_salvage_shared(
+        table: &[u8], work: &mut [u32], firsts: &[u32], list: &mut [u32],
+    ) -> Plain;
 }

@@ -7,6 +7,7 @@
 //!   bytes allowed.
 //! - [`Volume`] owns a whole volume, tests it once, and then works without testing again. It has a walk of its tree,
 //!   lookup by path, and files that are read and written as the standard library's are.
+//! - [`salvage`] says what of a broken volume can still be trusted.
 //! - [`Refusal`] says why a call was refused.
 //! - [`folder`] reads a volume from a folder of the host and puts a changed one in its place.
 //! - [`Record`] reads where a file's blocks begin and how long it is; [`name`] makes and shows names.
@@ -40,6 +41,7 @@ pub mod folder;
 pub mod map;
 pub mod name;
 pub mod plan;
+pub mod salvage;
 pub mod tree;
 pub mod volume;
 

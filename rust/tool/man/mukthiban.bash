@@ -10,7 +10,8 @@ _mukthiban() {
     fi
     case $command in
         help) COMPREPLY=($(compgen -W "$commands" -- "$word")); return ;;
-        check | lift) options="--strict" ;;
+        check) options="--strict" ;;
+        lift) options="--strict --salvage" ;;
         ls) options="--all" ;;
         map) options="--svg" ;;
         put | cp) options="--replace" ;;

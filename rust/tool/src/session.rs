@@ -4,6 +4,7 @@ use crate::diagnose;
 use crate::fail::{Fail, Outcome};
 use crate::name::{self, joined};
 use crate::records::{Account, Finding};
+use crate::salvaged::Broken;
 use crate::tree::{path_of, read_tree, Chain, Entry};
 use mukthiban::folder::{Access, Data, Folder, FolderError, Sizes};
 use mukthiban::{Kind, Name, NotSound, Parts, Refusal, Volume};
@@ -75,6 +76,20 @@ impl Session {
     /// The volume at that path, to be looked at. The blocks' bytes are not read.
     pub fn read(path: &Path, wait: Duration) -> Outcome<Session> {
         Session::read_with(path, wait, |_| Ok(())).map(|(session, ())| session)
+    }
+
+    /// The volume at that path, to be looked at; where its tables are broken, what can be salvaged of it.
+    pub fn read_or_broken(path: &Path, wait: Duration) -> Outcome<Result<Session, (Refused, Box<Broken>)>> {
+        let folder = Folder::open(path, Access::Read, wait).map_err(|e| Fail::folder(&e))?;
+        match Session::load(&folder)? {
+            Ok(session) => Ok(Ok(session)),
+            Err(refused) => match (refused.refusal, refused.parts.as_deref().cloned()) {
+                (Refusal::BrokenFat | Refusal::BrokenTree, Some(parts)) => {
+                    Ok(Err((refused, Box::new(Broken::of(parts)))))
+                }
+                _ => Err(refused.fail(path)),
+            },
+        }
     }
 
     /// The volume at that path with the blocks' bytes of what is chosen, once its tables are known.

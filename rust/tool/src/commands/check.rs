@@ -3,6 +3,7 @@
 use crate::args::{Call, Command, STRICT};
 use crate::diagnose::hints;
 use crate::fail::{Fail, Outcome};
+use crate::salvaged::Broken;
 use crate::session::Session;
 use crate::show::verdict;
 use mukthiban::folder::{Access, Folder};
@@ -17,7 +18,7 @@ pub const COMMAND: Command = Command {
     long: "The first line is the verdict. Then comes what is wrong, what is only remarkable, and the counts; or why\n\
            the tables are refused, by the refusal's name, number and meaning; of a block table the rule that is broken,\n\
            the entry where, its eight bytes, and the file it belongs to if one can be said; what else points to faults;\n\
-           and which files they touch. Nothing is changed, and nothing is said of the bytes in data.bin, which no\n\
+           which files they touch; and how many files lift --salvage would lift whole. Nothing is changed, and nothing is said of the bytes in data.bin, which no\n\
            table guards.",
     run,
 };
@@ -31,7 +32,8 @@ fn run(call: &Call) -> Outcome<u8> {
         Ok(session) => verdict::tested(call, path, &session),
         Err(no) => {
             let hints = hints(no.refusal, &no.sizes, no.parts.as_deref());
-            verdict::refused(call, path, no.refusal, &no.sizes, &hints)
+            let broken = no.parts.as_deref().cloned().map(Broken::of);
+            verdict::refused(call, path, &no, &hints, broken.as_ref())
         }
     }
 }

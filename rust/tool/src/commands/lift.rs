@@ -1,16 +1,17 @@
 //! `lift`: files out of the volume.
 
 use crate::args::{Call, Command, STRICT};
+use crate::commands::salvage;
 use crate::fail::{Fail, Outcome, FAILED, NOT_SOUND, SOUND};
 use crate::layout::{bytes, layout, Item, What};
 use crate::name::Path as VolumePath;
+use crate::out::{parent, part_of};
 use crate::session::Session;
 use crate::show::lifted::{Lifted, Note};
 use crate::show::term::Progress;
 use crate::sync::sync_around;
 use crate::words::count;
 use mukthiban::Kind;
-use std::ffi::OsString;
 use std::fs::{self, File};
 use std::io::{self, Write};
 use std::path::{Path, PathBuf};
@@ -20,18 +21,24 @@ pub const COMMAND: Command = Command {
     takes: "VOLUME OUT [PATH]",
     least: 2,
     most: 3,
-    options: &[STRICT],
+    options: &[STRICT, ("--salvage", "", "of a broken volume, lift what can be trusted, and the rest apart")],
     short: "copy every file out, or one path, and compare",
     long: "OUT must not exist; it becomes a folder, or where PATH is a file, a file. Each file is written, synced, read\n\
            back and compared with the volume. OUT appears when all is there; until then it is called OUT.part. A host\n\
            error does not stop the others: what failed is listed, and OUT.part stays.\n\n\
            A file that has a directory's name is lifted as NAME\\file. Files that claim one chain are all lifted, as\n\
            NAME\\shared; one whose blocks hold less than its record says, as NAME\\short. Chains that no file names are\n\
-           lifted to lost+found/.",
+           lifted to lost+found/.\n\n\
+           With --salvage the volume may be broken in any way. A file whose chain is whole, shares no block and is long\n\
+           enough goes to its path; of every other there is what can be had, in doubtful/, and chains that no file\n\
+           names are in lost+found/. salvage.txt has a line for each: how far it can be trusted, and why.",
     run,
 };
 
 fn run(call: &Call) -> Outcome<u8> {
+    if call.has("--salvage") {
+        return salvage::run(call);
+    }
     let out = PathBuf::from(&call.words[1]);
     let part = part_of(&out)?;
     let path = match call.words.len() {
@@ -61,28 +68,6 @@ fn run(call: &Call) -> Outcome<u8> {
         (true, false) => NOT_SOUND,
         (true, true) => SOUND,
     })
-}
-
-/// Where the files stand until all are there. Neither it nor OUT may exist.
-fn part_of(out: &Path) -> Outcome<PathBuf> {
-    if out.symlink_metadata().is_ok() {
-        return Err(Fail::failed(format!("{}: it exists already; lift to a new name", out.display())));
-    }
-    let Some(name) = out.file_name() else {
-        return Err(Fail::failed(format!("{}: this can't be a new folder", out.display())));
-    };
-    let mut part = OsString::from(name);
-    part.push(".part");
-    let part = out.with_file_name(part);
-    if part.symlink_metadata().is_ok() {
-        let line = format!("{}: left by a lift that was interrupted; remove it first", part.display());
-        return Err(Fail::failed(line));
-    }
-    Ok(part)
-}
-
-fn parent(path: &Path) -> &Path {
-    path.parent().filter(|p| *p != Path::new("")).unwrap_or(Path::new("."))
 }
 
 /// Lifts the items: all are written, then synced, then read back and compared.

@@ -14,6 +14,7 @@ mod mv;
 mod new;
 mod put;
 mod rm;
+mod salvage;
 mod status;
 mod verify;
 mod whole;

@@ -1,5 +1,6 @@
 //! What is where on a volume, for all that draw it.
 
+use crate::salvaged::Broken;
 use crate::session::Session;
 use crate::tree::Chain;
 use crate::words::{count, number};
@@ -78,6 +79,63 @@ impl Picture {
             free_nodes: session.volume.free_nodes(),
             files: files().count(),
             fragments: files().map(|e| e.pieces().len()).sum(),
+            owners,
+            of,
+        }
+    }
+
+    /// The picture of a broken volume: its files as far as they could be followed, blocks that several claim, and blocks
+    /// that nobody has.
+    pub fn broken(title: String, broken: &Broken) -> Picture {
+        let n = broken.parts.blocks();
+        let mut claims = vec![0u8; n];
+        let mut claim = |blocks: &[u32]| {
+            for &b in blocks {
+                claims[b as usize] = claims[b as usize].saturating_add(1);
+            }
+        };
+        broken.salvage.files.iter().for_each(|f| claim(&f.blocks));
+        broken.salvage.lost.iter().for_each(|l| claim(&l.blocks));
+        claim(&broken.salvage.free);
+        let several: Vec<u32> = (0..n as u32).filter(|&b| claims[b as usize] > 1).collect();
+        let nobody: Vec<u32> = (0..n as u32).filter(|&b| claims[b as usize] == 0).collect();
+        let mut files: Vec<_> = broken.salvage.files.iter().filter(|f| !f.blocks.is_empty()).collect();
+        files.sort_by_key(|f| usize::MAX - f.blocks.len());
+        let rest = if files.len() > SIGNS.len() { files.split_off(SIGNS.len() - 1) } else { Vec::new() };
+        let mut owners: Vec<Owner> = files
+            .iter()
+            .zip(SIGNS)
+            .map(|(f, sign)| {
+                let doubt = f.doubt.map(|_| format!(" (in doubt: {})", broken.line(f))).unwrap_or_default();
+                let label = broken.path(f) + &doubt;
+                Owner::new(Sort::File, *sign as char, label, Some(f.record.size), &[&Chain::new(f.blocks.clone())])
+            })
+            .collect();
+        let mut group = |sort: Sort, sign: char, label: String, chains: Vec<Vec<u32>>| {
+            let chains: Vec<Chain> = chains.into_iter().filter(|c| !c.is_empty()).map(Chain::new).collect();
+            if !chains.is_empty() {
+                owners.push(Owner::new(sort, sign, label, None, &chains.iter().collect::<Vec<_>>()));
+            }
+        };
+        let smaller = format!("{} smaller files", number(rest.len() as u64));
+        group(Sort::Rest, '+', smaller, rest.iter().map(|f| f.blocks.clone()).collect());
+        let lost = broken.salvage.lost.iter().map(|l| l.blocks.clone()).collect();
+        group(Sort::Lost, '=', "lost chains".into(), lost);
+        group(Sort::Lost, '!', "claimed by several".into(), vec![several]);
+        group(Sort::Lost, '?', "no chain has them".into(), vec![nobody]);
+        let mut of = vec![0; n];
+        for (place, owner) in owners.iter().enumerate() {
+            for &(first, blocks) in &owner.pieces {
+                of[first as usize..(first + blocks) as usize].fill(place as u32 + 1);
+            }
+        }
+        Picture {
+            title,
+            block_len: broken.salvage.block_len,
+            free: broken.salvage.free.len(),
+            free_nodes: crate::tree::stretches(&broken.salvage.free),
+            files: broken.salvage.files.len(),
+            fragments: broken.salvage.files.iter().map(|f| broken.pieces(f).len()).sum(),
             owners,
             of,
         }

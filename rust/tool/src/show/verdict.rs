@@ -5,7 +5,8 @@ use crate::diagnose::{self, Found, Hints};
 use crate::fail::{Outcome, NOT_SOUND, SOUND};
 use crate::name::wrong;
 use crate::records::{Remark, Remarkable};
-use crate::session::Session;
+use crate::salvaged::Broken;
+use crate::session::{Refused, Session};
 use crate::show::json;
 use crate::show::term::{ink, say, Ink};
 use crate::tree::Chain;
@@ -160,17 +161,21 @@ fn tested_json(path: &Path, session: &Session) -> String {
             ("hints", json::list([])),
             ("touched", json::list([])),
             ("fault", "null".into()),
+            ("salvage", "null".into()),
         ],
     )
 }
 
 /// A table was refused, or a length.
-pub fn refused(call: &Call, path: &Path, refusal: Refusal, sizes: &Sizes, hints: &Hints) -> Outcome<u8> {
+pub fn refused(call: &Call, path: &Path, no: &Refused, hints: &Hints, broken: Option<&Broken>) -> Outcome<u8> {
     match call.json {
-        true => say(&refused_json(path, refusal, sizes, hints))?,
+        true => say(&refused_json(path, no.refusal, &no.sizes, hints, broken))?,
         false => {
             let first = first_line(false, 0, path);
-            say(&if call.quiet { first } else { first + &refused_text(call, refusal, hints) })?;
+            let offer = broken.map_or(String::new(), |b| {
+                format!("  {}: mukthiban lift --salvage {} OUT\n", b.summary(), path.display())
+            });
+            say(&if call.quiet { first } else { first + &refused_text(call, no.refusal, hints) + &offer })?;
         }
     }
     Ok(NOT_SOUND)
@@ -209,7 +214,11 @@ fn fault_json(found: &Found) -> String {
     ])
 }
 
-fn refused_json(path: &Path, refusal: Refusal, sizes: &Sizes, hints: &Hints) -> String {
+fn refused_json(path: &Path, refusal: Refusal, sizes: &Sizes, hints: &Hints, broken: Option<&Broken>) -> String {
+    let salvage = broken.map_or("null".into(), |b| {
+        let (files, whole) = (b.salvage.files.len().to_string(), b.salvage.whole().to_string());
+        json::object(&[("files", files), ("whole", whole)])
+    });
     let unknown = |name| (name, "null".into());
     let texts = |all: &[String]| json::list(all.iter().map(|h| json::text(h)));
     json::answer(
@@ -235,6 +244,7 @@ fn refused_json(path: &Path, refusal: Refusal, sizes: &Sizes, hints: &Hints) -> 
             ("hints", texts(&hints.lines)),
             ("touched", texts(&hints.touched)),
             ("fault", hints.found.as_ref().map_or("null".into(), fault_json)),
+            ("salvage", salvage),
         ],
     )
 }

@@ -12,6 +12,7 @@ mod many;
 mod person;
 mod read_only;
 mod safety;
+mod salvage;
 mod shapes;
 mod show;
 mod transfer;

@@ -1,0 +1,4 @@
+pub mod Marked
+pub mod Loops
+pub mod Outs
+pub mod Theorems

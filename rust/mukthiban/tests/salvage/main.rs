@@ -1,0 +1,111 @@
+//! The salvage of damaged volumes: small here, large by `make salvage`.
+
+mod corpus;
+
+use corpus::{run, Tally, DAMAGE};
+use mukthiban::salvage::{chain, shared, Ends, Salvage};
+use mukthiban::{fat, Refusal};
+
+/// No file is called whole that is wrong, unless its own record, its data or a directory above it was damaged; and as many
+/// are right as a script gets right.
+#[test]
+fn a_small_corpus() {
+    let mut all = Tally::default();
+    for sort in 0..DAMAGE.len() {
+        for seed in 0..30 {
+            let tally = run(seed * 7 + sort as u64 + 1, sort);
+            assert_eq!(tally.wrong, 0, "{} seed {seed}: {tally:?}", DAMAGE[sort]);
+            all.add(&tally);
+        }
+    }
+    assert!(all.files > 2_000, "{all:?}");
+    assert!((all.right + all.right_marked) * 100 >= all.files * 89, "{all:?}");
+    assert!(all.right + all.right_marked >= all.naive, "{all:?}");
+}
+
+/// A sound volume's files are all whole, and nothing is lost.
+#[test]
+fn sound_volumes_are_whole() {
+    for seed in 1..20 {
+        let (parts, files) = corpus::volume(&mut corpus::Rng::new(seed));
+        let salvage = Salvage::of(&parts);
+        assert_eq!((salvage.files.len(), salvage.whole(), salvage.lost.len()), (files.len(), files.len(), 0));
+        for file in &salvage.files {
+            assert_eq!(file.bytes(&parts.data, parts.block_len), files[&file.inode].bytes);
+            assert_eq!(file.blocks, files[&file.inode].blocks);
+        }
+    }
+}
+
+/// Every refusal of the two calls, in the order of their rows; a refusal leaves the lists alone.
+#[test]
+fn refusals_in_their_order() {
+    let mut table = [0u8; 8 * 5];
+    fat::format(&mut table).unwrap();
+    let (mut work, mut list) = ([7u32; 5], [9u32; 5]);
+    let (short, none) = ([0u8; 7], [0u8; 8]);
+    assert_eq!(chain(&short, &mut [], 9, &mut []), Err(Refusal::SizeMismatch));
+    assert_eq!(chain(&none, &mut [], 9, &mut []), Err(Refusal::InvalidValue));
+    assert_eq!(chain(&table, &mut work[..3], 9, &mut []), Err(Refusal::WorkTooShort));
+    assert_eq!(work, [7; 5]);
+    assert_eq!(chain(&table, &mut work, 4, &mut []), Err(Refusal::NotAFile));
+    assert_eq!(work, [0, 0, 0, 0, 7]);
+    assert_eq!(chain(&table, &mut work, 1, &mut []), Err(Refusal::NotAFile));
+    assert_eq!(chain(&table, &mut work, 0, &mut list[..3]), Err(Refusal::ListTooShort));
+    assert_eq!(list, [9; 5]);
+    assert_eq!(chain(&table, &mut work, 0, &mut list).map(|f| (f.count, f.ends)), Ok((4, Ends::Whole)));
+    assert_eq!(list, [0, 1, 2, 3, 9]);
+    let many = vec![0u32; 1_000_001];
+    assert_eq!(shared(&short, &mut [], &many, &mut []), Err(Refusal::SizeMismatch));
+    assert_eq!(shared(&none, &mut [], &[], &mut []), Err(Refusal::InvalidValue));
+    assert_eq!(shared(&table, &mut [], &many, &mut []), Err(Refusal::InvalidValue));
+    assert_eq!(shared(&table, &mut work[..3], &[0], &mut []), Err(Refusal::WorkTooShort));
+    assert_eq!(shared(&table, &mut work, &[0], &mut []), Err(Refusal::ListTooShort));
+    assert_eq!(shared(&table, &mut work, &[0, 1, u32::MAX], &mut list), Ok(()));
+    assert_eq!((list, work), ([0, 1, 1, 3, 9], [0, 0, 0, 0, 7]));
+}
+
+/// Why a chain ends: each rule that can stop one, on a table of twelve blocks with a file of three and two.
+#[test]
+fn every_end() {
+    let top = 1u32 << 31;
+    let mut table = [0u8; 8 * 13];
+    let put = |table: &mut [u8], e: usize, u: u32, v: u32| {
+        table[8 * e..8 * e + 4].copy_from_slice(&u.to_le_bytes());
+        table[8 * e + 4..8 * e + 8].copy_from_slice(&v.to_le_bytes());
+    };
+    for (e, u, v) in [(1, top, top + 7), (2, top + 1, 3), (3, top + 1, 3), (7, 1, top), (8, top + 7, 8)] {
+        put(&mut table, e, u, v);
+    }
+    let ask = |table: &[u8], first: usize| {
+        let (mut work, mut list) = ([0; 12], [99; 12]);
+        chain(table, &mut work, first, &mut list).map(|f| (f.count, f.ends))
+    };
+    let broken = |entry: usize, rule: u32| Ends::Broken(fat::Fault { entry, rule });
+    assert_eq!(ask(&table, 0), Ok((5, Ends::Whole)));
+    assert_eq!(ask(&table, 6), Ok((0, Ends::HasPrevious)));
+    assert_eq!(ask(&table, 3), Err(Refusal::NotAFile));
+    let with = |e: usize, u: u32, v: u32| {
+        let mut t = table;
+        put(&mut t, e, u, v);
+        ask(&t, 0)
+    };
+    assert_eq!(with(7, 4, top), Ok((3, broken(1, 7)))); // the second node names another back
+    assert_eq!(with(7, 0, top), Ok((3, broken(7, 1)))); // it is none
+    assert_eq!(with(8, 0, 8), Ok((3, broken(8, 3))));
+    assert_eq!(with(8, top + 7, 13), Ok((3, broken(8, 4))));
+    assert_eq!(with(8, top + 7, 9), Ok((3, broken(9, 5))));
+    assert_eq!(with(1, top, top + 13), Ok((3, broken(1, 7)))); // a next past the blocks
+    assert_eq!(with(1, top, top + 1), Ok((3, broken(1, 7)))); // a ring
+    let mut inside = table;
+    put(&mut inside, 1, top, top + 4);
+    put(&mut inside, 2, top + 1, 8);
+    put(&mut inside, 8, top + 1, 8);
+    put(&mut inside, 4, 1, 0);
+    assert_eq!(ask(&inside, 0), Ok((8, broken(1, 7)))); // a node inside the one before it
+    put(&mut inside, 4, top, 0);
+    put(&mut inside, 1, top, top);
+    let (mut work, mut list) = ([0; 12], [99; 3]);
+    shared(&inside, &mut work, &[0, 3, 5], &mut list).unwrap();
+    assert_eq!(list, [2, 2, 1]); // a whole chain inside another, and no node
+}
