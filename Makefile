@@ -18,6 +18,13 @@ oracle:
 bench:
 	tools/bench
 
+# Volumes damaged by a seed, and what is lifted of them: the table of docs/SALVAGE.md. VOLUMES and SEED may be given.
+.PHONY: salvage
+VOLUMES = 2100
+SEED_OF_DAMAGE = 1
+salvage:
+	cd rust && MUKTHIBAN_LIB=$$(../tools/library link) cargo run --offline --release --quiet -p mukthiban --example salvage -- $(VOLUMES) $(SEED_OF_DAMAGE)
+
 # The proved library with its manifest, in dist/: what cargo, the demo and C link.
 .PHONY: dist
 dist:

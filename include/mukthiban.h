@@ -410,7 +410,7 @@ mukthiban_audited mukthiban_volume_audit(const uint8_t *table, size_t table_len,
                                          uint32_t *work, size_t work_len,
                                          uint32_t *list, size_t list_len);
 
-/* ---- Salvage: a block table of any bytes ---- */
+/* ---- Salvage: tables of any bytes ---- */
 
 /* Writes to list the blocks of the chain that first_block starts, as far as it can be followed, in its order: while each
  * node can be read, names back the one before it, and has no block that came before. Soundness is not asked for. Places
@@ -426,6 +426,19 @@ mukthiban_salvaged mukthiban_salvage_chain(const uint8_t *table, size_t table_le
 mukthiban_plain mukthiban_salvage_shared(const uint8_t *table, size_t table_len,
                                          uint32_t *work, size_t work_len,
                                          const uint32_t *firsts, size_t firsts_len,
+                                         uint32_t *list, size_t list_len);
+
+/* Writes to list the live directories of a directory table, in the order of their inodes: those below count and room that
+ * the removed list, as far as it can be followed, does not name. No bucket and no list of children is looked at. Key and
+ * record of an inode stand in the table. The work list needs a place for each entry of the room. Places of list past them
+ * stay. Answers 1, 2, 3, 8. */
+mukthiban_listed mukthiban_salvage_dirs(const uint8_t *table, size_t table_len,
+                                        uint32_t *work, size_t work_len,
+                                        uint32_t *list, size_t list_len);
+
+/* The same of a file table. */
+mukthiban_listed mukthiban_salvage_files(const uint8_t *table, size_t table_len,
+                                         uint32_t *work, size_t work_len,
                                          uint32_t *list, size_t list_len);
 
 #ifdef __cplusplus

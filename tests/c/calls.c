@@ -440,6 +440,41 @@ static void audit(void)
     audit_refused();
 }
 
+/* A chain, some chains and the entries of broken tables, and each refusal of these calls once. */
+static void salvage(void)
+{
+    static const uint32_t firsts[3] = {0, 3, 0};
+    uint32_t kinds[4] = {9, 9, 9, 9};
+    mukthiban_salvaged followed;
+
+    disagreeing();
+    fat[0] = 1; /* the head has not its form */
+    followed = mukthiban_salvage_chain(fat, sizeof fat, places, PLACES, 0, FOUND);
+    EXPECT(followed.answer == MUKTHIBAN_DONE && followed.count == 2 && followed.entry == 0 && followed.rule == 0);
+    EXPECT(found[0] == 0 && found[1] == 1 && places[0] == 0);
+    EXPECT(mukthiban_salvage_chain(fat, 7, places, PLACES, 0, FOUND).answer == MUKTHIBAN_SIZE_MISMATCH);
+    EXPECT(mukthiban_salvage_chain(fat, 8, places, PLACES, 0, FOUND).answer == MUKTHIBAN_INVALID_VALUE);
+    EXPECT(mukthiban_salvage_chain(fat, sizeof fat, places, 0, 0, FOUND).answer == MUKTHIBAN_WORK_TOO_SHORT);
+    EXPECT(mukthiban_salvage_chain(fat, sizeof fat, places, PLACES, SIZE_MAX, FOUND).answer == MUKTHIBAN_NOT_A_FILE);
+    EXPECT(mukthiban_salvage_chain(fat, sizeof fat, places, PLACES, 0, found, 1).answer == MUKTHIBAN_LIST_TOO_SHORT);
+
+    EXPECT(mukthiban_salvage_shared(fat, sizeof fat, places, PLACES, firsts, 3, kinds, 4).answer == MUKTHIBAN_DONE);
+    EXPECT(kinds[0] == MUKTHIBAN_CHAIN_SHARED && kinds[1] == MUKTHIBAN_CHAIN_WHOLE);
+    EXPECT(kinds[2] == MUKTHIBAN_CHAIN_SHARED && kinds[3] == 9);
+    EXPECT(mukthiban_salvage_shared(fat, 7, places, PLACES, firsts, 3, kinds, 4).answer == MUKTHIBAN_SIZE_MISMATCH);
+    EXPECT(mukthiban_salvage_shared(fat, 8, places, PLACES, firsts, 3, kinds, 4).answer == MUKTHIBAN_INVALID_VALUE);
+    EXPECT(mukthiban_salvage_shared(fat, sizeof fat, places, 0, firsts, 3, kinds, 4).answer == MUKTHIBAN_WORK_TOO_SHORT);
+    EXPECT(mukthiban_salvage_shared(fat, sizeof fat, places, PLACES, firsts, 3, kinds, 2).answer == MUKTHIBAN_LIST_TOO_SHORT);
+
+    memset(file_hash, 9, sizeof file_hash); /* no bucket is looked at */
+    EXPECT(mukthiban_salvage_files(FILES, places, PLACES, FOUND).count == 4 && found[0] == 1 && found[3] == 4);
+    EXPECT(mukthiban_salvage_files(files, 47, places, PLACES, FOUND).answer == MUKTHIBAN_SIZE_MISMATCH);
+    EXPECT(mukthiban_salvage_files(FILES, places, 1, FOUND).answer == MUKTHIBAN_WORK_TOO_SHORT);
+    EXPECT(mukthiban_salvage_files(FILES, places, PLACES, found, 3).answer == MUKTHIBAN_LIST_TOO_SHORT);
+    EXPECT(mukthiban_salvage_dirs(dir_table, sizeof dir_table, places, PLACES, FOUND).count == 1 && found[0] == 1);
+    EXPECT(mukthiban_salvage_dirs(dir_table, 39, places, PLACES, FOUND).answer == MUKTHIBAN_SIZE_MISMATCH);
+}
+
 static void texts(void)
 {
     EXPECT(strcmp(mukthiban_text(MUKTHIBAN_DONE), "done") == 0);
@@ -457,5 +492,6 @@ int main(void)
     broken();
     tree();
     audit();
+    salvage();
     return failures == 0 ? 0 : 1;
 }

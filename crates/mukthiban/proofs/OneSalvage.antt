@@ -1,4 +1,4 @@
--- One answer for the two exports of salvage.
+-- One answer for the exports of salvage.
 use mathlib.Core.Path.{refl}
 use mathlib.Core.List.{List}
 use Prim.Native.Nat.{ℕ}
@@ -10,6 +10,8 @@ use Rattle.salvage.specs.Calls.{chainGives, ChainPromise}
 use Rattle.salvage.proofs.Theorems.{one-chain}
 use Rattle.salvage_shared.specs.Calls.{sharedGives, SharedPromise}
 use Rattle.salvage_shared.proofs.Theorems.{one-shared}
+use Rattle.salvage_tree.specs.Calls.{enteredGives, EnteredPromise}
+use Rattle.salvage_tree.proofs.Theorems.{one-entered}
 use Rattle.mukthiban.proofs.One.{OneExport, one-beside}
 
 pub export-chain : (t : Bytes) (work : List ℕ) (b : ℕ) (list : List ℕ)
@@ -23,3 +25,9 @@ pub export-shared : (t : Bytes) (work firsts list : List ℕ)
 export-shared t work firsts list =
     one-beside (λ (a : Answer) (x : List ℕ). sharedGives a x) (λ g. g .answer) (λ g. g .list) (SharedPromise t work firsts list) (λ a x. refl) (λ a x. refl)
     (one-shared t work firsts list)
+
+pub export-entered : (w : ℕ) (t work list : List ℕ)
+    → OneExport {X = (ℕ × List ℕ) × List ℕ} (λ a x. beside (enteredGives a (x .0 .0) (x .0 .1)) (x .1)) (EnteredPromise w t work list)
+export-entered w t work list =
+    one-beside (λ (a : Answer) (x : ℕ × List ℕ). enteredGives a (x .0) (x .1)) (λ g. g .answer) (λ g. (g .count, g .list)) (EnteredPromise w t work list)
+    (λ a x. refl) (λ a x. refl) (one-entered w t work list)

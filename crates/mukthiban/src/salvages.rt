@@ -1,9 +1,11 @@
-// What can still be trusted on a block table of any bytes: one chain, and which of some chains are whole.
+// What can still be trusted on tables of any bytes: one chain, which of some chains are whole, and the live entries of one entry table.
 ghost use Rattle.order.specs.Answer.{fault};
 ghost use Rattle.order.specs.Beside.{beside};
 ghost use Rattle.salvage.specs.Calls.{chainGives, ChainPromise};
 ghost use Rattle.salvage_shared.specs.Calls.{sharedGives, SharedPromise};
+ghost use Rattle.salvage_tree.specs.Calls.{enteredGives, EnteredPromise};
 ghost use Rattle.mukthiban.specs.Export.{Exported};
+use crate::Listed;
 use crate::Plain;
 use crate::Salvaged;
 
@@ -40,5 +42,33 @@ pub extern "C" fn mukthiban_salvage_shared(
     let answer = r.answer;
     Plain {
         answer: order::number(answer),
+    }
+}
+
+#[no_mangle]
+pub extern "C" fn mukthiban_salvage_dirs(table: &[u8], work: &mut [u32], list: &mut [u32]) -> Listed
+    ensures { λ p. ⌜ Exported (p .answer) (λ a. EnteredPromise 40 (now (table .entry)) (now (work .entry)) (now (list .entry)) (beside (enteredGives a (p .count) (now (list .exit))) (now (work .exit)))) ⌝ }
+{
+    let r = salvage_tree::dirs(table, work, list);
+    let answer = r.answer;
+    Listed {
+        answer: order::number(answer),
+        count: r.count,
+    }
+}
+
+#[no_mangle]
+pub extern "C" fn mukthiban_salvage_files(
+    table: &[u8],
+    work: &mut [u32],
+    list: &mut [u32],
+) -> Listed
+    ensures { λ p. ⌜ Exported (p .answer) (λ a. EnteredPromise 48 (now (table .entry)) (now (work .entry)) (now (list .entry)) (beside (enteredGives a (p .count) (now (list .exit))) (now (work .exit)))) ⌝ }
+{
+    let r = salvage_tree::files(table, work, list);
+    let answer = r.answer;
+    Listed {
+        answer: order::number(answer),
+        count: r.count,
     }
 }

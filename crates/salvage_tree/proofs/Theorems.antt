@@ -30,7 +30,7 @@ use Rattle.salvage_tree.proofs.Marked.{stops-zero, goes-on, met-stop, m
 untrue : {A : Type 0} → false ≡ true → A
 untrue e = let z : _≡_ {A = ℕ} 0 1 = ap (λ (b : Bool). cond b 1 0) e in absurd (omega (arith, z))
 
-in-not : (y : ℕ) (l : List ℕ) → (y ∈ l → ⊥) → member y l ≡ false
+pub in-not : (y : ℕ) (l : List ℕ) → (y ∈ l → ⊥) → member y l ≡ false
 in-not y l h = go (member y l) refl
   where
     go : (b : Bool) → member y l ≡ b → member y l ≡ false
@@ -96,13 +96,13 @@ pub record SameList (w : ℕ) (t t′ : List ℕ) (v : View) : Type 0 where
   pub fits : v .room ≡ length t′ / w
 
 module _ (w : ℕ) (t t′ : List ℕ) (v : View) (s : Table v) (a : SameList w t t′ v) where
-  bounded : bound w t ≡ v .count
+  pub bounded : bound w t ≡ v .count
   unfolding bound
   bounded =
       let r : length t / w ≡ v .room = ap (λ (k : ℕ). k / w) (a .room) ∙ sym (a .fits) in
       rw (le-leb (field w t 0 countField) (length t / w) (omega (arith, r, a .count, s .max-room, s .count-max))) (a .count)
 
-  same-gone : (y : ℕ) → member y (gone w t) ≡ member y (removedOf v)
+  pub same-gone : (y : ℕ) → member y (gone w t) ≡ member y (removedOf v)
   unfolding gone
   same-gone y =
       let l : Links (collision w t) (collision w t 0) (removedOf v) =

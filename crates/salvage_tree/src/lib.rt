@@ -12,7 +12,7 @@ ghost use Rattle.salvage_tree.specs.Calls.{enteredGives, EnteredPromise}
 ghost use Rattle.salvage_tree.specs.inner.Says.{Marks, Least, Free, unmarked, PutFree, Sized, EnteredSays};
 
 // The lesser of two numbers.
-fn least(a: u32, b: u32) -> u32
+pub fn least(a: u32, b: u32) -> u32
     ensures { λ r. ⌜ Least a b r ⌝ }
 {
     if a <= b {
@@ -22,7 +22,7 @@ fn least(a: u32, b: u32) -> u32
 }
 
 // Marks the entries that the removed list names, as far as it can be followed, in a clear work list.
-fn mark_gone(table: &[u8], w: usize, n: u32, work: &mut [u32])
+pub fn mark_gone(table: &[u8], w: usize, n: u32, work: &mut [u32])
     requires { ⌜ Sized w (now table) n (now work) ⌝ }
     requires { ⌜ Marks (now work) [] ⌝ }
     ensures { λ _. ⌜ Marks (now (work .exit)) (gone w (now (table .entry))) ⌝ }

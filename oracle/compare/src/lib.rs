@@ -12,6 +12,7 @@ pub mod mapped;
 pub mod merged;
 pub mod planned;
 pub mod retired;
+pub mod salvaged;
 pub mod stored;
 pub mod tree_history;
 pub mod trees;

@@ -8,6 +8,7 @@ mod library;
 mod map;
 mod merge;
 mod plan;
+mod salvage;
 mod stated;
 
 pub use audit::Audit;
@@ -18,6 +19,7 @@ pub use library::Library;
 pub use map::{count_library, count_stated, MapCall, Mapped};
 pub use merge::Merge;
 pub use plan::{Plan, PlanCall};
+pub use salvage::{Asked, Salvage};
 pub use stated::Stated;
 
 pub trait Port {

@@ -23,14 +23,14 @@ fn index(word: u32) -> usize {
 }
 
 /// A node that could be read: its size, and the indexes of its previous and its next.
-struct Node {
-    size: usize,
-    prev: usize,
-    next: usize,
+pub(crate) struct Node {
+    pub size: usize,
+    pub prev: usize,
+    pub next: usize,
 }
 
 /// Reads the node at block b, or says the first of rules 1 to 5 that is broken there.
-fn read(table: &[u8], n: usize, b: usize) -> Result<Node, Fault> {
+pub(crate) fn read(table: &[u8], n: usize, b: usize) -> Result<Node, Fault> {
     let broken = |entry, rule| Err(Fault { entry, rule });
     let (u, v) = words(table, b + 1);
     if (u & FLAG == 0) == (index(u) == 0) {

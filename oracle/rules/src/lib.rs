@@ -15,6 +15,7 @@ pub mod map;
 pub mod merge;
 pub mod opens;
 pub mod plan;
+pub mod salvage;
 pub mod sound;
 pub mod tree;
 

@@ -153,4 +153,6 @@ calls! {
     fn mukthiban_salvage_shared(
         table: &[u8], work: &mut [u32], firsts: &[u32], list: &mut [u32],
     ) -> Plain;
+    fn mukthiban_salvage_dirs(table: &[u8], work: &mut [u32], list: &mut [u32]) -> Listed;
+    fn mukthiban_salvage_files(table: &[u8], work: &mut [u32], list: &mut [u32]) -> Listed;
 }

@@ -1,8 +1,9 @@
 //! What can still be trusted on a broken volume. Nothing here writes to one.
 //!
-//! [`chain`] and [`shared`] are calls of the proved library, over lent slices, any bytes allowed. [`Salvage`] takes a
-//! whole volume apart with them: every file with its path, its blocks and how far it can be trusted, and the chains that
-//! no file names. Its reading of the entry tables is Rust, and tested alone.
+//! [`chain`], [`shared`], [`dirs`] and [`files`] are calls of the proved library, over lent slices, any bytes allowed.
+//! [`Salvage`] takes a whole volume apart with them: every file with its path, its blocks and how far it can be trusted,
+//! and the chains that no file names. Its way up by parents, and what it takes beside the live entries, are Rust, and
+//! tested alone.
 //!
 //! ```
 //! use mukthiban::salvage::{chain, shared, Ends, Trust};
@@ -35,7 +36,7 @@ use mukthiban_ffi as ffi;
 #[cfg(feature = "std")]
 mod entries;
 #[cfg(feature = "std")]
-mod files;
+mod volume;
 #[cfg(all(unix, feature = "std"))]
 mod load;
 #[cfg(feature = "std")]
@@ -44,7 +45,7 @@ mod naive;
 #[cfg(feature = "std")]
 pub use entries::{Entries, Found, Way};
 #[cfg(feature = "std")]
-pub use files::{Doubt, LostChain, Salvage, SalvagedFile};
+pub use volume::{Doubt, LostChain, Salvage, SalvagedFile};
 #[cfg(all(unix, feature = "std"))]
 pub use load::load;
 #[cfg(feature = "std")]
@@ -114,6 +115,42 @@ pub fn chain(table: &[u8], work: &mut [u32], first_block: usize, list: &mut [u32
         rule => Ends::Broken(Fault { entry: r.entry, rule }),
     };
     Ok(Followed { count: r.count, ends })
+}
+
+/// Writes to `list` the live directories of a directory table, by their inodes, and answers how many there are: those below
+/// count and room that the removed list, as far as it can be followed, does not name. A work list has a place for each entry
+/// of the room.
+pub fn dirs(table: &[u8], work: &mut [u32], list: &mut [u32]) -> Result<usize, Refusal> {
+    // SAFETY: pointers and lengths are those of slices, and what is lent `&mut` overlaps nothing.
+    let r = unsafe {
+        ffi::mukthiban_salvage_dirs(
+            table.as_ptr(),
+            table.len(),
+            work.as_mut_ptr(),
+            work.len(),
+            list.as_mut_ptr(),
+            list.len(),
+        )
+    };
+    judge(r.answer)?;
+    Ok(r.count)
+}
+
+/// The same of a file table.
+pub fn files(table: &[u8], work: &mut [u32], list: &mut [u32]) -> Result<usize, Refusal> {
+    // SAFETY: pointers and lengths are those of slices, and what is lent `&mut` overlaps nothing.
+    let r = unsafe {
+        ffi::mukthiban_salvage_files(
+            table.as_ptr(),
+            table.len(),
+            work.as_mut_ptr(),
+            work.len(),
+            list.as_mut_ptr(),
+            list.len(),
+        )
+    };
+    judge(r.answer)?;
+    Ok(r.count)
 }
 
 /// Writes to `list`, for each of some first blocks, what its chain is worth beside the others ([`Trust::of`]).

@@ -1,5 +1,6 @@
 //! The entries of tables of any bytes: the live ones by count and removed list alone, and the way up by parents.
 
+use super::{dirs, files};
 use crate::tables::{Name, DIR_WIDTH, FILE_WIDTH, ROOT};
 
 fn word(table: &[u8], at: usize) -> u32 {
@@ -53,21 +54,41 @@ impl Table<'_> {
         word(self.entry(inode), self.width - 4) as usize
     }
 
-    /// For each inode whether it is live. The removed list is followed as far as it can be: it ends on 0, past the count,
-    /// and on a ring. Where it ended on 0, every other inode below the count is live. Else, and above the count, one that
-    /// looks vacant is none.
+    /// For each inode whether it is live: those that the proved call lists. Where the removed list did not end on 0, and
+    /// above the count, one that looks vacant is none.
     fn live(&self) -> Vec<bool> {
-        let mut live = vec![true; self.room()];
-        let mut at = if self.room() > 0 { self.collision(0) } else { 0 };
-        while at != 0 && at < self.count() && live[at] {
-            live[at] = false;
-            at = self.collision(at);
+        let room = self.room();
+        let (mut work, mut list) = (vec![0; room], vec![0; room]);
+        let bytes = &self.bytes[..self.bytes.len().min(65_536 * self.width)];
+        let count = match self.width {
+            DIR_WIDTH => dirs(bytes, &mut work, &mut list),
+            _ => files(bytes, &mut work, &mut list),
+        };
+        let mut live = vec![false; room];
+        for &inode in &list[..count.unwrap_or(0)] {
+            live[inode as usize] = true;
         }
-        let ended = at == 0;
-        for (inode, live) in live.iter_mut().enumerate() {
-            *live &= inode > 0 && ((ended && inode < self.count()) || !self.vacant(inode));
+        let ended = self.ended();
+        for (inode, live) in live.iter_mut().enumerate().skip(1) {
+            *live = match inode < self.count() {
+                true => *live && (ended || !self.vacant(inode)),
+                false => !self.vacant(inode),
+            };
         }
         live
+    }
+
+    /// Whether the removed list ends on 0.
+    fn ended(&self) -> bool {
+        let mut at = if self.room() > 0 { self.collision(0) } else { 0 };
+        for _ in 0..self.count() {
+            match at {
+                0 => return true,
+                inside if inside < self.count() => at = self.collision(inside),
+                _ => return false,
+            }
+        }
+        at == 0
     }
 
     /// An entry that was never used, or has entry 0's maximum where a name begins and zeros behind it: a removed one, which
