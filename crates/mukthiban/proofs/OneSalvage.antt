@@ -12,6 +12,8 @@ use Rattle.salvage_shared.specs.Calls.{sharedGives, SharedPromise}
 use Rattle.salvage_shared.proofs.Theorems.{one-shared}
 use Rattle.salvage_tree.specs.Calls.{enteredGives, EnteredPromise}
 use Rattle.salvage_tree.proofs.Theorems.{one-entered}
+use Rattle.salvage_way.specs.Calls.{WayPromise}
+use Rattle.salvage_way.proofs.Theorems.{one-way}
 use Rattle.mukthiban.proofs.One.{OneExport, one-beside}
 
 pub export-chain : (t : Bytes) (work : List ℕ) (b : ℕ) (list : List ℕ)
@@ -31,3 +33,9 @@ pub export-entered : (w : ℕ) (t work list : List ℕ)
 export-entered w t work list =
     one-beside (λ (a : Answer) (x : ℕ × List ℕ). enteredGives a (x .0) (x .1)) (λ g. g .answer) (λ g. (g .count, g .list)) (EnteredPromise w t work list)
     (λ a x. refl) (λ a x. refl) (one-entered w t work list)
+
+pub export-way : (t work : List ℕ) (x : ℕ) (list : List ℕ)
+    → OneExport {X = (ℕ × List ℕ) × List ℕ} (λ a x. beside (enteredGives a (x .0 .0) (x .0 .1)) (x .1)) (WayPromise t work x list)
+export-way t work x list =
+    one-beside (λ (a : Answer) (x : ℕ × List ℕ). enteredGives a (x .0) (x .1)) (λ g. g .answer) (λ g. (g .count, g .list)) (WayPromise t work x list)
+    (λ a x. refl) (λ a x. refl) (one-way t work x list)

@@ -1,9 +1,10 @@
-// What can still be trusted on tables of any bytes: one chain, which of some chains are whole, and the live entries of one entry table.
+// What can still be trusted on tables of any bytes: one chain, which of some chains are whole, the live entries of one entry table, and the way up from a directory.
 ghost use Rattle.order.specs.Answer.{fault};
 ghost use Rattle.order.specs.Beside.{beside};
 ghost use Rattle.salvage.specs.Calls.{chainGives, ChainPromise};
 ghost use Rattle.salvage_shared.specs.Calls.{sharedGives, SharedPromise};
 ghost use Rattle.salvage_tree.specs.Calls.{enteredGives, EnteredPromise};
+ghost use Rattle.salvage_way.specs.Calls.{WayPromise};
 ghost use Rattle.mukthiban.specs.Export.{Exported};
 use crate::Listed;
 use crate::Plain;
@@ -66,6 +67,23 @@ pub extern "C" fn mukthiban_salvage_files(
     ensures { λ p. ⌜ Exported (p .answer) (λ a. EnteredPromise 48 (now (table .entry)) (now (work .entry)) (now (list .entry)) (beside (enteredGives a (p .count) (now (list .exit))) (now (work .exit)))) ⌝ }
 {
     let r = salvage_tree::files(table, work, list);
+    let answer = r.answer;
+    Listed {
+        answer: order::number(answer),
+        count: r.count,
+    }
+}
+
+#[no_mangle]
+pub extern "C" fn mukthiban_salvage_way(
+    table: &[u8],
+    work: &mut [u32],
+    inode: u32,
+    list: &mut [u32],
+) -> Listed
+    ensures { λ p. ⌜ Exported (p .answer) (λ a. WayPromise (now (table .entry)) (now (work .entry)) inode (now (list .entry)) (beside (enteredGives a (p .count) (now (list .exit))) (now (work .exit)))) ⌝ }
+{
+    let r = salvage_way::way(table, work, inode, list);
     let answer = r.answer;
     Listed {
         answer: order::number(answer),
