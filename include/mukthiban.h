@@ -441,6 +441,14 @@ mukthiban_listed mukthiban_salvage_files(const uint8_t *table, size_t table_len,
                                          uint32_t *work, size_t work_len,
                                          uint32_t *list, size_t list_len);
 
+/* Writes to list the directories from an inode up by parents, the inode itself first, as far as they can be followed in a
+ * directory table: below count and room, over none that the removed list names, and over none twice. It leads to the root
+ * where inode 1 is the last. Answers 1, 2, 3, 8. */
+mukthiban_listed mukthiban_salvage_way(const uint8_t *table, size_t table_len,
+                                       uint32_t *work, size_t work_len,
+                                       uint32_t inode,
+                                       uint32_t *list, size_t list_len);
+
 #ifdef __cplusplus
 }
 #endif

@@ -473,6 +473,11 @@ static void salvage(void)
     EXPECT(mukthiban_salvage_files(FILES, places, PLACES, found, 3).answer == MUKTHIBAN_LIST_TOO_SHORT);
     EXPECT(mukthiban_salvage_dirs(dir_table, sizeof dir_table, places, PLACES, FOUND).count == 1 && found[0] == 1);
     EXPECT(mukthiban_salvage_dirs(dir_table, 39, places, PLACES, FOUND).answer == MUKTHIBAN_SIZE_MISMATCH);
+    EXPECT(mukthiban_salvage_way(dir_table, sizeof dir_table, places, PLACES, 1, FOUND).count == 1 && found[0] == 1);
+    EXPECT(mukthiban_salvage_way(dir_table, sizeof dir_table, places, PLACES, 99, FOUND).count == 0);
+    EXPECT(mukthiban_salvage_way(dir_table, sizeof dir_table, places, PLACES, 1, found, 0).answer == MUKTHIBAN_LIST_TOO_SHORT);
+    EXPECT(mukthiban_salvage_way(dir_table, sizeof dir_table, places, 1, 1, FOUND).answer == MUKTHIBAN_WORK_TOO_SHORT);
+    EXPECT(mukthiban_salvage_way(dir_table, 39, places, PLACES, 1, FOUND).answer == MUKTHIBAN_SIZE_MISMATCH);
 }
 
 static void texts(void)

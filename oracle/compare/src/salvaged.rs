@@ -91,6 +91,12 @@ pub fn run(chance: &mut Chance) {
         let places = room + chance.below(2) - usize::from(chance.one_in(8));
         let list = chance.pick(&[room, room, room / 2, 0]);
         same(asked.clone(), &table, places, list);
+        if asked == Asked::Dirs {
+            for inode in 0..room as u32 + 2 {
+                same(Asked::Way(inode), &table, places, list);
+            }
+            same(Asked::Way(u32::MAX), &table, places, list);
+        }
         let cut = chance.below(2 * width);
         same(asked, &table[..cut.min(table.len())], places, list);
     }

@@ -1,8 +1,8 @@
 //! Salvage: by the rules and by the library.
 
 use crate::Answered;
-use mukthiban_ffi::{mukthiban_salvage_chain, mukthiban_salvage_dirs, mukthiban_salvage_files, mukthiban_salvage_shared};
-use rules::salvage::{chain, entries, shared};
+use mukthiban_ffi::{mukthiban_salvage_chain, mukthiban_salvage_dirs, mukthiban_salvage_files, mukthiban_salvage_shared, mukthiban_salvage_way};
+use rules::salvage::{chain, entries, shared, way};
 
 /// Which call.
 #[derive(Clone, PartialEq, Eq, Debug)]
@@ -11,6 +11,7 @@ pub enum Asked {
     Shared(Vec<u32>),
     Dirs,
     Files,
+    Way(u32),
 }
 
 /// What is lent: a block table or an entry table, work list and list.
@@ -32,6 +33,7 @@ impl Salvage {
             Asked::Shared(firsts) => shared(table, work, firsts, list).map(|()| Answered::number(0)),
             Asked::Dirs => entries(table, 40, work, list).map(|count| Answered::with(0, &[count as u64])),
             Asked::Files => entries(table, 48, work, list).map(|count| Answered::with(0, &[count as u64])),
+            Asked::Way(inode) => way(table, work, *inode, list).map(|count| Answered::with(0, &[count as u64])),
         };
         outcome.unwrap_or_else(|refusal| Answered::number(refusal.number()))
     }
@@ -53,6 +55,10 @@ impl Salvage {
                 }
                 Asked::Dirs => {
                     let a = mukthiban_salvage_dirs(t, tl, w, wl, l, ll);
+                    Answered::with(a.answer, &[a.count as u64])
+                }
+                Asked::Way(inode) => {
+                    let a = mukthiban_salvage_way(t, tl, w, wl, *inode, l, ll);
                     Answered::with(a.answer, &[a.count as u64])
                 }
                 Asked::Files => {

@@ -83,8 +83,8 @@ pub fn shared(table: &[u8], work: &mut [u32], firsts: &[u32], list: &mut [u32]) 
     Ok(())
 }
 
-/// The live entries of one table of entries of that width: "below count and room, and not named by the removed list as far as it can be followed".
-pub fn entries(table: &[u8], width: usize, work: &mut [u32], list: &mut [u32]) -> Outcome<usize> {
+/// The entries below count and room, and those among them that the removed list names, as far as it can be followed.
+fn removed(table: &[u8], width: usize, work: &mut [u32]) -> Outcome<(usize, HashSet<usize>)> {
     refuse(table.len() < width, SizeMismatch)?;
     let room = table.len() / width;
     refuse(room > 65_536, InvalidValue)?;
@@ -97,8 +97,28 @@ pub fn entries(table: &[u8], width: usize, work: &mut [u32], list: &mut [u32]) -
     while at != 0 && at < bound && gone.insert(at) {
         at = collision(at);
     }
+    Ok((bound, gone))
+}
+
+/// The live entries of one table of entries of that width: "below count and room, and not named by the removed list as far as it can be followed".
+pub fn entries(table: &[u8], width: usize, work: &mut [u32], list: &mut [u32]) -> Outcome<usize> {
+    let (bound, gone) = removed(table, width, work)?;
     let live: Vec<u32> = (1..bound).filter(|inode| !gone.contains(inode)).map(|inode| inode as u32).collect();
     refuse(list.len() < live.len(), ListTooShort)?;
     list[..live.len()].copy_from_slice(&live);
     Ok(live.len())
+}
+
+/// The directories from an inode up: "below count and room, over none that is removed, and over none twice"; the root has no parent.
+pub fn way(table: &[u8], work: &mut [u32], inode: u32, list: &mut [u32]) -> Outcome<usize> {
+    let (bound, mut met) = removed(table, 40, work)?;
+    let mut way = vec![];
+    let mut at = inode as usize;
+    while at != 0 && at < bound && met.insert(at) {
+        way.push(at as u32);
+        at = if at == 1 { 0 } else { word(table, 40 * at) as usize };
+    }
+    refuse(list.len() < way.len(), ListTooShort)?;
+    list[..way.len()].copy_from_slice(&way);
+    Ok(way.len())
 }

@@ -155,4 +155,5 @@ calls! {
     ) -> Plain;
     fn mukthiban_salvage_dirs(table: &[u8], work: &mut [u32], list: &mut [u32]) -> Listed;
     fn mukthiban_salvage_files(table: &[u8], work: &mut [u32], list: &mut [u32]) -> Listed;
+    fn mukthiban_salvage_way(table: &[u8], work: &mut [u32], inode: u32, list: &mut [u32]) -> Listed;
 }

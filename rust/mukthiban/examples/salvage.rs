@@ -9,13 +9,14 @@ use corpus::{run, Tally, DAMAGE};
 fn row(name: &str, t: &Tally) {
     let share = |n: usize| format!("{n} ({:.1})", n as f64 * 100.0 / t.files.max(1) as f64);
     println!(
-        "| {name} | {} | {} | {} | {} | {} | {} | {} | {} | {} |",
+        "| {name} | {} | {} | {} | {} | {} | {} | {} | {} | {} | {} |",
         t.volumes,
         t.files,
         share(t.right),
         share(t.right_marked),
         share(t.wrong_marked),
         t.own,
+        t.above,
         t.wrong,
         share(t.missing),
         share(t.naive)
@@ -25,8 +26,8 @@ fn row(name: &str, t: &Tally) {
 fn main() {
     let mut args = std::env::args().skip(1).map(|a| a.parse::<u64>().expect("a number"));
     let (volumes, seed) = (args.next().unwrap_or(2_100), args.next().unwrap_or(1));
-    println!("| damage | volumes | files | right | right, marked | wrong, marked | own damage | wrong, no mark | not found | script right |");
-    println!("|---|---|---|---|---|---|---|---|---|---|");
+    println!("| damage | volumes | files | right | right, marked | wrong, marked | own damage | directory damaged | wrong, no mark | not found | script right |");
+    println!("|---|---|---|---|---|---|---|---|---|---|---|");
     let mut all = Tally::default();
     for (sort, name) in DAMAGE.iter().enumerate() {
         let mut tally = Tally::default();

@@ -1,9 +1,9 @@
 //! What can still be trusted on a broken volume. Nothing here writes to one.
 //!
-//! [`chain`], [`shared`], [`dirs`] and [`files`] are calls of the proved library, over lent slices, any bytes allowed.
-//! [`Salvage`] takes a whole volume apart with them: every file with its path, its blocks and how far it can be trusted,
-//! and the chains that no file names. Its way up by parents, and what it takes beside the live entries, are Rust, and
-//! tested alone.
+//! [`chain`], [`shared`], [`dirs`], [`files`] and [`way`] are calls of the proved library, over lent slices, any bytes
+//! allowed. [`Salvage`] takes a whole volume apart with them: every file with its path, its blocks and how far it can be
+//! trusted, and the chains that no file names. What it takes beside the live entries and the sure ways, and how it marks a
+//! file, is Rust, and tested alone.
 //!
 //! ```
 //! use mukthiban::salvage::{chain, shared, Ends, Trust};
@@ -35,21 +35,21 @@ use mukthiban_ffi as ffi;
 
 #[cfg(feature = "std")]
 mod entries;
-#[cfg(feature = "std")]
-mod volume;
 #[cfg(all(unix, feature = "std"))]
 mod load;
 #[cfg(feature = "std")]
 mod naive;
+#[cfg(feature = "std")]
+mod volume;
 
 #[cfg(feature = "std")]
 pub use entries::{Entries, Found, Way};
-#[cfg(feature = "std")]
-pub use volume::{Doubt, LostChain, Salvage, SalvagedFile};
 #[cfg(all(unix, feature = "std"))]
 pub use load::load;
 #[cfg(feature = "std")]
 pub use naive::{naive, NaiveFile};
+#[cfg(feature = "std")]
+pub use volume::{Doubt, LostChain, Salvage, SalvagedFile};
 
 /// Why a chain has no more blocks.
 #[derive(Clone, Copy, Debug, PartialEq, Eq)]
@@ -145,6 +145,25 @@ pub fn files(table: &[u8], work: &mut [u32], list: &mut [u32]) -> Result<usize, 
             table.len(),
             work.as_mut_ptr(),
             work.len(),
+            list.as_mut_ptr(),
+            list.len(),
+        )
+    };
+    judge(r.answer)?;
+    Ok(r.count)
+}
+
+/// Writes to `list` the directories from an inode up by parents, the inode itself first, as far as they can be followed in
+/// a directory table, and answers how many there are. It leads to the root where inode 1 is the last.
+pub fn way(table: &[u8], work: &mut [u32], inode: u32, list: &mut [u32]) -> Result<usize, Refusal> {
+    // SAFETY: pointers and lengths are those of slices, and what is lent `&mut` overlaps nothing.
+    let r = unsafe {
+        ffi::mukthiban_salvage_way(
+            table.as_ptr(),
+            table.len(),
+            work.as_mut_ptr(),
+            work.len(),
+            inode,
             list.as_mut_ptr(),
             list.len(),
         )

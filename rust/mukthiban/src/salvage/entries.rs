@@ -1,7 +1,8 @@
 //! The entries of tables of any bytes: the live ones by count and removed list alone, and the way up by parents.
 
-use super::{dirs, files};
-use crate::tables::{Name, DIR_WIDTH, FILE_WIDTH, ROOT};
+use super::{dirs, files, way};
+use crate::tables::{Name, Tables, DIR_WIDTH, FILE_WIDTH, ROOT};
+use std::collections::{HashMap, HashSet};
 
 fn word(table: &[u8], at: usize) -> u32 {
     table.get(at..at + 4).map_or(0, |b| u32::from_le_bytes(b.try_into().expect("4 bytes")))
@@ -29,6 +30,8 @@ pub struct Found {
     pub carried: [u8; 20],
     /// It is below the count.
     pub sure: bool,
+    /// A bucket has it that its key does not belong to, and its own has it not.
+    pub misplaced: bool,
 }
 
 /// One entry table of any bytes.
@@ -100,47 +103,104 @@ impl Table<'_> {
     }
 }
 
+/// The hash of a key (RULES 5.3).
+fn hash(key: &[u8]) -> u32 {
+    key.chunks_exact(4).fold(0x1234_5678, |h: u32, w| h.rotate_right(1) ^ word(w, 0))
+}
+
+impl Table<'_> {
+    /// For each inode whether some bucket's list has it, and none that its key belongs to: then its key is not the one that
+    /// it was entered under, or a bucket's word is wrong. One that no bucket has is not told of; and where more than one and
+    /// more than a tenth of those met are so, the buckets are what is damaged, and nothing is told.
+    fn misplaced(&self, buckets: &[u8]) -> Vec<bool> {
+        let room = self.room();
+        let many = buckets.len() / 4;
+        let (mut met, mut right) = (vec![false; room], vec![false; room]);
+        for bucket in 0..many {
+            let mut at = word(buckets, 4 * bucket) as usize;
+            for _ in 0..room {
+                if at == 0 || at >= room || (met[at] && right[at]) {
+                    break;
+                }
+                let own = hash(&self.entry(at)[..20]) as usize % many == bucket;
+                if met[at] && !own {
+                    break;
+                }
+                met[at] = true;
+                right[at] |= own;
+                at = self.collision(at);
+            }
+        }
+        let (seen, misplaced) =
+            (met.iter().filter(|&&m| m).count(), met.iter().zip(&right).filter(|(m, r)| **m && !**r).count());
+        let trusted = misplaced <= (seen / 10).max(1);
+        met.into_iter().zip(right).map(|(met, right)| trusted && met && !right).collect()
+    }
+}
+
 /// The live entries of a volume's two tables.
 pub struct Entries {
     /// The files, by inode.
     pub files: Vec<Found>,
     /// For each directory's inode its parent and its name, where it is live.
     dirs: Vec<Option<(u32, Name)>>,
+    /// The directories that a bucket has which their key does not belong to.
+    misplaced: Vec<bool>,
+    /// The way up of every live directory, and of every one that a file names.
+    ways: HashMap<u32, Way>,
 }
 
 impl Entries {
-    /// Reads both tables. Hash buckets, collision fields of live entries and lists of children are not looked at.
-    pub fn read(dir_table: &[u8], file_table: &[u8]) -> Entries {
+    /// Reads both tables. Which entries are live, and where they lead, is read from these alone; the buckets only say which
+    /// keys are not those that were entered.
+    pub fn read(tables: Tables<'_>) -> Entries {
+        let Tables { dir_hash, dir_table, file_hash, file_table } = tables;
         let key = |e: &[u8]| (word(e, 0), e[4..20].try_into().expect("16 bytes"));
         let table = Table { bytes: dir_table, width: DIR_WIDTH };
         let live = table.live();
         // directories above the count are taken too: what is below them may be right
         let dirs = (0..table.room()).map(|i| live[i].then(|| key(table.entry(i)))).collect();
+        let misplaced = table.misplaced(dir_hash);
         let table = Table { bytes: file_table, width: FILE_WIDTH };
-        let live = table.live();
+        let (live, moved) = (table.live(), table.misplaced(file_hash));
         let found = |inode: usize| {
             let (parent, name) = key(table.entry(inode));
             let carried = table.entry(inode)[24..44].try_into().expect("20 bytes");
-            Found { inode: inode as u32, parent, name, carried, sure: inode < table.count() }
+            Found { inode: inode as u32, parent, name, carried, sure: inode < table.count(), misplaced: moved[inode] }
         };
         let files = (1..table.room()).filter(|&i| live[i]).map(found).collect();
-        Entries { files, dirs }
+        let mut entries = Entries { files, dirs, misplaced, ways: HashMap::new() };
+        let named: HashSet<u32> = entries.dir_inodes().chain(entries.files.iter().map(|f| f.parent)).collect();
+        entries.ways = named.into_iter().map(|d| (d, entries.climb(dir_table, d))).collect();
+        entries
     }
 
-    /// The way up from a directory's inode.
-    pub fn way(&self, dir: u32) -> Way {
+    /// The way up from a directory's inode: the proved call's where it leads to the root; else by the parents of all that
+    /// look live, those above the count too.
+    fn climb(&self, dir_table: &[u8], dir: u32) -> Way {
+        let room = (dir_table.len() / DIR_WIDTH).min(65_536);
+        let (mut work, mut list) = (vec![0; room], vec![0; room]);
+        let bytes = &dir_table[..dir_table.len().min(65_536 * DIR_WIDTH)];
+        if let Ok(count @ 1..) = way(bytes, &mut work, dir, &mut list) {
+            if list[count - 1] == ROOT {
+                list[..count - 1].reverse();
+                return Way::Root(list[..count - 1].to_vec());
+            }
+        }
+        self.guess(dir)
+    }
+
+    fn guess(&self, dir: u32) -> Way {
         let (mut way, mut at) = (Vec::new(), dir);
+        let mut met = HashSet::new();
         while at != ROOT {
             let parent = self.dirs.get(at as usize).copied().flatten().map(|(parent, _)| parent);
             match parent {
-                Some(parent) if way.len() < self.dirs.len() => {
+                Some(parent) if met.insert(at) => {
                     way.push(at);
                     at = parent;
                 }
                 _ => {
-                    // of a ring each directory once
-                    let mut met = std::collections::HashSet::new();
-                    way.retain(|&d| met.insert(d));
                     way.reverse();
                     return Way::Lost(way);
                 }
@@ -148,6 +208,16 @@ impl Entries {
         }
         way.reverse();
         Way::Root(way)
+    }
+
+    /// The way up from a directory's inode.
+    pub fn way(&self, dir: u32) -> Way {
+        self.ways.get(&dir).cloned().unwrap_or(Way::Lost(Vec::new()))
+    }
+
+    /// Whether a bucket has the directory that its key does not belong to, and its own has it not.
+    pub fn dir_misplaced(&self, inode: u32) -> bool {
+        inode != ROOT && self.misplaced.get(inode as usize).copied().unwrap_or(false)
     }
 
     /// A directory's name.

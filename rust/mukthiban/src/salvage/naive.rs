@@ -42,7 +42,7 @@ pub struct NaiveFile {
 
 /// Every entry of the file table with a parent and a name, no bucket looked at, and its chain followed with no check.
 pub fn naive(parts: &Parts) -> Vec<NaiveFile> {
-    let entries = Entries::read(&parts.dir_table, &[]);
+    let entries = Entries::read(parts.tables());
     let mut files = Vec::new();
     for entry in parts.file_table.chunks_exact(FILE_WIDTH).skip(1) {
         let parent = u32::from_le_bytes(entry[..4].try_into().expect("4 bytes"));

@@ -29,6 +29,9 @@ pub enum Doubt {
     SameName,
     /// Its entry lies at or above the count of the table.
     AboveCount,
+    /// A bucket has its entry, or that of a directory above it, that the key does not belong to: its name or its directory is
+    /// not the one that was entered.
+    OtherKey,
     /// The block length does not go with the lengths of table and data, and it has not as many blocks as its size asks for,
     /// or two block lengths are as good.
     Lengths,
@@ -161,7 +164,7 @@ impl Salvage {
         let table = fitting(&parts.fat);
         let n = (table.len() / 8).saturating_sub(1);
         let (mut work, mut list) = (vec![0; n], vec![0; n]);
-        let entries = Entries::read(&parts.dir_table, &parts.file_table);
+        let entries = Entries::read(parts.tables());
         let records: Vec<Record> = entries.files.iter().map(|f| Record::of(&f.carried)).collect();
         let head = head_of(table);
         // the files with bytes, and the free chain
@@ -267,10 +270,12 @@ fn file(
         }
     }
     let way = entries.way(found.parent);
+    let moved = |way: &[u32]| found.misplaced || way.iter().any(|&d| entries.dir_misplaced(d));
     let other = match (&way, twice, found.sure) {
         (Way::Lost(_), ..) => Some(Doubt::NoWay),
         (_, true, _) => Some(Doubt::SameName),
         (.., false) => Some(Doubt::AboveCount),
+        (Way::Root(way), ..) if moved(way) => Some(Doubt::OtherKey),
         _ => None,
     };
     SalvagedFile { inode: found.inode, name: found.name, way, record, blocks, followed, doubt: doubt.or(other) }

@@ -188,8 +188,10 @@ pub struct Tally {
     pub right_marked: usize,
     /// Marked, with another path or other bytes.
     pub wrong_marked: usize,
-    /// Called whole, with another path or other bytes: its own record, its data or a directory above it was damaged.
+    /// Called whole, with another path or other bytes: its own record or its data was damaged.
     pub own: usize,
+    /// Called whole, with its bytes and another path: a directory above it was damaged, and nothing of its own.
+    pub above: usize,
     /// The same where none of them was.
     pub wrong: usize,
     pub missing: usize,
@@ -205,6 +207,7 @@ impl Tally {
         self.right_marked += o.right_marked;
         self.wrong_marked += o.wrong_marked;
         self.own += o.own;
+        self.above += o.above;
         self.wrong += o.wrong;
         self.missing += o.missing;
         self.naive += o.naive;
@@ -250,8 +253,9 @@ pub fn run(seed: u64, sort: usize) -> Tally {
             (true, true) => tally.right += 1,
             (true, false) => tally.right_marked += 1,
             (false, false) => tally.wrong_marked += 1,
-            (false, true) if own_record() && data() && ways() => tally.wrong += 1,
-            (false, true) => tally.own += 1,
+            (false, true) if !own_record() || !data() => tally.own += 1,
+            (false, true) if !ways() && original.bytes == bytes => tally.above += 1,
+            (false, true) => tally.wrong += 1,
         }
     }
     tally.missing = files.len() - met;
