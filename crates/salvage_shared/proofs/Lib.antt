@@ -3,3 +3,4 @@ pub mod Goings
 pub mod Loops
 pub mod Outs
 pub mod Theorems
+pub mod Alone
