@@ -49,11 +49,11 @@ impl Volume {
     pub fn free_nodes(&self) -> Vec<(u32, u32)> {
         let table = &self.parts().fat;
         let mut nodes = Vec::new();
-        let mut index = word(table, 4);
-        while index != 0 {
-            let (size, next) = node(table, index - 1);
-            nodes.push((index as u32 - 1, size));
-            index = next;
+        let mut at = free_front(table);
+        while let Some(start) = at {
+            let (size, next) = node(table, start);
+            nodes.push((start as u32, size));
+            at = next.checked_sub(1);
         }
         nodes
     }
@@ -64,8 +64,13 @@ fn word(table: &[u8], at: usize) -> usize {
     (u32::from_le_bytes(table[at..at + 4].try_into().expect("4 bytes")) & 0x7FFF_FFFF) as usize
 }
 
+/// The first node of the free chain.
+pub(crate) fn free_front(table: &[u8]) -> Option<usize> {
+    word(table, 4).checked_sub(1)
+}
+
 /// The node at a block, on a table that the test has accepted: its blocks, and the index of the next.
-fn node(table: &[u8], block: usize) -> (u32, usize) {
+pub(crate) fn node(table: &[u8], block: usize) -> (u32, usize) {
     let size = match table[block * 8 + 15] >> 7 {
         0 => 1,
         _ => word(table, block * 8 + 20) - block,

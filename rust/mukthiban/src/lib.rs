@@ -8,6 +8,8 @@
 //! - [`Volume`] owns a whole volume, tests it once, and then works without testing again. It has a walk of its tree,
 //!   lookup by path, and files that are read and written as the standard library's are.
 //! - [`salvage`] says what of a broken volume can still be trusted.
+//! - [`BlockTable`] and [`EntryTables`] are one layer each, for a program whose tables stand in files elsewhere: they tell
+//!   what each call changed.
 //! - [`Refusal`] says why a call was refused.
 //! - [`folder`] reads a volume from a folder of the host and puts a changed one in its place.
 //! - [`Record`] reads where a file's blocks begin and how long it is; [`name`] makes and shows names.
@@ -51,7 +53,7 @@ pub use record::Record;
 pub use refusal::Refusal;
 pub use tables::{Kind, Name, Want, ROOT};
 #[cfg(feature = "std")]
-pub use whole::{Entry, File, FileMut, NotSound, Volume, Walk};
+pub use whole::{BlockTable, Change, Entry, EntryTables, File, FileMut, NotSound, Part, Volume, Walk};
 
 /// The version of the proved library that is linked: major, minor, patch.
 ///

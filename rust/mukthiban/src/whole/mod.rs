@@ -2,12 +2,14 @@ mod audit;
 mod blocks;
 mod counts;
 mod file;
+mod kept;
 mod map;
 mod plan;
 mod tree;
 mod walk;
 
 pub use file::{File, FileMut};
+pub use kept::{BlockTable, Change, EntryTables, Part};
 pub use walk::{Entry, Walk};
 
 use crate::fat::{self, MAX_BLOCKS, MAX_BLOCK_LEN};
