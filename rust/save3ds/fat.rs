@@ -1,0 +1,251 @@
+// The block table of a volume over the proved library, in the place of the original's `fat.rs`: the same names and
+// signatures. `docs/SAVE3DS.md` says what differs.
+//
+// The table is read and tested once, when it is opened, and kept. Every change is made by a proved call on the kept
+// table; the entries that it changed are then written, and no others. Data go block by block to the data file.
+
+use crate::error::*;
+use crate::random_access_file::*;
+use mukthiban::fat::{self, MAX_BLOCKS, MAX_BLOCK_LEN};
+use mukthiban::{BlockTable, Refusal};
+use std::cell::RefCell;
+use std::rc::Rc;
+
+/// Bytes of an entry.
+const ENTRY: usize = 8;
+
+/// The original's name for a refusal. It has none for a block that begins no file: only a broken volume names one.
+fn named(refusal: Refusal) -> Error {
+    match refusal {
+        Refusal::SizeMismatch => Error::SizeMismatch,
+        Refusal::BrokenFat | Refusal::NotAFile => Error::BrokenFat,
+        Refusal::NoSpace => Error::NoSpace,
+        Refusal::OutOfBound => Error::OutOfBound,
+        _ => Error::InvalidValue,
+    }
+}
+
+/// Refused, by the original's name.
+fn refuse<T>(refusal: Refusal) -> Result<T, Error> {
+    make_error(named(refusal))
+}
+
+/// The blocks of a table of that length, where it is within its bounds.
+fn block_count(table_len: usize) -> Result<usize, Error> {
+    if table_len < ENTRY || table_len % ENTRY != 0 {
+        return refuse(Refusal::SizeMismatch);
+    }
+    match table_len / ENTRY - 1 {
+        blocks @ 1..=MAX_BLOCKS => Ok(blocks),
+        _ => refuse(Refusal::InvalidValue),
+    }
+}
+
+/// Reads a table. Where a part of it was never written, which a file with hashes refuses to read, only the entries are
+/// read that the rules read.
+fn read_table(table: &dyn RandomAccessFile, blocks: usize) -> Result<Vec<u8>, Error> {
+    let mut bytes = vec![0; (blocks + 1) * ENTRY];
+    match table.read(0, &mut bytes) {
+        Err(Error::HashMismatch) => read_nodes(table, blocks),
+        read => read.map(|()| bytes),
+    }
+}
+
+/// Reads the head and each node's one, two or three entries, up to the first node that has no such form: this is for the
+/// test to refuse. The rest is zeros, which is no entry that the rules accept.
+fn read_nodes(table: &dyn RandomAccessFile, blocks: usize) -> Result<Vec<u8>, Error> {
+    let mut bytes = vec![0; (blocks + 1) * ENTRY];
+    let mut second_half = |entry: usize| -> Result<u32, Error> {
+        let place = &mut bytes[entry * ENTRY..(entry + 1) * ENTRY];
+        table.read(entry * ENTRY, place)?;
+        Ok(u32::from_le_bytes([place[4], place[5], place[6], place[7]]))
+    };
+    second_half(0)?;
+    let mut block = 0;
+    while block < blocks {
+        let mut end = block + 1;
+        if second_half(block + 1)? >> 31 == 1 {
+            if block + 2 > blocks {
+                break;
+            }
+            end = second_half(block + 2)? as usize;
+            if end < block + 2 || end > blocks {
+                break;
+            }
+            second_half(end)?;
+        }
+        block = end;
+    }
+    Ok(bytes)
+}
+
+/// A file allocation table, kept in memory beside its file.
+pub struct Fat {
+    table: Rc<dyn RandomAccessFile>,
+    data: Rc<dyn RandomAccessFile>,
+    block_len: usize,
+    kept: RefCell<BlockTable>,
+    /// The entries of which the file may hold something else, since a write failed. They are written before the next
+    /// change.
+    unsaved: RefCell<Vec<usize>>,
+}
+
+impl Fat {
+    /// Makes one free node of all blocks.
+    pub fn format(table: &dyn RandomAccessFile) -> Result<(), Error> {
+        let blocks = block_count(table.len())?;
+        let mut bytes = vec![0; (blocks + 1) * ENTRY];
+        fat::format(&mut bytes).or_else(refuse)?;
+        // The head and the node's entries: the rest of a table is never read.
+        let mut entries = vec![0, 1];
+        if blocks > 1 {
+            entries.extend([2, blocks]);
+            entries.dedup();
+        }
+        for entry in entries {
+            let at = entry * ENTRY;
+            table.write(at, &bytes[at..at + ENTRY])?;
+        }
+        Ok(())
+    }
+
+    /// Opens a table with its data. A table that is not sound is `BrokenFat`.
+    pub fn new(
+        table: Rc<dyn RandomAccessFile>,
+        data: Rc<dyn RandomAccessFile>,
+        block_len: usize,
+    ) -> Result<Rc<Fat>, Error> {
+        let fits = |blocks: usize| blocks.checked_mul(block_len) == Some(data.len());
+        if table.len() >= ENTRY && !fits(table.len() / ENTRY - 1) {
+            return refuse(Refusal::SizeMismatch);
+        }
+        let blocks = block_count(table.len())?;
+        if !(1..=MAX_BLOCK_LEN).contains(&block_len) {
+            return refuse(Refusal::InvalidValue);
+        }
+        let kept = BlockTable::open(read_table(table.as_ref(), blocks)?).or_else(refuse)?;
+        Ok(Rc::new(Fat { table, data, block_len, kept: RefCell::new(kept), unsaved: RefCell::default() }))
+    }
+
+    pub fn free_blocks(&self) -> usize {
+        self.kept.borrow().free()
+    }
+
+    /// Makes a change in the kept table and writes what it changed. Where a write fails the change is taken back, in
+    /// memory and in the file.
+    fn change<T>(&self, call: impl FnOnce(&mut BlockTable) -> Result<T, Refusal>) -> Result<T, Error> {
+        let mut kept = self.kept.borrow_mut();
+        self.save_rest(&kept)?;
+        let answer = call(&mut kept).or_else(refuse)?;
+        for (done, &entry) in kept.changed().iter().enumerate() {
+            if let Err(error) = self.save(&kept, entry) {
+                self.unsaved.borrow_mut().extend_from_slice(&kept.changed()[..=done]);
+                kept.undo();
+                // What this can't write stays noted, and is written before the next change.
+                let _ = self.save_rest(&kept);
+                return Err(error);
+            }
+        }
+        Ok(answer)
+    }
+
+    fn save(&self, kept: &BlockTable, entry: usize) -> Result<(), Error> {
+        let at = entry * ENTRY;
+        self.table.write(at, &kept.bytes()[at..at + ENTRY])
+    }
+
+    /// Writes the entries that a failed write left behind.
+    fn save_rest(&self, kept: &BlockTable) -> Result<(), Error> {
+        let mut unsaved = self.unsaved.borrow_mut();
+        while let Some(&entry) = unsaved.last() {
+            self.save(kept, entry)?;
+            unsaved.pop();
+        }
+        Ok(())
+    }
+}
+
+/// A handle to a file in `Fat` that implements resizing, releasing, reading and writing.
+pub struct FatFile {
+    fat: Rc<Fat>,
+    /// The file's blocks, in chain order; there is at least one.
+    block_list: Vec<u32>,
+}
+
+impl FatFile {
+    /// Opens the file at the specific block index. A block that begins no file is `BrokenFat`.
+    pub fn open(fat: Rc<Fat>, first_block: usize) -> Result<FatFile, Error> {
+        let block_list = fat.kept.borrow().open_list(first_block).or_else(refuse)?;
+        Ok(FatFile { fat, block_list })
+    }
+
+    /// Allocates a new file in `Fat` and returns its handle and block index.
+    pub fn create(fat: Rc<Fat>, block_count: usize) -> Result<(FatFile, usize), Error> {
+        let first = fat.change(|kept| kept.create(block_count))?;
+        let mut block_list = vec![];
+        fat.kept.borrow().complete(first, &mut block_list).or_else(refuse)?;
+        Ok((FatFile { fat, block_list }, first))
+    }
+
+    /// Releases the space this file holds.
+    pub fn delete(self) -> Result<(), Error> {
+        self.fat.change(|kept| kept.delete(self.first()))
+    }
+
+    /// Allocates more blocks for the file or releases some blocks.
+    pub fn resize(&mut self, block_count: usize) -> Result<(), Error> {
+        let first = self.first();
+        let before = self.fat.kept.borrow().block_count(first);
+        self.fat.change(|kept| kept.resize(first, block_count))?;
+        // Another handle may have made the file shorter and longer since this one's list was read.
+        if before != Ok(self.block_list.len()) {
+            self.block_list.clear();
+        }
+        self.fat.kept.borrow().complete(first, &mut self.block_list).or_else(refuse)
+    }
+
+    fn first(&self) -> usize {
+        self.block_list[0] as usize
+    }
+
+    /// Gives each block's share of a stretch to `each`: where it stands in the data, and which bytes of the stretch it is.
+    fn by_block(
+        &self,
+        pos: usize,
+        len: usize,
+        mut each: impl FnMut(usize, std::ops::Range<usize>) -> Result<(), Error>,
+    ) -> Result<(), Error> {
+        if pos.checked_add(len).is_none_or(|end| end > self.len()) {
+            return refuse(Refusal::OutOfBound);
+        }
+        let block_len = self.fat.block_len;
+        let (mut offset, mut done) = (pos % block_len, 0);
+        for &block in &self.block_list[pos / block_len..] {
+            if done == len {
+                break;
+            }
+            let share = (block_len - offset).min(len - done);
+            each(block as usize * block_len + offset, done..done + share)?;
+            (offset, done) = (0, done + share);
+        }
+        Ok(())
+    }
+}
+
+impl RandomAccessFile for FatFile {
+    fn read(&self, pos: usize, buf: &mut [u8]) -> Result<(), Error> {
+        self.by_block(pos, buf.len(), |at, share| self.fat.data.read(at, &mut buf[share]))
+    }
+
+    fn write(&self, pos: usize, buf: &[u8]) -> Result<(), Error> {
+        self.by_block(pos, buf.len(), |at, share| self.fat.data.write(at, &buf[share]))
+    }
+
+    fn len(&self) -> usize {
+        self.block_list.len() * self.fat.block_len
+    }
+
+    fn commit(&self) -> Result<(), Error> {
+        Ok(())
+    }
+}
