@@ -1,5 +1,7 @@
 //! The same interface where the original's source is not to be had. Nothing of it may be called.
 
+use crate::Failure;
+
 type Name = [u8; 16];
 
 macro_rules! absent {
@@ -19,7 +21,11 @@ absent! {
     Volume {
         fn format(table: &mut [u8]) -> Result<(), u32>;
         fn open(table: &[u8], data: &[u8], block_len: usize) -> Result<Volume, u32>;
+        fn unwritten(blocks: usize, block_len: usize) -> Result<Volume, u32>;
         fn reopen(&mut self, block_len: usize) -> Result<(), u32>;
+        fn fail(&self, failure: Option<Failure>) -> ();
+        fn watch(&self) -> ();
+        fn watched(&self) -> Vec<(usize, usize)>;
         fn free(&self) -> usize;
         fn table(&self) -> Vec<u8>;
         fn data(&self) -> Vec<u8>;
@@ -52,12 +58,17 @@ absent! {
     Tables {
         fn format(four: [&[u8]; 4], dir_max: usize, file_max: usize) -> (Result<(), u32>, [Vec<u8>; 4]);
         fn open(four: [&[u8]; 4]) -> Result<Tables, u32>;
+        fn unwritten(lens: [usize; 4], dir_max: usize, file_max: usize) -> Result<Tables, u32>;
+        fn reopen(&mut self) -> Result<(), u32>;
+        fn fail(&self, failure: Option<Failure>) -> ();
         fn four(&self) -> [Vec<u8>; 4];
         fn holds(&self, four: [&[u8]; 4]) -> bool;
         fn set(&self, four: [&[u8]; 4]) -> ();
         fn drop_handles(&mut self) -> ();
         fn open_dir(&mut self, ino: u32) -> ();
         fn open_file(&mut self, ino: u32) -> ();
+        fn try_open_dir(&mut self, ino: u32) -> Result<(), u32>;
+        fn try_open_file(&mut self, ino: u32) -> Result<(), u32>;
         fn close_dir(&mut self, ino: u32) -> ();
         fn close_file(&mut self, ino: u32) -> ();
         fn dir_opens(&self, ino: u32) -> u32;

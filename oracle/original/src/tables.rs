@@ -5,6 +5,8 @@ use crate::memory::Memory;
 use crate::number;
 use crate::record::FileRecord;
 use crate::save_ext_common::{SaveExtDir, SaveExtKey};
+use crate::wire::Wire;
+use crate::Failure;
 use std::collections::HashMap;
 use std::rc::Rc;
 
@@ -14,40 +16,57 @@ type File = FileMeta<SaveExtKey, SaveExtDir, SaveExtKey, FileRecord>;
 type Name = [u8; 16];
 
 pub struct Tables {
+    wire: Rc<Wire>,
     four: [Rc<Memory>; 4],
     fs: Rc<Fs>,
     dirs: HashMap<u32, Vec<Dir>>,
     files: HashMap<u32, Vec<File>>,
 }
 
-fn memories(four: [&[u8]; 4]) -> [Rc<Memory>; 4] {
-    four.map(|bytes| Rc::new(Memory::new(bytes)))
+fn memories(wire: &Rc<Wire>, four: [&[u8]; 4]) -> [Rc<Memory>; 4] {
+    four.map(|bytes| Rc::new(Memory::on(wire, bytes, false)))
+}
+
+fn opened(m: &[Rc<Memory>; 4]) -> Result<Rc<Fs>, u32> {
+    Fs::new(m[0].clone(), m[1].clone(), m[2].clone(), m[3].clone()).map_err(number)
+}
+
+fn formatted(m: &[Rc<Memory>; 4], dir_max: usize, file_max: usize) -> Result<(), u32> {
+    Fs::format(m[0].clone(), m[1].clone(), dir_max, m[2].clone(), m[3].clone(), file_max).map_err(number)
 }
 
 impl Tables {
     /// Formats four tables (directory hash and table, file hash and table), and gives their bytes afterwards.
     pub fn format(four: [&[u8]; 4], dir_max: usize, file_max: usize) -> (Result<(), u32>, [Vec<u8>; 4]) {
-        let m = memories(four);
-        let answer = Fs::format(
-            m[0].clone(),
-            m[1].clone(),
-            dir_max,
-            m[2].clone(),
-            m[3].clone(),
-            file_max,
-        );
-        (answer.map_err(number), m.map(|memory| memory.copied()))
+        let m = memories(&Rc::default(), four);
+        let answer = formatted(&m, dir_max, file_max);
+        (answer, m.map(|memory| memory.copied()))
     }
 
     pub fn open(four: [&[u8]; 4]) -> Result<Tables, u32> {
-        let m = memories(four);
-        let fs = Fs::new(m[0].clone(), m[1].clone(), m[2].clone(), m[3].clone());
-        Ok(Tables {
-            fs: fs.map_err(number)?,
-            four: m,
-            dirs: HashMap::new(),
-            files: HashMap::new(),
-        })
+        let wire = Rc::default();
+        let m = memories(&wire, four);
+        Ok(Tables { fs: opened(&m)?, wire, four: m, dirs: HashMap::new(), files: HashMap::new() })
+    }
+
+    /// Tables of those lengths of which nothing was written yet but what format writes.
+    pub fn unwritten(lens: [usize; 4], dir_max: usize, file_max: usize) -> Result<Tables, u32> {
+        let wire = Rc::default();
+        let m = lens.map(|len| Rc::new(Memory::unwritten(&wire, len)));
+        formatted(&m, dir_max, file_max)?;
+        Ok(Tables { fs: opened(&m)?, wire, four: m, dirs: HashMap::new(), files: HashMap::new() })
+    }
+
+    /// The same bytes seen anew: every handle is dropped.
+    pub fn reopen(&mut self) -> Result<(), u32> {
+        self.drop_handles();
+        self.fs = opened(&self.four)?;
+        Ok(())
+    }
+
+    /// From now on calls of the four files fail as it is said, or no more.
+    pub fn fail(&self, failure: Option<Failure>) {
+        self.wire.fail(failure);
     }
 
     pub fn four(&self) -> [Vec<u8>; 4] {
@@ -68,20 +87,29 @@ impl Tables {
         self.files.clear();
     }
 
-    fn dir(&self, ino: u32) -> Dir {
-        Dir::open_ino(self.fs.clone(), ino).map_err(number).unwrap()
+    fn dir(&self, ino: u32) -> Result<Dir, u32> {
+        Dir::open_ino(self.fs.clone(), ino).map_err(number)
     }
-    fn file(&self, ino: u32) -> File {
-        File::open_ino(self.fs.clone(), ino).map_err(number).unwrap()
+    fn file(&self, ino: u32) -> Result<File, u32> {
+        File::open_ino(self.fs.clone(), ino).map_err(number)
     }
 
+    /// Opens an inode that is there; the original opens any.
     pub fn open_dir(&mut self, ino: u32) {
-        let handle = self.dir(ino);
-        self.dirs.entry(ino).or_default().push(handle);
+        self.try_open_dir(ino).unwrap();
     }
     pub fn open_file(&mut self, ino: u32) {
-        let handle = self.file(ino);
+        self.try_open_file(ino).unwrap();
+    }
+    pub fn try_open_dir(&mut self, ino: u32) -> Result<(), u32> {
+        let handle = self.dir(ino)?;
+        self.dirs.entry(ino).or_default().push(handle);
+        Ok(())
+    }
+    pub fn try_open_file(&mut self, ino: u32) -> Result<(), u32> {
+        let handle = self.file(ino)?;
         self.files.entry(ino).or_default().push(handle);
+        Ok(())
     }
     /// Drops one of the handles that are held.
     pub fn close_dir(&mut self, ino: u32) {
@@ -98,11 +126,11 @@ impl Tables {
     }
 
     pub fn lookup_dir(&self, parent: u32, name: Name) -> Result<u32, u32> {
-        let found = self.dir(parent).open_sub_dir(name).map_err(number)?;
+        let found = self.dir(parent)?.open_sub_dir(name).map_err(number)?;
         Ok(found.get_ino())
     }
     pub fn lookup_file(&self, parent: u32, name: Name) -> Result<u32, u32> {
-        let found = self.dir(parent).open_sub_file(name).map_err(number)?;
+        let found = self.dir(parent)?.open_sub_file(name).map_err(number)?;
         Ok(found.get_ino())
     }
 
@@ -114,14 +142,14 @@ impl Tables {
             sub_file: 0xCCCC_CCCC,
             padding: u32::from_le_bytes(padding),
         };
-        let made = self.dir(parent).new_sub_dir(name, info).map_err(number)?;
+        let made = self.dir(parent)?.new_sub_dir(name, info).map_err(number)?;
         let ino = made.get_ino();
         self.dirs.entry(ino).or_default().push(made);
         Ok(ino)
     }
     pub fn make_file(&mut self, parent: u32, name: Name, carried: [u8; 20]) -> Result<u32, u32> {
         let info = FileRecord { next: 0xAAAA_AAAA, carried };
-        let made = self.dir(parent).new_sub_file(name, info).map_err(number)?;
+        let made = self.dir(parent)?.new_sub_file(name, info).map_err(number)?;
         let ino = made.get_ino();
         self.files.entry(ino).or_default().push(made);
         Ok(ino)
@@ -129,12 +157,12 @@ impl Tables {
 
     /// By a handle that is held.
     pub fn rename_dir(&mut self, ino: u32, parent: u32, name: Name) -> Result<(), u32> {
-        let parent = self.dir(parent);
+        let parent = self.dir(parent)?;
         let handle = self.dirs.get_mut(&ino).unwrap().last_mut().unwrap();
         handle.rename(&parent, name).map_err(number)
     }
     pub fn rename_file(&mut self, ino: u32, parent: u32, name: Name) -> Result<(), u32> {
-        let parent = self.dir(parent);
+        let parent = self.dir(parent)?;
         let handle = self.files.get_mut(&ino).unwrap().last_mut().unwrap();
         handle.rename(&parent, name).map_err(number)
     }
@@ -151,17 +179,17 @@ impl Tables {
 
     /// Names and inodes in list order.
     pub fn list_dirs(&self, ino: u32) -> Result<Vec<(Name, u32)>, u32> {
-        self.dir(ino).list_sub_dir().map_err(number)
+        self.dir(ino)?.list_sub_dir().map_err(number)
     }
     pub fn list_files(&self, ino: u32) -> Result<Vec<(Name, u32)>, u32> {
-        self.dir(ino).list_sub_file().map_err(number)
+        self.dir(ino)?.list_sub_file().map_err(number)
     }
 
     pub fn dir_parent(&self, ino: u32) -> Result<u32, u32> {
-        self.dir(ino).get_parent_ino().map_err(number)
+        self.dir(ino)?.get_parent_ino().map_err(number)
     }
     pub fn file_parent(&self, ino: u32) -> Result<u32, u32> {
-        self.file(ino).get_parent_ino().map_err(number)
+        self.file(ino)?.get_parent_ino().map_err(number)
     }
 
     /// Total and free of directories, then of files.
@@ -171,17 +199,17 @@ impl Tables {
     }
 
     pub fn carried_file(&self, ino: u32) -> Result<[u8; 20], u32> {
-        Ok(self.file(ino).get_info().map_err(number)?.carried)
+        Ok(self.file(ino)?.get_info().map_err(number)?.carried)
     }
     /// Sets the carried bytes and leaves the link that stands there.
     pub fn set_carried_file(&self, ino: u32, carried: [u8; 20]) -> Result<(), u32> {
-        let mut info = self.file(ino).get_info().map_err(number)?;
+        let mut info = self.file(ino)?.get_info().map_err(number)?;
         info.carried = carried;
-        self.file(ino).set_info(info).map_err(number)
+        self.file(ino)?.set_info(info).map_err(number)
     }
     /// Sets the whole record, the link included, as the original allows.
     pub fn set_info_file(&self, ino: u32, next: u32, carried: [u8; 20]) -> Result<(), u32> {
         let info = FileRecord { next, carried };
-        self.file(ino).set_info(info).map_err(number)
+        self.file(ino)?.set_info(info).map_err(number)
     }
 }

@@ -4,10 +4,13 @@ use crate::fat::{Fat, FatFile};
 use crate::memory::Memory;
 use crate::number;
 use crate::random_access_file::RandomAccessFile;
+use crate::wire::Wire;
+use crate::Failure;
 use std::collections::HashMap;
 use std::rc::Rc;
 
 pub struct Volume {
+    wire: Rc<Wire>,
     table: Rc<Memory>,
     data: Rc<Memory>,
     fat: Rc<Fat>,
@@ -24,9 +27,35 @@ impl Volume {
     }
 
     pub fn open(table: &[u8], data: &[u8], block_len: usize) -> Result<Volume, u32> {
-        let (table, data) = (Rc::new(Memory::new(table)), Rc::new(Memory::new(data)));
+        let wire = Rc::default();
+        let (table, data) = (Memory::on(&wire, table, true), Memory::on(&wire, data, false));
+        Volume::over(wire, table, data, block_len)
+    }
+
+    /// A volume of which nothing was written yet but its formatted table.
+    pub fn unwritten(blocks: usize, block_len: usize) -> Result<Volume, u32> {
+        let wire = Rc::default();
+        let (table, data) = (Memory::unwritten(&wire, (blocks + 1) * 8), Memory::unwritten(&wire, blocks * block_len));
+        Fat::format(&table).map_err(number)?;
+        Volume::over(wire, table, data, block_len)
+    }
+
+    fn over(wire: Rc<Wire>, table: Memory, data: Memory, block_len: usize) -> Result<Volume, u32> {
+        let (table, data) = (Rc::new(table), Rc::new(data));
         let fat = Fat::new(table.clone(), data.clone(), block_len).map_err(number)?;
-        Ok(Volume { table, data, fat, handles: HashMap::new() })
+        Ok(Volume { wire, table, data, fat, handles: HashMap::new() })
+    }
+
+    /// From now on calls of both files fail as it is said, or no more.
+    pub fn fail(&self, failure: Option<Failure>) {
+        self.wire.fail(failure);
+    }
+    /// Notes from now on what is written to the table; `watched` gives places and lengths.
+    pub fn watch(&self) {
+        self.wire.watch();
+    }
+    pub fn watched(&self) -> Vec<(usize, usize)> {
+        self.wire.watched()
     }
 
     /// The same bytes seen anew: every handle is dropped.
