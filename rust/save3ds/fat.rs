@@ -208,37 +208,45 @@ impl FatFile {
         self.block_list[0] as usize
     }
 
-    /// Gives each block's share of a stretch to `each`: where it stands in the data, and which bytes of the stretch it is.
-    fn by_block(
-        &self,
-        pos: usize,
-        len: usize,
-        mut each: impl FnMut(usize, std::ops::Range<usize>) -> Result<(), Error>,
-    ) -> Result<(), Error> {
-        if pos.checked_add(len).is_none_or(|end| end > self.len()) {
-            return refuse(Refusal::OutOfBound);
-        }
-        let block_len = self.fat.block_len;
-        let (mut offset, mut done) = (pos % block_len, 0);
-        for &block in &self.block_list[pos / block_len..] {
-            if done == len {
-                break;
+    /// The blocks from a position on, and where in the first of them it is. Its end must be within the file.
+    fn blocks_at(&self, pos: usize, len: usize) -> Result<(&[u32], usize), Error> {
+        match pos.checked_add(len) {
+            Some(end) if end <= self.len() => {
+                let block_len = self.fat.block_len;
+                Ok((&self.block_list[pos / block_len..], pos % block_len))
             }
-            let share = (block_len - offset).min(len - done);
-            each(block as usize * block_len + offset, done..done + share)?;
-            (offset, done) = (0, done + share);
+            _ => refuse(Refusal::OutOfBound),
         }
-        Ok(())
     }
 }
 
 impl RandomAccessFile for FatFile {
-    fn read(&self, pos: usize, buf: &mut [u8]) -> Result<(), Error> {
-        self.by_block(pos, buf.len(), |at, share| self.fat.data.read(at, &mut buf[share]))
+    fn read(&self, pos: usize, mut buf: &mut [u8]) -> Result<(), Error> {
+        let (blocks, mut offset) = self.blocks_at(pos, buf.len())?;
+        let (data, block_len) = (self.fat.data.as_ref(), self.fat.block_len);
+        for &block in blocks {
+            if buf.is_empty() {
+                break;
+            }
+            let (share, rest) = buf.split_at_mut(buf.len().min(block_len - offset));
+            data.read(block as usize * block_len + offset, share)?;
+            (buf, offset) = (rest, 0);
+        }
+        Ok(())
     }
 
-    fn write(&self, pos: usize, buf: &[u8]) -> Result<(), Error> {
-        self.by_block(pos, buf.len(), |at, share| self.fat.data.write(at, &buf[share]))
+    fn write(&self, pos: usize, mut buf: &[u8]) -> Result<(), Error> {
+        let (blocks, mut offset) = self.blocks_at(pos, buf.len())?;
+        let (data, block_len) = (self.fat.data.as_ref(), self.fat.block_len);
+        for &block in blocks {
+            if buf.is_empty() {
+                break;
+            }
+            let (share, rest) = buf.split_at(buf.len().min(block_len - offset));
+            data.write(block as usize * block_len + offset, share)?;
+            (buf, offset) = (rest, 0);
+        }
+        Ok(())
     }
 
     fn len(&self) -> usize {

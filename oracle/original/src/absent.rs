@@ -91,3 +91,39 @@ absent! {
         fn set_info_file(&self, ino: u32, next: u32, carried: [u8; 20]) -> Result<(), u32>;
     }
 }
+
+pub mod speed {
+    pub const BLOCK_CALLS: [&str; 7] = [""; 7];
+    pub const TREE_CALLS: [&str; 4] = [""; 4];
+
+    pub struct BlockShape {
+        pub blocks: usize,
+        pub block_len: usize,
+        pub there: usize,
+        pub there_blocks: usize,
+        pub worn: bool,
+        pub files: usize,
+        pub file_blocks: usize,
+    }
+
+    pub struct TreeShape {
+        pub dirs: usize,
+        pub there: usize,
+        pub buckets: usize,
+        pub files: usize,
+    }
+
+    absent! {
+        Blocks {
+            fn new(shape: BlockShape) -> Blocks;
+            fn round(&self) -> [f64; 7];
+        }
+    }
+
+    absent! {
+        Tree {
+            fn new(shape: TreeShape) -> Tree;
+            fn round(&self) -> [f64; 4];
+        }
+    }
+}

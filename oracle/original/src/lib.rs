@@ -84,6 +84,8 @@ mod record;
 mod wire;
 
 #[cfg(original)]
+pub mod speed;
+#[cfg(original)]
 mod tables;
 #[cfg(original)]
 mod volume;
@@ -95,7 +97,7 @@ pub use volume::{Opened, Volume};
 #[cfg(not(original))]
 mod absent;
 #[cfg(not(original))]
-pub use absent::{Opened, Tables, Volume};
+pub use absent::{speed, Opened, Tables, Volume};
 
 /// Whether the original's source was there when this was built.
 pub const PRESENT: bool = cfg!(original);
