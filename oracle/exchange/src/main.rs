@@ -57,6 +57,7 @@ fn main() {
             histories(concat!($title, ": unwritten"), $subject::unwritten::run, seed, count / 4);
             histories(concat!($title, ": failing blocks"), $subject::failing::blocks, seed, count / 4);
             histories(concat!($title, ": failing tree"), $subject::failing::tree, seed, count / 4);
+            assert_eq!(::$subject::made_and_found(), Ok((1, 1)), "entries of other widths");
             println!("{}: {count} histories of each layer; {}", $title, $subject::failing::told());
         )*};
     }

@@ -36,6 +36,7 @@ absent! {
         fn fresh_list(&self, first: usize) -> Result<Vec<u32>, u32>;
         fn create(&mut self, count: usize) -> Result<usize, u32>;
         fn resize(&mut self, first: usize, count: usize) -> Result<(), u32>;
+        fn resize_apart(&self, first: usize, count: usize) -> Result<(), u32>;
         fn delete(&mut self, first: usize) -> Result<(), u32>;
         fn read(&mut self, first: usize, pos: usize, buf: &mut [u8]) -> Result<(), u32>;
         fn write(&mut self, first: usize, pos: usize, buf: &[u8]) -> Result<(), u32>;
@@ -90,6 +91,10 @@ absent! {
         fn set_carried_file(&self, ino: u32, carried: [u8; 20]) -> Result<(), u32>;
         fn set_info_file(&self, ino: u32, next: u32, carried: [u8; 20]) -> Result<(), u32>;
     }
+}
+
+pub fn made_and_found() -> Result<(u32, u32), u32> {
+    unreachable!("the original is not here")
 }
 
 pub mod speed {

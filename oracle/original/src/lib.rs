@@ -79,6 +79,8 @@ mod memory;
 #[cfg_attr(our_fat, allow(dead_code))]
 mod misc;
 #[cfg(original)]
+mod other_widths;
+#[cfg(original)]
 mod record;
 #[cfg(original)]
 mod wire;
@@ -90,6 +92,8 @@ mod tables;
 #[cfg(original)]
 mod volume;
 #[cfg(original)]
+pub use other_widths::made_and_found;
+#[cfg(original)]
 pub use tables::Tables;
 #[cfg(original)]
 pub use volume::{Opened, Volume};
@@ -97,7 +101,7 @@ pub use volume::{Opened, Volume};
 #[cfg(not(original))]
 mod absent;
 #[cfg(not(original))]
-pub use absent::{speed, Opened, Tables, Volume};
+pub use absent::{made_and_found, speed, Opened, Tables, Volume};
 
 /// Whether the original's source was there when this was built.
 pub const PRESENT: bool = cfg!(original);

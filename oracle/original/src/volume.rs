@@ -111,6 +111,10 @@ impl Volume {
     pub fn resize(&mut self, first: usize, count: usize) -> Result<(), u32> {
         self.handle(first)?.resize(count).map_err(number)
     }
+    /// By a second handle, which is then dropped: the kept one does not hear of it.
+    pub fn resize_apart(&self, first: usize, count: usize) -> Result<(), u32> {
+        FatFile::open(self.fat.clone(), first).and_then(|mut file| file.resize(count)).map_err(number)
+    }
     pub fn delete(&mut self, first: usize) -> Result<(), u32> {
         self.handle(first)?;
         self.handles.remove(&first).unwrap().delete().map_err(number)
