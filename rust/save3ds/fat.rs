@@ -131,9 +131,18 @@ impl Fat {
         self.kept.borrow().free()
     }
 
+    /// Volumes of other block lengths are not shipped: they can be read, and are not changed.
+    fn may_change(&self) -> Result<(), Error> {
+        match self.block_len {
+            512 | 4_096 => Ok(()),
+            _ => make_error(Error::Unsupported),
+        }
+    }
+
     /// Makes a change in the kept table and writes what it changed. Where a write fails the change is taken back, in
     /// memory and in the file.
     fn change<T>(&self, call: impl FnOnce(&mut BlockTable) -> Result<T, Refusal>) -> Result<T, Error> {
+        self.may_change()?;
         let mut kept = self.kept.borrow_mut();
         self.save_rest(&kept)?;
         let answer = call(&mut kept).or_else(refuse)?;
@@ -236,6 +245,7 @@ impl RandomAccessFile for FatFile {
     }
 
     fn write(&self, pos: usize, mut buf: &[u8]) -> Result<(), Error> {
+        self.fat.may_change()?;
         let (blocks, mut offset) = self.blocks_at(pos, buf.len())?;
         let (data, block_len) = (self.fat.data.as_ref(), self.fat.block_len);
         for &block in blocks {

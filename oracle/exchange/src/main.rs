@@ -53,6 +53,7 @@ fn main() {
     macro_rules! run {
         ($($subject:ident $title:literal)*) => {$(
             histories(concat!($title, ": blocks"), $subject::blocks::run, seed, count);
+            histories(concat!($title, ": odd block lengths"), $subject::blocks::odd, seed, count / 4);
             histories(concat!($title, ": tree"), $subject::tree::run, seed, count);
             histories(concat!($title, ": unwritten"), $subject::unwritten::run, seed, count / 4);
             histories(concat!($title, ": failing blocks"), $subject::failing::blocks, seed, count / 4);

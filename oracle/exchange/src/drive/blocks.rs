@@ -105,3 +105,27 @@ pub fn run(chance: &mut Chance) {
     }
     lists(&mut volume, &lent.table);
 }
+
+/// A volume of a block length that is not shipped is read as ever; ours does not change it.
+pub fn odd(chance: &mut Chance) {
+    let start = volumes::any_sound(chance);
+    let block_len = chance.pick(&[1, 3, 7, 64, 511, 513]);
+    let mut lent = volumes::volume(chance, start.table, block_len);
+    let mut volume = Volume::open(&lent.table, &lent.data, block_len).expect("a sound volume opens");
+    for _ in 0..20 {
+        let call = any_call(chance, &mut lent);
+        match call {
+            BlockCall::OpenList { .. } | BlockCall::Read { .. } | BlockCall::Test => step(&mut volume, &call, &mut lent),
+            BlockCall::Write { first, pos } if subject::OUR_FAT => {
+                let written = volume.write(first, pos, &lent.buf);
+                assert!(matches!(written, Err(20 | 4)), "{call:?}");
+            }
+            BlockCall::Create { .. } | BlockCall::Resize { .. } | BlockCall::Delete { .. } if subject::OUR_FAT => {
+                assert!(matches!(change(&mut volume, &call), Err(20 | 4)), "{call:?}");
+            }
+            _ => (),
+        }
+        assert!(volume.holds(&lent.table, &lent.data), "other bytes after {call:?}");
+    }
+    lists(&mut volume, &lent.table);
+}
