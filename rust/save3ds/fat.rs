@@ -88,6 +88,9 @@ pub struct Fat {
     /// The entries of which the file may hold something else, since a write failed. They are written before the next
     /// change.
     unsaved: RefCell<Vec<usize>>,
+    /// For each block how often a file that begins there was made or resized, so that a handle can tell whether its list
+    /// is of the file as it is now.
+    turns: RefCell<Vec<u32>>,
 }
 
 impl Fat {
@@ -123,8 +126,9 @@ impl Fat {
         if !(1..=MAX_BLOCK_LEN).contains(&block_len) {
             return refuse(Refusal::InvalidValue);
         }
-        let kept = BlockTable::open(read_table(table.as_ref(), blocks)?).or_else(refuse)?;
-        Ok(Rc::new(Fat { table, data, block_len, kept: RefCell::new(kept), unsaved: RefCell::default() }))
+        let kept = BlockTable::open(read_table(table.as_ref(), blocks)?, block_len).or_else(refuse)?;
+        let (kept, turns) = (RefCell::new(kept), RefCell::new(vec![0; blocks]));
+        Ok(Rc::new(Fat { table, data, block_len, kept, unsaved: RefCell::default(), turns }))
     }
 
     pub fn free_blocks(&self) -> usize {
@@ -158,6 +162,13 @@ impl Fat {
         Ok(answer)
     }
 
+    /// Counts that the file at a block was made or resized.
+    fn turn(&self, first: usize) -> u32 {
+        let turn = &mut self.turns.borrow_mut()[first];
+        *turn = turn.wrapping_add(1);
+        *turn
+    }
+
     fn save(&self, kept: &BlockTable, entry: usize) -> Result<(), Error> {
         let at = entry * ENTRY;
         self.table.write(at, &kept.bytes()[at..at + ENTRY])
@@ -179,13 +190,16 @@ pub struct FatFile {
     fat: Rc<Fat>,
     /// The file's blocks, in chain order; there is at least one.
     block_list: Vec<u32>,
+    /// The turn of the file that they are of.
+    turn: u32,
 }
 
 impl FatFile {
     /// Opens the file at the specific block index. A block that begins no file is `BrokenFat`.
     pub fn open(fat: Rc<Fat>, first_block: usize) -> Result<FatFile, Error> {
         let block_list = fat.kept.borrow().open_list(first_block).or_else(refuse)?;
-        Ok(FatFile { fat, block_list })
+        let turn = fat.turns.borrow()[first_block];
+        Ok(FatFile { fat, block_list, turn })
     }
 
     /// Allocates a new file in `Fat` and returns its handle and block index.
@@ -193,7 +207,8 @@ impl FatFile {
         let first = fat.change(|kept| kept.create(block_count))?;
         let mut block_list = vec![];
         fat.kept.borrow().complete(first, &mut block_list).or_else(refuse)?;
-        Ok((FatFile { fat, block_list }, first))
+        let turn = fat.turn(first);
+        Ok((FatFile { fat, block_list, turn }, first))
     }
 
     /// Releases the space this file holds.
@@ -204,12 +219,12 @@ impl FatFile {
     /// Allocates more blocks for the file or releases some blocks.
     pub fn resize(&mut self, block_count: usize) -> Result<(), Error> {
         let first = self.first();
-        let before = self.fat.kept.borrow().block_count(first);
         self.fat.change(|kept| kept.resize(first, block_count))?;
-        // Another handle may have made the file shorter and longer since this one's list was read.
-        if before != Ok(self.block_list.len()) {
+        // Another handle may have changed the file since this one's list was read.
+        if self.fat.turns.borrow()[first] != self.turn {
             self.block_list.clear();
         }
+        self.turn = self.fat.turn(first);
         self.fat.kept.borrow().complete(first, &mut self.block_list).or_else(refuse)
     }
 

@@ -151,7 +151,6 @@ pub struct Ticket {
     pub store: Rc<Store>,
     kind: Kind,
     pub ino: u32,
-    held: bool,
 }
 
 impl Ticket {
@@ -163,7 +162,7 @@ impl Ticket {
 
     /// An entry that is open for this ticket.
     fn held(store: &Rc<Store>, kind: Kind, ino: u32) -> Ticket {
-        Ticket { store: store.clone(), kind, ino, held: true }
+        Ticket { store: store.clone(), kind, ino }
     }
 
     pub fn make_dir(store: &Rc<Store>, parent: u32, name: &Name, carried: &[u8; 4]) -> Result<Ticket, Error> {
@@ -189,10 +188,8 @@ impl Ticket {
     }
 
     /// Deletes the entry, and its open with it. Where this is refused the open is given back.
-    pub fn delete(mut self) -> Result<(), Error> {
-        self.store.change(|kept| kept.delete(self.kind, self.ino))?;
-        self.held = false;
-        Ok(())
+    pub fn delete(self) -> Result<(), Error> {
+        self.store.change(|kept| kept.delete(self.kind, self.ino))
     }
 
     /// Whether this is the entry's only open.
@@ -210,9 +207,7 @@ impl Ticket {
 
 impl Drop for Ticket {
     fn drop(&mut self) {
-        if self.held {
-            // It is open, and so there: this is not refused.
-            let _ = self.store.kept.borrow_mut().close_inode(self.kind, self.ino);
-        }
+        // Refused where the entry was deleted, and its open with it.
+        let _ = self.store.kept.borrow_mut().close_inode(self.kind, self.ino);
     }
 }

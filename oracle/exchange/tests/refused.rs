@@ -54,6 +54,11 @@ fn broken_tables_when_opened() {
     assert_eq!(Volume::format(&mut [0; 20]), Err(1));
     assert_eq!(Volume::format(&mut [0; 8]), Err(2));
 
+    for (hash, dir_max, number) in [(0, 2, 1), (5, 2, 1), (4, 1, 2), (4, 5, 1)] {
+        let before = [vec![7; hash], vec![7; 160], vec![7; 4], vec![7; 48]];
+        let (answer, four) = Tables::format(before.each_ref().map(|bytes| &bytes[..]), dir_max, 1);
+        assert_eq!((answer, four), (Err(number), before));
+    }
     let mut four = tables().four();
     four[0][0] = 9;
     assert_eq!(Tables::open(four.each_ref().map(|bytes| &bytes[..])).err(), Some(2));
@@ -89,6 +94,12 @@ fn a_second_handle() {
     assert_eq!(volume.list(first), Ok(vec![0, 2]));
     assert_eq!(volume.fresh_list(first), Ok(vec![0, 2]));
     assert_eq!(volume.free(), 3);
+    // As many blocks as it knows of, and others: block 2 goes to another file in between.
+    volume.resize_apart(first, 1).unwrap();
+    volume.create(1).unwrap();
+    volume.resize_apart(first, 2).unwrap();
+    volume.resize(first, 3).unwrap();
+    assert_eq!(volume.list(first), Ok(vec![0, 3, 4]));
 }
 
 #[test]

@@ -39,7 +39,7 @@ fn blocks() {
     for seed in 0..300 {
         let mut numbers = Numbers(seed);
         let mut file = volume(1 + numbers.below(40), 2, 1).into_parts().fat;
-        let mut table = BlockTable::open(file.clone()).unwrap();
+        let mut table = BlockTable::open(file.clone(), 512).unwrap();
         let mut firsts = vec![];
         for _ in 0..60 {
             let (before, free) = (table.clone(), table.free());
@@ -68,17 +68,21 @@ fn blocks() {
                 assert_eq!(again, list);
             }
         }
-        let again = BlockTable::open(file).unwrap();
+        let again = BlockTable::open(file, 512).unwrap();
         assert_eq!(again.free(), table.free());
     }
 }
 
 #[test]
 fn blocks_refused() {
-    assert_eq!(BlockTable::open(vec![0; 12]).unwrap_err(), Refusal::SizeMismatch);
-    assert_eq!(BlockTable::open(vec![0; 8]).unwrap_err(), Refusal::InvalidValue);
-    assert_eq!(BlockTable::open(vec![0; 16]).unwrap_err(), Refusal::BrokenFat);
-    let mut table = BlockTable::open(volume(4, 2, 1).into_parts().fat).unwrap();
+    assert_eq!(BlockTable::open(vec![0; 12], 512).unwrap_err(), Refusal::SizeMismatch);
+    assert_eq!(BlockTable::open(vec![0; 8], 512).unwrap_err(), Refusal::InvalidValue);
+    assert_eq!(BlockTable::open(vec![0; 16], 512).unwrap_err(), Refusal::BrokenFat);
+    for block_len in [0, 65_537] {
+        let opened = BlockTable::open(volume(4, 2, 1).into_parts().fat, block_len);
+        assert_eq!(opened.unwrap_err(), Refusal::InvalidValue);
+    }
+    let mut table = BlockTable::open(volume(4, 2, 1).into_parts().fat, 512).unwrap();
     assert_eq!(table.create(5), Err(Refusal::NoSpace));
     assert_eq!(table.resize(0, 1), Err(Refusal::NotAFile));
     assert_eq!(table.delete(0), Err(Refusal::NotAFile));

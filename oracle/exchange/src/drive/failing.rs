@@ -1,5 +1,5 @@
 //! Files that fail at each call in turn, once or from then on, with nothing or half of the bytes written: the call is answered with the failure, tables in
-//! memory are as before it, and so are the files as soon as they can be written. Then the same call is made again, and does what it should.
+//! memory are as before it, and so are the files as soon as they can be written. Then the same call is made again, or another, and does what it should.
 //!
 //! The original leaves half a change behind, so that this is asked of our modules alone.
 
@@ -47,8 +47,11 @@ pub fn blocks(chance: &mut Chance) {
     let mut lent = volumes::any_sound(chance);
     for _ in 0..6 {
         let call = block_history::any_call(chance, &mut lent);
-        if let BlockCall::Create { .. } | BlockCall::Resize { .. } | BlockCall::Delete { .. } = call {
-            each_in_turn(|failure| one_block_call(&lent, &call, failure));
+        if changes_blocks(&call) {
+            let other = another(|| block_history::any_call(chance, &mut lent.clone()), |other| changed_by(&lent, other));
+            for next in [&call, other.as_ref().unwrap_or(&call)] {
+                each_in_turn(|failure| one_block_call(&lent, &call, next, failure));
+            }
             Stated.block_call(&call, &mut lent);
         }
     }
@@ -56,10 +59,30 @@ pub fn blocks(chance: &mut Chance) {
     writing(chance, &lent);
 }
 
-fn one_block_call(lent: &Blocks, call: &BlockCall, failure: Failure) -> bool {
+fn changes_blocks(call: &BlockCall) -> bool {
+    matches!(call, BlockCall::Create { .. } | BlockCall::Resize { .. } | BlockCall::Delete { .. })
+}
+
+/// Whether a call changes the table.
+fn changed_by(lent: &Blocks, call: &BlockCall) -> bool {
+    let mut after = lent.clone();
+    changes_blocks(call) && Stated.block_call(call, &mut after).number == 0 && after.table != lent.table
+}
+
+/// A call that will do, if one comes soon.
+fn another<T>(mut any: impl FnMut() -> T, will_do: impl Fn(&T) -> bool) -> Option<T> {
+    (0..20).map(|_| any()).find(will_do)
+}
+
+/// What the rules answer, and the volume afterwards.
+fn stated(lent: &Blocks, call: &BlockCall) -> (Result<usize, u32>, Blocks) {
     let mut after = lent.clone();
     let answered = Stated.block_call(call, &mut after);
-    let wanted = blocks::named(answered.number).map(|()| answered.fields[0] as usize);
+    (blocks::named(answered.number).map(|()| answered.fields[0] as usize), after)
+}
+
+/// A call that fails, and the next one, which does not.
+fn one_block_call(lent: &Blocks, call: &BlockCall, next: &BlockCall, failure: Failure) -> bool {
     let mut volume = Volume::open(&lent.table, &lent.data, lent.block_len).unwrap();
     blocks::lists(&mut volume, &lent.table);
     volume.fail(Some(failure));
@@ -69,11 +92,11 @@ fn one_block_call(lent: &Blocks, call: &BlockCall, failure: Failure) -> bool {
     if failed {
         assert!(failure.lasting || volume.holds(&lent.table, &lent.data), "{call:?}, {failure:?}: the file is another");
         blocks::lists(&mut volume, &lent.table);
-        assert_eq!(blocks::change(&mut volume, call), wanted, "{call:?} again after {failure:?}");
-    } else {
-        assert_eq!(answer, wanted, "{call:?}");
     }
-    assert!(volume.holds(&after.table, &after.data), "{call:?} after {failure:?}");
+    let (last, answer) = if failed { (next, blocks::change(&mut volume, next)) } else { (call, answer) };
+    let (wanted, after) = stated(lent, last);
+    assert_eq!(answer, wanted, "{last:?} after {failure:?} of {call:?}");
+    assert!(volume.holds(&after.table, &after.data), "{last:?} after {failure:?} of {call:?}");
     blocks::lists(&mut volume, &after.table);
     failed
 }
@@ -117,7 +140,11 @@ pub fn tree(chance: &mut Chance) {
     let (mut lent, _, held) = tree::begin(chance);
     for _ in 0..6 {
         let call = tree_history::any_call(chance, &mut lent);
-        each_in_turn(|failure| one_tree_call(&lent, &held, &call, failure));
+        let other =
+            another(|| tree_history::any_call(chance, &mut lent.clone()), |other| changed_tables(&lent, &held, other));
+        for next in [&call, other.as_ref().unwrap_or(&call)] {
+            each_in_turn(|failure| one_tree_call(&lent, &held, &call, next, failure));
+        }
     }
     each_in_turn(|failure| opening_tree(&lent, failure));
 }
@@ -132,7 +159,15 @@ fn changes(call: &TreeCall, held: &tree::Held) -> bool {
     }
 }
 
-fn one_tree_call(lent: &Tree, held: &tree::Held, call: &TreeCall, failure: Failure) -> bool {
+/// Whether a call changes the tables.
+fn changed_tables(lent: &Tree, held: &tree::Held, call: &TreeCall) -> bool {
+    let mut after = lent.clone();
+    tree::note(&mut after, held);
+    changes(call, held) && Stated.tree_call(call, &mut after).number == 0 && after.four() != lent.four()
+}
+
+/// A call that fails, and the next one, which does not.
+fn one_tree_call(lent: &Tree, held: &tree::Held, call: &TreeCall, next: &TreeCall, failure: Failure) -> bool {
     if !changes(call, held) {
         return false;
     }
@@ -158,7 +193,7 @@ fn one_tree_call(lent: &Tree, held: &tree::Held, call: &TreeCall, failure: Failu
         }
     }
     if failed {
-        tree::step(&mut tables, &mut held_now, call, &mut lent);
+        tree::step(&mut tables, &mut held_now, next, &mut lent);
         tree::lists(&tables, &lent);
     }
     failed

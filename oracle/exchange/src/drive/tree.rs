@@ -231,7 +231,20 @@ pub fn begin(chance: &mut Chance) -> (Tree, Tables, Held) {
     (lent, tables, held)
 }
 
+/// Format over any bytes.
+fn formats(chance: &mut Chance) {
+    let (dir_max, file_max) = (chance.within(2, 5), chance.within(1, 5));
+    let lens = [4 * chance.within(1, 7), 40 * dir_max + chance.below(4), 4 * chance.within(1, 7), 48 * file_max];
+    let [dir_hash, dir_table, file_hash, file_table] = lens.map(|len| chance.bytes(len));
+    let mut lent = Tree { dir_hash, dir_table, file_hash, file_table, ..Tree::default() };
+    let (answer, four) = Tables::format(lent.four(), dir_max, file_max);
+    assert_eq!(Stated.tree_call(&TreeCall::Format { dir_max, file_max }, &mut lent).number, 0);
+    assert_eq!(answer, Ok(()));
+    assert!(four.iter().zip(lent.four()).all(|(ours, rules)| ours == rules), "formatted otherwise");
+}
+
 pub fn run(chance: &mut Chance) {
+    formats(chance);
     let (mut lent, mut tables, mut held) = begin(chance);
     for _ in 0..chance.within(1, 60) {
         let call = any_call(chance, &mut lent);

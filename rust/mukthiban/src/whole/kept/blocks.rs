@@ -1,6 +1,6 @@
 use super::smallest;
 use crate::chains::{free_front, node};
-use crate::fat::{self, MAX_BLOCKS};
+use crate::fat::{self, MAX_BLOCKS, MAX_BLOCK_LEN};
 use crate::refusal::Refusal;
 use crate::whole::counts::count_files;
 use crate::whole::Volume;
@@ -15,7 +15,7 @@ use std::fmt;
 /// use mukthiban::{fat, BlockTable, Refusal};
 /// let mut file = vec![0; 8 * 5];
 /// fat::format(&mut file)?;
-/// let mut table = BlockTable::open(file.clone())?;
+/// let mut table = BlockTable::open(file.clone(), 512)?;
 ///
 /// let first = table.create(3)?;
 /// for &entry in table.changed() {
@@ -58,12 +58,16 @@ impl fmt::Debug for BlockTable {
 }
 
 impl BlockTable {
-    /// Tests a table and takes it over.
-    pub fn open(table: Vec<u8>) -> Result<BlockTable, Refusal> {
+    /// Tests a table and takes it over. The length of the blocks, wherever they are, is looked at as every block call does.
+    pub fn open(table: Vec<u8>, block_len: usize) -> Result<BlockTable, Refusal> {
         // A table beyond the bounds is refused before the work list is looked at.
         let mut work = vec![0; (table.len() / 8).saturating_sub(1).min(MAX_BLOCKS)];
         let tested = fat::test(&table, &mut work)?;
+        if !(1..=MAX_BLOCK_LEN).contains(&block_len) {
+            return Err(Refusal::InvalidValue);
+        }
         let mut volume = smallest();
+        volume.parts.block_len = block_len;
         volume.counts = count_files(&table, tested);
         volume.free = tested.free;
         volume.parts.data = vec![];
@@ -103,7 +107,7 @@ impl BlockTable {
     /// # use mukthiban::{fat, BlockTable};
     /// # let mut file = vec![0; 8 * 9];
     /// # fat::format(&mut file)?;
-    /// let mut table = BlockTable::open(file)?;
+    /// let mut table = BlockTable::open(file, 512)?;
     /// let (one, two) = (table.create(2)?, table.create(1)?);
     /// let mut list = table.open_list(one)?;
     /// table.resize(one, 4)?;
