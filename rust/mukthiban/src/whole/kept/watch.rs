@@ -190,7 +190,7 @@ fn word(bytes: &[u8], at: usize) -> u32 {
     u32::from_le_bytes(bytes[at..at + 4].try_into().expect("4 bytes"))
 }
 
-/// Where a key's bucket stands among the buckets (RULES 4.3).
+/// Where a key's bucket stands among the buckets (RULES 5.3).
 fn bucket(buckets: &[u8], parent: u32, name: &Name) -> usize {
     let mut hash = 0x1234_5678u32.rotate_right(1) ^ parent;
     for at in [0, 4, 8, 12] {
