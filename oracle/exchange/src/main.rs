@@ -1,5 +1,5 @@
-//! `exchange short` or `exchange long [seed]`: the modules of `rust/save3ds` in the original's place, each alone and all together, driven through the original's
-//! own interface by the histories of the comparison. It ends at the first difference.
+//! `exchange short` or `exchange long [seed]`: the modules of `rust/save3ds` in the original's place, each alone and all together, driven through its own
+//! interface by the histories of the comparison. It ends at the first difference.
 //!
 //! One text, `drive/`, is compiled for each of five crates: the original's modules, ours one by one, and all of ours.
 

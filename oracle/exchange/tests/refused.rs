@@ -1,5 +1,5 @@
-//! What the modules of `rust/save3ds` refuse, by the smallest inputs: where they differ from the original, as docs/SAVE3DS.md lists. Where the original's source
-//! is not at hand they can't be compiled, and nothing is run.
+//! What the modules of `rust/save3ds` refuse, by the smallest inputs: where they differ from the original, as docs/SAVE3DS.md lists. Where its source is not at
+//! hand they can't be compiled, and nothing is run.
 
 use exchanged_all::{Tables, Volume, PRESENT};
 use rules::put_word;

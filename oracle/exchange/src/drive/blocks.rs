@@ -72,10 +72,14 @@ pub fn step(volume: &mut Volume, call: &BlockCall, lent: &mut Blocks) {
     assert!(volume.holds(&lent.table, &lent.data), "other bytes after {call:?}");
     let written = volume.watched();
     if subject::OUR_FAT && *call != BlockCall::Format {
-        // Each entry that changed is written once, and no other.
-        let changed = (0..before.len() / 8).filter(|e| before[e * 8..e * 8 + 8] != lent.table[e * 8..e * 8 + 8]);
-        assert_eq!(written, changed.map(|e| (e * 8, 8)).collect::<Vec<_>>(), "{call:?}");
+        assert_eq!(written, changed(&before, &lent.table), "{call:?}");
     }
+}
+
+/// Each entry that changed, once, as a place and a length.
+fn changed(before: &[u8], after: &[u8]) -> Vec<(usize, usize)> {
+    let entries = (0..before.len()).step_by(8);
+    entries.filter(|&at| before[at..at + 8] != after[at..at + 8]).map(|at| (at, 8)).collect()
 }
 
 /// Every file's list, by a kept handle and by a fresh one, and the free blocks.

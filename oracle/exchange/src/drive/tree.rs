@@ -141,13 +141,6 @@ fn compare(tables: &mut Tables, held: &mut Held, call: &TreeCall, answered: &Ans
     let (wanted, field) = (named(answered.number), answered.fields[0] as u32);
     let handle = |held: &Held, kind: Kind, inode: u32| held.get(&(is_file(kind), inode)).is_some_and(|h| *h > 0);
     match *call {
-        TreeCall::Lookup { kind, parent, name } => {
-            let found = match kind {
-                Kind::Dir => tables.lookup_dir(parent, name),
-                Kind::File => tables.lookup_file(parent, name),
-            };
-            assert_eq!(found, wanted.map(|()| field), "{call:?}");
-        }
         TreeCall::Make { kind, .. } => {
             assert_eq!(change(tables, call), wanted.map(|()| field), "{call:?}");
             if wanted.is_ok() {
@@ -162,6 +155,26 @@ fn compare(tables: &mut Tables, held: &mut Held, call: &TreeCall, answered: &Ans
             // The handle is used up, whatever the answer.
             *held.get_mut(&(is_file(kind), inode)).unwrap() -= 1;
         }
+        TreeCall::SetCarried { kind: Kind::File, .. } => {
+            assert_eq!(change(tables, call), wanted.map(|()| 0), "{call:?}")
+        }
+        // Not in the interface: what it leaves is given to the modules.
+        TreeCall::SetCarried { kind: Kind::Dir, .. } if wanted.is_ok() => renew(tables, held, lent),
+        _ => compare_asked(tables, call, answered, lent),
+    }
+}
+
+/// The calls that change nothing.
+fn compare_asked(tables: &Tables, call: &TreeCall, answered: &Answered, lent: &Tree) {
+    let (wanted, field) = (named(answered.number), answered.fields[0] as u32);
+    match *call {
+        TreeCall::Lookup { kind, parent, name } => {
+            let found = match kind {
+                Kind::Dir => tables.lookup_dir(parent, name),
+                Kind::File => tables.lookup_file(parent, name),
+            };
+            assert_eq!(found, wanted.map(|()| field), "{call:?}");
+        }
         TreeCall::List { kind, inode } => {
             let listed = match kind {
                 Kind::Dir => tables.list_dirs(inode),
@@ -174,11 +187,6 @@ fn compare(tables: &mut Tables, held: &mut Held, call: &TreeCall, answered: &Ans
         TreeCall::Carried { kind: Kind::File, inode } => {
             assert_eq!(tables.carried_file(inode), wanted.map(|()| answered.bytes), "{call:?}");
         }
-        TreeCall::SetCarried { kind: Kind::File, .. } => {
-            assert_eq!(change(tables, call), wanted.map(|()| 0), "{call:?}")
-        }
-        // Not in the interface: what it leaves is given to the modules.
-        TreeCall::SetCarried { kind: Kind::Dir, .. } if wanted.is_ok() => renew(tables, held, lent),
         _ => (),
     }
 }
