@@ -115,26 +115,15 @@ impl Watch {
         let at = inode as usize * width;
         let Some(key) = entries.get(at..at + 20) else { return false };
         let (parent, name) = (word(key, 0), key[4..].try_into().expect("16 bytes"));
-        // Each list ends, and holds live entries: the tables are sound.
-        let (mut part, mut place) = (buckets, bucket(buckets.of(parts), parent, name));
-        loop {
-            match word(part.of(parts), place) {
-                0 => return false,
-                named if named == inode => break,
-                named => (part, place) = (table, named as usize * width + width - 4),
-            }
-        }
+        let front = (buckets, bucket(buckets.of(parts), parent, name));
+        let Some((part, place)) = naming(parts, front, table, width, width - 4, inode) else { return false };
         self.stretch(parts, part, place, 4);
-        (part, place) = (Part::DirTable, parent as usize * DIR_WIDTH + child);
-        // The root is in no list.
-        while parent != 0 {
-            match word(part.of(parts), place) {
-                named if named == inode => break,
-                named => (part, place) = (table, named as usize * width + 20),
-            }
-        }
+        // The root is in no directory's list.
+        let front = (Part::DirTable, parent as usize * DIR_WIDTH + child);
         if parent != 0 {
-            self.stretch(parts, part, place, 4);
+            if let Some((part, place)) = naming(parts, front, table, width, 20, inode) {
+                self.stretch(parts, part, place, 4);
+            }
         }
         true
     }
@@ -183,6 +172,26 @@ impl Watch {
             from += len;
         }
         self.clear();
+    }
+}
+
+/// The place that names an inode in a list of live entries, from the list's front on; each entry's link is at `link`. The
+/// list ends, since the tables are sound.
+fn naming(
+    parts: &Parts,
+    front: (Part, usize),
+    table: Part,
+    width: usize,
+    link: usize,
+    inode: u32,
+) -> Option<(Part, usize)> {
+    let (mut part, mut place) = front;
+    loop {
+        match word(part.of(parts), place) {
+            0 => return None,
+            named if named == inode => return Some((part, place)),
+            named => (part, place) = (table, named as usize * width + link),
+        }
     }
 }
 
