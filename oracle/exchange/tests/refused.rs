@@ -188,6 +188,11 @@ fn deletes_that_are_refused() {
     assert_eq!(tables.delete_dir(1), Err(13));
     assert_eq!((tables.dir_opens(1), tables.dir_opens(2)), (0, 0));
     assert_eq!(tables.delete_file(1), Ok(()));
+    // Any handle renames, and the only one that is left deletes: here the second of two.
     tables.open_dir(2);
+    tables.open_dir(2);
+    assert_eq!(tables.rename_dir(2, 1, name(b'c')), Ok(()));
+    tables.close_dir(2);
+    assert_eq!(tables.rename_dir(2, 1, name(b'd')), Ok(()));
     assert_eq!(tables.delete_dir(2), Ok(()));
 }

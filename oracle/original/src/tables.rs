@@ -111,12 +111,12 @@ impl Tables {
         self.files.entry(ino).or_default().push(handle);
         Ok(())
     }
-    /// Drops one of the handles that are held.
+    /// Drops the oldest of the handles that are held.
     pub fn close_dir(&mut self, ino: u32) {
-        self.dirs.get_mut(&ino).unwrap().pop().unwrap();
+        self.dirs.get_mut(&ino).unwrap().remove(0);
     }
     pub fn close_file(&mut self, ino: u32) {
-        self.files.get_mut(&ino).unwrap().pop().unwrap();
+        self.files.get_mut(&ino).unwrap().remove(0);
     }
     pub fn dir_opens(&self, ino: u32) -> u32 {
         self.fs.dir_opens(ino)
