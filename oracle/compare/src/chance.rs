@@ -1,5 +1,6 @@
 //! A small generator of numbers that repeats from its seed.
 
+#[derive(Clone)]
 pub struct Chance {
     state: u64,
 }

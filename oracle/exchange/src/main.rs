@@ -19,6 +19,8 @@ macro_rules! driven {
             pub mod failing;
             #[path = "unwritten.rs"]
             pub mod unwritten;
+            #[path = "save.rs"]
+            pub mod save;
         }
     )*};
 }
@@ -26,12 +28,20 @@ macro_rules! driven {
 driven!(original exchanged_fat exchanged_meta exchanged_common exchanged_all);
 
 /// Random histories, each from a seed of its own, so that one can be run again alone.
-fn histories(name: &str, run: fn(&mut Chance), seed: u64, count: u64) {
+fn histories(name: &str, run: impl Fn(&mut Chance) + std::panic::RefUnwindSafe, seed: u64, count: u64) {
     for case in 0..count {
         if std::panic::catch_unwind(|| run(&mut Chance::of_case(seed, case))).is_err() {
             eprintln!("DIFFERENCE in {name}, history {case} of seed {seed}");
             std::process::exit(1);
         }
+    }
+}
+
+/// A whole save, with the modules that are in its place and with the original's: answers and bytes, step by step.
+fn alike(run: fn(&mut Chance) -> Vec<u64>) -> impl Fn(&mut Chance) {
+    move |chance| {
+        let mut again = chance.clone();
+        assert_eq!(run(chance), original::save::run(&mut again), "the steps of a save");
     }
 }
 
@@ -55,6 +65,7 @@ fn main() {
             histories(concat!($title, ": blocks"), $subject::blocks::run, seed, count);
             histories(concat!($title, ": odd block lengths"), $subject::blocks::odd, seed, count / 4);
             histories(concat!($title, ": tree"), $subject::tree::run, seed, count);
+            histories(concat!($title, ": save"), alike($subject::save::run), seed, count / 4);
             histories(concat!($title, ": unwritten"), $subject::unwritten::run, seed, count / 4);
             histories(concat!($title, ": failing blocks"), $subject::failing::blocks, seed, count / 4);
             histories(concat!($title, ": failing tree"), $subject::failing::tree, seed, count / 4);

@@ -93,6 +93,22 @@ absent! {
     }
 }
 
+absent! {
+    Save {
+        fn new(blocks: usize, dirs: usize, files: usize, buckets: usize) -> Result<Save, u32>;
+        fn reopen(&mut self) -> Result<(), u32>;
+        fn bytes(&self) -> [Vec<u8>; 4];
+        fn free(&self) -> usize;
+        fn mkdir(&self, path: &[Name]) -> Result<(), u32>;
+        fn put(&self, path: &[Name], bytes: &[u8]) -> Result<(), u32>;
+        fn get(&self, path: &[Name]) -> Result<Vec<u8>, u32>;
+        fn remove(&self, path: &[Name]) -> Result<(), u32>;
+        fn rmdir(&self, path: &[Name]) -> Result<(), u32>;
+        fn rename(&self, path: &[Name], to: &[Name]) -> Result<(), u32>;
+        fn list(&self, path: &[Name]) -> Result<[Vec<Name>; 2], u32>;
+    }
+}
+
 pub fn made_and_found() -> Result<(u32, u32), u32> {
     unreachable!("the original is not here")
 }

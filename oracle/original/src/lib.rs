@@ -86,6 +86,8 @@ mod record;
 mod wire;
 
 #[cfg(original)]
+mod save;
+#[cfg(original)]
 pub mod speed;
 #[cfg(original)]
 mod tables;
@@ -94,6 +96,8 @@ mod volume;
 #[cfg(original)]
 pub use other_widths::made_and_found;
 #[cfg(original)]
+pub use save::Save;
+#[cfg(original)]
 pub use tables::Tables;
 #[cfg(original)]
 pub use volume::{Opened, Volume};
@@ -101,7 +105,7 @@ pub use volume::{Opened, Volume};
 #[cfg(not(original))]
 mod absent;
 #[cfg(not(original))]
-pub use absent::{made_and_found, speed, Opened, Tables, Volume};
+pub use absent::{made_and_found, speed, Opened, Save, Tables, Volume};
 
 /// Whether the original's source was there when this was built.
 pub const PRESENT: bool = cfg!(original);
