@@ -137,7 +137,7 @@ impl BlockTable {
         let free = self.free();
         let first = self.volume.create(block_count)?;
         self.counted = Some(Counted { first, blocks: 0, free });
-        self.note_along(first, None);
+        self.note_last(first, None);
         self.note_front();
         Ok(first)
     }
@@ -149,7 +149,9 @@ impl BlockTable {
         let blocks = self.volume.block_count(first_block).unwrap_or(0);
         self.volume.resize(first_block, block_count)?;
         self.counted = Some(Counted { first: first_block, blocks: blocks as u32, free });
-        self.note_along(self.node_of(first_block, blocks.min(block_count)), None);
+        let kept = self.node_of(first_block, blocks.min(block_count));
+        self.note_first(kept);
+        self.note_last(kept, None);
         if block_count < blocks {
             self.note_freed(front);
         }
@@ -165,7 +167,7 @@ impl BlockTable {
         self.volume.delete(first_block)?;
         self.counted = Some(Counted { first: first_block, blocks, free });
         self.note_freed(front);
-        self.note_front();
+        self.note(0);
         Ok(())
     }
 
@@ -220,35 +222,39 @@ impl BlockTable {
         }
     }
 
-    /// Notes the head, and the first two nodes of the free chain: create and grow leave there what they did not take.
+    /// Notes the head, and the first two nodes of the free chain: what create and grow did not take of it, or what shrink
+    /// cut off.
     fn note_front(&mut self) {
         self.note(0);
-        let Some(front) = free_front(self.bytes()) else { return };
-        self.note_node(front);
-        if let Some(second) = self.next(front) {
-            self.note_node(second);
+        if let Some(front) = free_front(self.bytes()) {
+            self.note_first(front);
         }
     }
 
-    /// Notes what was put before the former free front: of a chain that was cut off its first two nodes (these the front
-    /// has) and its last, and the former front, which is named from there.
+    /// Notes the last node that was put before the former free front, and that one, which names it.
     fn note_freed(&mut self, former: Option<usize>) {
         if let Some(front) = free_front(self.bytes()) {
-            self.note_along(front, former);
+            self.note_last(front, former);
         }
     }
 
-    /// Notes the first two nodes and the last two of a chain from a node on, up to a node in it or to its end.
-    fn note_along(&mut self, from: usize, to: Option<usize>) {
-        let (mut before, mut at) = (from, from);
+    /// Notes the first two nodes of a chain from a node on.
+    fn note_first(&mut self, from: usize) {
+        self.note_node(from);
         if let Some(second) = self.next(from) {
             self.note_node(second);
         }
+    }
+
+    /// Notes the last two nodes of a chain from a node on, up to a node in it or to its end.
+    fn note_last(&mut self, from: usize, to: Option<usize>) {
+        let (mut before, mut at) = (from, from);
         while let (false, Some(next)) = (Some(at) == to, self.next(at)) {
             (before, at) = (at, next);
         }
-        for start in [from, before, at] {
-            self.note_node(start);
+        self.note_node(before);
+        if at != before {
+            self.note_node(at);
         }
     }
 
