@@ -21,6 +21,7 @@ fn named(refusal: Refusal) -> Error {
         Refusal::BrokenFat | Refusal::NotAFile => Error::BrokenFat,
         Refusal::NoSpace => Error::NoSpace,
         Refusal::OutOfBound => Error::OutOfBound,
+        Refusal::ReadOnlyVolume => Error::Unsupported,
         _ => Error::InvalidValue,
     }
 }
@@ -135,18 +136,18 @@ impl Fat {
         self.kept.borrow().free()
     }
 
-    /// Volumes of other block lengths are not shipped: they can be read, and are not changed.
-    fn may_change(&self) -> Result<(), Error> {
+    /// Volumes of other block lengths are not shipped: they can be read, and are not changed. The proved calls see to it
+    /// for the table, this for the data.
+    fn may_write(&self) -> Result<(), Error> {
         match self.block_len {
             512 | 4_096 => Ok(()),
-            _ => make_error(Error::Unsupported),
+            _ => refuse(Refusal::ReadOnlyVolume),
         }
     }
 
     /// Makes a change in the kept table and writes what it changed. Where a write fails the change is taken back, in
     /// memory and in the file.
     fn change<T>(&self, call: impl FnOnce(&mut BlockTable) -> Result<T, Refusal>) -> Result<T, Error> {
-        self.may_change()?;
         let mut kept = self.kept.borrow_mut();
         self.save_rest(&kept)?;
         let answer = call(&mut kept).or_else(refuse)?;
@@ -260,7 +261,7 @@ impl RandomAccessFile for FatFile {
     }
 
     fn write(&self, pos: usize, mut buf: &[u8]) -> Result<(), Error> {
-        self.fat.may_change()?;
+        self.fat.may_write()?;
         let (blocks, mut offset) = self.blocks_at(pos, buf.len())?;
         let (data, block_len) = (self.fat.data.as_ref(), self.fat.block_len);
         for &block in blocks {

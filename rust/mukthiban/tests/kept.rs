@@ -84,6 +84,8 @@ fn blocks_refused() {
     }
     let mut table = BlockTable::open(volume(4, 2, 1).into_parts().fat, 512).unwrap();
     assert_eq!(table.create(5), Err(Refusal::NoSpace));
+    let mut odd = BlockTable::open(table.bytes().to_vec(), 511).unwrap();
+    assert_eq!(odd.create(1), Err(Refusal::ReadOnlyVolume));
     assert_eq!(table.resize(0, 1), Err(Refusal::NotAFile));
     assert_eq!(table.delete(0), Err(Refusal::NotAFile));
     assert_eq!(table.open_list(0), Err(Refusal::NotAFile));
