@@ -4,8 +4,8 @@ use super::{ParentedKey, KEY};
 use crate::error::*;
 use crate::random_access_file::*;
 use mukthiban::tree::{DIR_WIDTH, FILE_WIDTH, MAX_BUCKETS, MAX_ENTRIES};
-use mukthiban::{Change, EntryTables, Kind, Name, Part, Refusal};
-use std::cell::RefCell;
+use mukthiban::{Change, EntryTables, Kind, Name, Part, Refusal, Want};
+use std::cell::{Cell, RefCell};
 use std::rc::Rc;
 
 /// The longest hash.
@@ -146,33 +146,56 @@ fn read_entries(file: &dyn RandomAccessFile, width: usize) -> Result<Vec<u8>, Er
 
 /// An entry that is held open; dropping it gives the open back.
 ///
-/// This is the one place that knows how an open is noted: `hold`, `drop`, and what makes and deletes.
+/// The original's handles are all alike: any of them renames, and the only one of an entry deletes. Here an entry has one
+/// writer, and delete and rename need its open. So the first handle of an entry is its writer and the others are readers,
+/// and a reader becomes the writer where it is to rename or delete and there is none.
+///
+/// This is the one place that knows how an open is noted.
 pub struct Ticket {
     pub store: Rc<Store>,
     kind: Kind,
     pub ino: u32,
+    want: Cell<Want>,
 }
 
 impl Ticket {
     /// Opens an entry that is there.
     pub fn hold(store: &Rc<Store>, kind: Kind, ino: u32) -> Result<Ticket, Error> {
-        store.kept.borrow_mut().open_inode(kind, ino).or_else(refuse)?;
-        Ok(Ticket::held(store, kind, ino))
+        let mut kept = store.kept.borrow_mut();
+        let want = match kept.open_inode(kind, ino, Want::Writer) {
+            Err(Refusal::Busy) => kept.open_inode(kind, ino, Want::Reader).map(|()| Want::Reader),
+            other => other.map(|()| Want::Writer),
+        };
+        Ok(Ticket::held(store, kind, ino, want.or_else(refuse)?))
     }
 
     /// An entry that is open for this ticket.
-    fn held(store: &Rc<Store>, kind: Kind, ino: u32) -> Ticket {
-        Ticket { store: store.clone(), kind, ino }
+    fn held(store: &Rc<Store>, kind: Kind, ino: u32, want: Want) -> Ticket {
+        Ticket { store: store.clone(), kind, ino, want: Cell::new(want) }
+    }
+
+    /// Makes a reader the writer if there is none.
+    fn claim(&self) {
+        if self.want.get() == Want::Writer {
+            return;
+        }
+        // Its own open is given back first, so that there is room for another.
+        let mut kept = self.store.kept.borrow_mut();
+        let _ = kept.close_inode(self.kind, self.ino, Want::Reader);
+        match kept.open_inode(self.kind, self.ino, Want::Writer) {
+            Ok(()) => self.want.set(Want::Writer),
+            Err(_) => drop(kept.open_inode(self.kind, self.ino, Want::Reader)),
+        }
     }
 
     pub fn make_dir(store: &Rc<Store>, parent: u32, name: &Name, carried: &[u8; 4]) -> Result<Ticket, Error> {
         let ino = store.change(|kept| kept.make_dir(parent, name, carried))?;
-        Ok(Ticket::held(store, Kind::Dir, ino))
+        Ok(Ticket::held(store, Kind::Dir, ino, Want::Writer))
     }
 
     pub fn make_file(store: &Rc<Store>, parent: u32, name: &Name, carried: &[u8; 20]) -> Result<Ticket, Error> {
         let ino = store.change(|kept| kept.make_file(parent, name, carried))?;
-        Ok(Ticket::held(store, Kind::File, ino))
+        Ok(Ticket::held(store, Kind::File, ino, Want::Writer))
     }
 
     pub fn find(store: &Rc<Store>, kind: Kind, parent: u32, name: &Name) -> Result<Ticket, Error> {
@@ -184,11 +207,13 @@ impl Ticket {
         if !Rc::ptr_eq(&self.store, &parent.store) {
             return refuse(Refusal::InvalidValue);
         }
+        self.claim();
         self.store.change(|kept| kept.rename(self.kind, self.ino, parent.ino, name))
     }
 
     /// Deletes the entry, and its open with it. Where this is refused the open is given back.
     pub fn delete(self) -> Result<(), Error> {
+        self.claim();
         self.store.change(|kept| kept.delete(self.kind, self.ino))
     }
 
@@ -208,6 +233,6 @@ impl Ticket {
 impl Drop for Ticket {
     fn drop(&mut self) {
         // Refused where the entry was deleted, and its open with it.
-        let _ = self.store.kept.borrow_mut().close_inode(self.kind, self.ino);
+        let _ = self.store.kept.borrow_mut().close_inode(self.kind, self.ino, self.want.get());
     }
 }

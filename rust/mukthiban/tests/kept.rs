@@ -1,7 +1,7 @@
 //! Tables whose files are written by what each call tells: a copy that is written so stays the same, and a call that is
 //! taken back leaves nothing behind.
 
-use mukthiban::{BlockTable, EntryTables, Kind, Part, Refusal, Shape, Volume, ROOT};
+use mukthiban::{BlockTable, EntryTables, Kind, Part, Refusal, Shape, Volume, Want, ROOT};
 
 /// Numbers that repeat.
 struct Numbers(u64);
@@ -128,7 +128,7 @@ fn entries() {
         let parts = volume(1, 2 + numbers.below(8), 1 + numbers.below(4)).into_parts();
         let mut files = [parts.dir_hash, parts.dir_table, parts.file_hash, parts.file_table];
         let mut tables = opened(files.clone()).unwrap();
-        tables.open_inode(Kind::Dir, ROOT).unwrap();
+        tables.open_inode(Kind::Dir, ROOT, Want::Writer).unwrap();
         for _ in 0..80 {
             let (before, held) = (four(&tables), opens(&tables));
             let answer = any_tree_call(&mut tables, &mut numbers);
@@ -162,8 +162,12 @@ fn entries_refused() {
     let mut tables = opened(files).unwrap();
     assert_eq!(tables.entry(Kind::Dir, 3).map(<[u8]>::len), Some(40));
     assert_eq!(tables.entry(Kind::File, 4), None);
-    assert_eq!(tables.open_inode(Kind::File, u32::MAX), Err(Refusal::NotFound));
-    assert_eq!(tables.close_inode(Kind::Dir, ROOT), Err(Refusal::NotOpen));
+    assert_eq!(tables.open_inode(Kind::File, u32::MAX, Want::Reader), Err(Refusal::NotFound));
+    assert_eq!(tables.close_inode(Kind::Dir, ROOT, Want::Writer), Err(Refusal::NotOpen));
+    tables.open_inode(Kind::Dir, ROOT, Want::Reader).unwrap();
+    tables.open_inode(Kind::Dir, ROOT, Want::Writer).unwrap();
+    assert_eq!(tables.open_inode(Kind::Dir, ROOT, Want::Writer), Err(Refusal::Busy));
+    assert_eq!(tables.opens(Kind::Dir, ROOT), 2);
     assert_eq!(tables.delete(Kind::Dir, u32::MAX), Err(Refusal::NotFound));
     assert_eq!(tables.rename(Kind::File, 0, 1, b"a\0\0\0\0\0\0\0\0\0\0\0\0\0\0\0"), Err(Refusal::NotFound));
     assert_eq!(tables.opens(Kind::File, u32::MAX), 0);

@@ -5,15 +5,19 @@ use compare::chance::Chance;
 use compare::tree_history::{any_call, seen};
 use compare::trees;
 use port::{Answered, Kind, Port, Stated, Tree, TreeCall};
+use rules::opens::WRITER;
 use rules::tree::tree;
 use std::collections::HashMap;
 
 /// How many handles of each inode are held.
 pub type Held = HashMap<(bool, u32), u32>;
 
-/// What the rules note of an inode with so many handles.
+/// What the rules note of an inode with so many handles: one of them is the writer where one is needed.
 fn record(handles: u32) -> u32 {
-    handles
+    match handles {
+        0 => 0,
+        handles => WRITER + handles - 1,
+    }
 }
 
 fn is_file(kind: Kind) -> bool {

@@ -2,7 +2,7 @@ use super::smallest;
 use super::watch::{Change, Part, Watch};
 use crate::parts::Parts;
 use crate::refusal::Refusal;
-use crate::tables::{Kind, Name, Tables, DIR_WIDTH, FILE_WIDTH};
+use crate::tables::{Kind, Name, Tables, Want, DIR_WIDTH, FILE_WIDTH};
 use crate::tree::{self, Found, Missed, Stat};
 use crate::whole::Volume;
 use std::fmt;
@@ -108,7 +108,7 @@ impl EntryTables {
         self.volume.stat()
     }
 
-    /// Makes a directory, opened once.
+    /// Makes a directory, held by its writer.
     pub fn make_dir(&mut self, parent: u32, name: &Name, carried: &[u8; 4]) -> Result<u32, Refusal> {
         self.change(
             |watch, parts| watch.new_entry(parts, Kind::Dir, parent, name),
@@ -117,7 +117,7 @@ impl EntryTables {
         )
     }
 
-    /// Makes a file entry, opened once.
+    /// Makes a file entry, held by its writer.
     pub fn make_file(&mut self, parent: u32, name: &Name, carried: &[u8; 20]) -> Result<u32, Refusal> {
         self.change(
             |watch, parts| watch.new_entry(parts, Kind::File, parent, name),
@@ -126,7 +126,7 @@ impl EntryTables {
         )
     }
 
-    /// Gives an open entry another parent and name.
+    /// Gives an entry that a writer holds another parent and name.
     pub fn rename(&mut self, kind: Kind, inode: u32, parent: u32, name: &Name) -> Result<(), Refusal> {
         self.change(
             |watch, parts| watch.moved(parts, kind, inode, parent, name),
@@ -138,7 +138,7 @@ impl EntryTables {
         )
     }
 
-    /// Deletes an entry that is opened exactly once; a directory that has no children.
+    /// Deletes an entry that its writer holds and no reader; a directory that has no children.
     pub fn delete(&mut self, kind: Kind, inode: u32) -> Result<(), Refusal> {
         self.change(
             |watch, parts| watch.gone(parts, kind, inode),
@@ -168,29 +168,30 @@ impl EntryTables {
         )
     }
 
-    /// Adds 1 to an inode's open count.
-    pub fn open_inode(&mut self, kind: Kind, inode: u32) -> Result<(), Refusal> {
+    /// Opens an inode once more, for a reader or for the writer.
+    pub fn open_inode(&mut self, kind: Kind, inode: u32, want: Want) -> Result<(), Refusal> {
         match kind {
-            Kind::Dir => self.volume.open_dir(inode),
-            Kind::File => self.volume.open_file(inode),
+            Kind::Dir => self.volume.open_dir(inode, want),
+            Kind::File => self.volume.open_file(inode, want),
         }
     }
 
-    /// Takes 1 from an inode's open count.
-    pub fn close_inode(&mut self, kind: Kind, inode: u32) -> Result<(), Refusal> {
+    /// Gives back an open of an inode, a reader's or the writer's.
+    pub fn close_inode(&mut self, kind: Kind, inode: u32, want: Want) -> Result<(), Refusal> {
         match kind {
-            Kind::Dir => self.volume.close_dir(inode),
-            Kind::File => self.volume.close_file(inode),
+            Kind::Dir => self.volume.close_dir(inode, want),
+            Kind::File => self.volume.close_file(inode, want),
         }
     }
 
-    /// How often an inode is open.
+    /// How often an inode is open: its readers, and its writer.
     pub fn opens(&self, kind: Kind, inode: u32) -> usize {
         let opens = match kind {
             Kind::Dir => &self.volume.dir_opens,
             Kind::File => &self.volume.file_opens,
         };
-        opens.get(inode as usize).map_or(0, |&count| count as usize)
+        let record = opens.get(inode as usize).copied().unwrap_or(0);
+        (record & 0x7FFF_FFFF) as usize + (record >> 31) as usize
     }
 
     /// The stretches that the last changing call changed. None after a call that was refused.
@@ -204,13 +205,13 @@ impl EntryTables {
     pub fn undo(&mut self) {
         let last = std::mem::replace(&mut self.last, Last::Nothing);
         if let Last::Made(kind, inode) = last {
-            self.close_inode(kind, inode).expect("what was made is open");
+            self.close_inode(kind, inode, Want::Writer).expect("what was made is open");
         }
         self.watch.put_back(&mut self.volume.parts);
         let (dirs, files) = self.volume.parts.rooms();
         tree::test(self.tables(), &mut vec![0; dirs + files]).expect("the tables before the call are sound");
         if let Last::Deleted(kind, inode) = last {
-            self.open_inode(kind, inode).expect("what was deleted is there again");
+            self.open_inode(kind, inode, Want::Writer).expect("what was deleted is there again");
         }
     }
 
