@@ -288,10 +288,10 @@ static void changes(void)
          mukthiban_tested_tree_delete_file(TREE(b), FILE_OPENS(b), 1));
 }
 
-/* Every block is free: file 1 names no chain once it has a size. */
+/* There is no block 99: file 1 names no chain once it has a size. */
 static void audits(void)
 {
-    static const uint8_t sized[20] = {0, 0, 0, 0, 1, 0, 0, 0, 5};
+    static const uint8_t sized[20] = {0, 0, 0, 0, 99, 0, 0, 0, 5};
     audit(MUKTHIBAN_DONE, BLOCKS);
     SAME(MUKTHIBAN_DONE, mukthiban_tree_set_carried_file(TREE(a), WORK, 1, sized),
          mukthiban_tested_tree_set_carried_file(TREE(b), 1, sized));

@@ -328,3 +328,23 @@ fn what_is_not_sound_is_not_opened() {
     // The block table is judged first.
     assert_eq!(refusal(&|p| (p.fat[0], p.dir_table[0]) = (1, 9)), Refusal::BrokenFat);
 }
+
+#[test]
+fn the_map_is_the_tables() {
+    let shape = Shape { blocks: 40, block_len: 512, dir_max: 4, file_max: 4, buckets: 3 };
+    let mut volume = Volume::new(shape).unwrap();
+    let built = |volume: &Volume| Volume::open(volume.parts().clone()).unwrap().map().to_vec();
+    let files: Vec<usize> = (0..5).map(|_| volume.create(3).unwrap()).collect();
+    volume.delete(files[1]).unwrap();
+    volume.delete(files[3]).unwrap();
+    volume.resize(files[0], 7).unwrap();
+    assert_eq!(volume.map(), built(&volume));
+    let plan = volume.plan(files[0]).unwrap();
+    let first = volume.make_whole(files[0], &plan).unwrap();
+    assert_eq!(volume.map(), built(&volume));
+    volume.merge().unwrap();
+    assert_eq!(volume.map(), built(&volume));
+    volume.resize(first, 9).unwrap();
+    volume.delete(first).unwrap();
+    assert_eq!(volume.map(), built(&volume));
+}

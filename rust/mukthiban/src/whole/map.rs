@@ -1,10 +1,18 @@
 //! The free map that a volume keeps.
 
 use super::Volume;
-use crate::map;
-use crate::refusal::Refusal;
+use crate::refusal::{judge, Refusal};
+use crate::{inner, map};
 
 impl Volume {
+    /// Builds the map anew, where the table was changed by something else than the calls that keep it.
+    pub(super) fn redraw(&mut self) {
+        self.map = vec![0; map::words(self.blocks())];
+        // SAFETY: the table is sound, and the map has its words.
+        let built = unsafe { inner::build(&self.parts, &mut self.map) };
+        judge(built.answer).expect("the inner build refuses nothing");
+    }
+
     /// The map: one bit a block, the lowest block in the lowest bit, set where the block is free.
     pub fn map(&self) -> &[u32] {
         &self.map

@@ -46,6 +46,7 @@ impl Volume {
         let mut work = vec![0; self.parts.blocks()];
         let r = unsafe { inner::plan_apply(&mut self.parts, &mut work, first_block, plan) };
         judge(r.answer)?;
+        self.redraw();
         self.counts[r.first_block] = std::mem::take(&mut self.counts[first_block]);
         Ok(r.first_block)
     }

@@ -36,7 +36,7 @@ pub struct Original {
 
 /// A sound volume, its chains in pieces, with its files by inode.
 pub fn volume(rng: &mut Rng) -> (Parts, HashMap<u32, Original>) {
-    let block_len = [16, 64, 512][rng.below(3)];
+    let block_len = [512, 512, 4_096][rng.below(3)];
     let shape = Shape {
         blocks: 120 + rng.below(200),
         block_len,

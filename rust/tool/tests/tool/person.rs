@@ -115,7 +115,8 @@ fn free_blocks_of_a_stretch() {
 fn help_for_each_command() {
     let b = Bench::new();
     let all = b.done(&["--help"]);
-    let commands = ["check", "ls", "cat", "lift", "put", "mkdir", "mv", "rm", "merge", "whole", "defrag", "new", "map", "status"];
+    let commands =
+        ["check", "ls", "cat", "lift", "put", "mkdir", "mv", "rm", "merge", "whole", "defrag", "new", "map", "status"];
     for command in commands {
         assert!(all.contains(&format!("\n  {command} ")), "{command}");
         assert!(b.done(&[command, "--help"]).starts_with(&format!("mukthiban {command} ")));

@@ -18,7 +18,10 @@ fn old() -> Bench {
 fn it_is_shown_and_nothing_changes_it() {
     let b = old();
     let text = b.done(&["check", "v"]);
-    assert!(text.contains("  blocks                40  of 300 bytes, a length that is not in use: read-only\n"), "{text}");
+    assert!(
+        text.contains("  blocks                40  of 300 bytes, a length that is not in use: read-only\n"),
+        "{text}"
+    );
     let value = json::parse(&b.done(&["check", "--json", "v"]));
     assert_eq!(value.get("read_only"), &json::Value::Bool(true));
     b.done(&["new", "w", "--blocks", "9"]);
@@ -34,7 +37,10 @@ fn it_is_shown_and_nothing_changes_it() {
         &["merge", "v"],
     ] {
         let line = b.fails(words, 8);
-        assert!(line.contains("v: blocks of this length are no longer in use") && line.contains("[ReadOnlyVolume 20]"), "{line}");
+        assert!(
+            line.contains("v: blocks of this length are no longer in use") && line.contains("[ReadOnlyVolume 20]"),
+            "{line}"
+        );
     }
     assert_eq!(tree(&b.at("v")), before);
     // Not sound comes first.

@@ -72,6 +72,7 @@ impl BlockTable {
         volume.free = tested.free;
         volume.parts.data = vec![];
         volume.parts.fat = table.clone();
+        volume.redraw();
         Ok(BlockTable { volume, before: table, changed: vec![], counted: None })
     }
 
@@ -191,6 +192,7 @@ impl BlockTable {
         let mut work = vec![0; self.blocks()];
         let tested = fat::test(self.bytes(), &mut work).expect("the table before the call is sound");
         assert_eq!((tested.free, tested.files), (self.free(), self.volume.files()), "it is the one before the call");
+        self.volume.redraw();
     }
 
     /// What was changed stays.
