@@ -42,11 +42,11 @@ fn block_tests(report: &mut Report, n: usize) {
 /// Half of the blocks free, single and in that order.
 fn merges(report: &mut Report, n: usize) {
     for (order, said) in [(Order::Rising, "rising"), (Order::Falling, "falling"), (Order::Any, "in any order")] {
-        let on = OnBlocks::new(singly(n, n / 2, order, 1).0);
+        let on = OnBlocks::new(singly(n, n / 2, order, 512).0);
         job(report, &format!("merge, {} free single blocks of {}, {said}", commas(n - n / 2), commas(n)), on.merges());
     }
     for shape in [Shape::Fresh, Shape::Mixed] {
-        let on = OnBlocks::new(volume(shape, n, 1).lent);
+        let on = OnBlocks::new(volume(shape, n, 512).lent);
         job(report, &format!("merge, {} blocks, {}", commas(n), shape.said()), on.merges());
     }
 }

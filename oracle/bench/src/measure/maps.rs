@@ -48,7 +48,7 @@ fn queries(report: &mut Report, n: usize) {
 
 /// A volume of that shape whose blocks of 512 bytes are zeros that nobody touches.
 fn on_zeros(shape: Shape, n: usize) -> Blocks {
-    let lent = volume(shape, n, 1).lent;
+    let lent = volume(shape, n, 512).lent;
     Blocks { data: vec![0; 512 * n], block_len: 512, ..lent }
 }
 
