@@ -4,7 +4,8 @@ use super::jobs::job;
 use super::{commas, digest, Side};
 use crate::report::Report;
 use crate::shapes::blocks::{volume, Shape};
-use port::{count_library, BlockCall, Blocks, Library, MapCall, Mapped, Port};
+use mukthiban_ffi::tested::mukthiban_tested_map_create;
+use port::{count_library, BlockCall, Blocks, Inner, Library, MapCall, Mapped, Port};
 use std::cell::RefCell;
 
 /// The set bits of the blocks from a up to and without b, of whole words but for the first and the last.
@@ -57,9 +58,17 @@ fn mapped(lent: Blocks) -> Mapped {
     Mapped { table: lent.table, data: lent.data, block_len: lent.block_len, work: lent.work, map: vec![0; words] }
 }
 
-/// A create of n / 4 blocks: without a map, then with one.
+/// The inner call alone, which is lent no work list.
+fn inner_create(lent: &mut Mapped, count: usize) -> u32 {
+    let (table, map) = (&mut lent.table, &mut lent.map);
+    let n = table.len() / 8 - 1;
+    // SAFETY: the table is sound, the map is the table's, and pointers and lengths are those of vectors.
+    unsafe { mukthiban_tested_map_create(table.as_mut_ptr(), table.len(), n, lent.block_len, map.as_mut_ptr(), map.len(), count).answer }
+}
+
+/// A create of n / 4 blocks: without a map, then with one; by the calls that test, and by the inner ones.
 fn creates(report: &mut Report, n: usize) {
-    for shape in [Shape::Fresh, Shape::Mixed] {
+    for (shape, inner) in [(Shape::Fresh, false), (Shape::Mixed, false), (Shape::Fresh, true), (Shape::Mixed, true)] {
         let lent = on_zeros(shape, n);
         let table = lent.table.clone();
         let with = RefCell::new(mapped(on_zeros(shape, n)));
@@ -71,7 +80,11 @@ fn creates(report: &mut Report, n: usize) {
         let sides = vec![
             Side {
                 ready: Box::new(move || without.borrow_mut().table.copy_from_slice(table)),
-                run: Box::new(move || [Library.block_call(&BlockCall::Create { count }, &mut without.borrow_mut()).number.into(), 0, 0]),
+                run: Box::new(move || {
+                    let (call, lent) = (BlockCall::Create { count }, &mut *without.borrow_mut());
+                    let told = if inner { Inner.block_call(&call, lent).expect("an inner call") } else { Library.block_call(&call, lent) };
+                    [told.number.into(), 0, 0]
+                }),
                 left: Box::new(move || digest(&without.borrow().table)),
                 times: 1,
                 ..query("create without a map", || 0)
@@ -82,13 +95,18 @@ fn creates(report: &mut Report, n: usize) {
                     lent.table.copy_from_slice(table);
                     lent.map.copy_from_slice(map);
                 }),
-                run: Box::new(move || [with.borrow_mut().library(&MapCall::Create { count }).number.into(), 0, 0]),
+                run: Box::new(move || {
+                    let lent = &mut *with.borrow_mut();
+                    let number = if inner { inner_create(lent, count) } else { lent.library(&MapCall::Create { count }).number };
+                    [number.into(), 0, 0]
+                }),
                 left: Box::new(move || digest(&with.borrow().table)),
                 times: 1,
                 ..query("library", || 0)
             },
         ];
-        job(report, &format!("create of {} blocks with a map, {} blocks, {}", commas(count), commas(n), shape.said()), sides);
+        let which = if inner { "create without the test" } else { "create" };
+        job(report, &format!("{which} of {} blocks with a map, {} blocks, {}", commas(count), commas(n), shape.said()), sides);
     }
 }
 
