@@ -78,6 +78,14 @@ fn add_lost(session: &Session, items: &mut Vec<Item>) {
 }
 
 impl Chosen for Vec<Item> {
+    fn entries(&self) -> Vec<usize> {
+        let at = |item: &Item| match item.what {
+            What::File(at) => Some(at),
+            What::Lost(_) | What::Dir | What::Folder => None,
+        };
+        self.iter().filter_map(at).collect()
+    }
+
     fn stretches(&self, session: &Session) -> Vec<(u32, u32)> {
         stretches_of(self.iter().filter_map(|item| match item.what {
             What::File(at) => session.entries[at].chain.as_deref(),

@@ -7,7 +7,7 @@ use crate::records::{Account, Finding};
 use crate::salvaged::Broken;
 use crate::tree::{path_of, read_tree, Chain, Entry};
 use mukthiban::folder::{Access, Data, Folder, FolderError, Sizes};
-use mukthiban::{Kind, Name, NotSound, Parts, Refusal, Volume};
+use mukthiban::{Kind, Name, NotSound, Parts, Refusal, Volume, Want};
 use std::collections::HashSet;
 use std::path::Path;
 use std::time::Duration;
@@ -101,11 +101,20 @@ impl Session {
         let folder = Folder::open(path, Access::Read, wait).map_err(|e| Fail::folder(&e))?;
         let mut session = Session::load(&folder)?.map_err(|refused| refused.fail(path))?;
         let chosen = choose(&session)?;
+        session.open_to_read(chosen.entries()).map_err(|r| Fail::refused(&path.display().to_string(), r))?;
         let stretches = chosen.stretches(&session);
         if !stretches.is_empty() {
             session.bytes = folder.bytes(&stretches).map_err(|e| Fail::folder(&e))?;
         }
         Ok((session, chosen))
+    }
+
+    /// Opens files as a reader, for as long as the session is there.
+    fn open_to_read(&mut self, entries: Vec<usize>) -> Result<(), Refusal> {
+        for entry in entries.into_iter().map(|at| &self.entries[at]).filter(|entry| entry.kind == Kind::File) {
+            self.volume.open_file(entry.inode, Want::Reader)?;
+        }
+        Ok(())
     }
 
     /// Nothing is allowed to be wrong with a volume that is changed.
@@ -218,9 +227,16 @@ pub fn stretches_of<'a>(chains: impl Iterator<Item = &'a Chain>) -> Vec<(u32, u3
 pub trait Chosen {
     /// The stretches of its blocks.
     fn stretches(&self, session: &Session) -> Vec<(u32, u32)>;
+
+    /// The entries that it is.
+    fn entries(&self) -> Vec<usize>;
 }
 
 impl Chosen for () {
+    fn entries(&self) -> Vec<usize> {
+        Vec::new()
+    }
+
     fn stretches(&self, _: &Session) -> Vec<(u32, u32)> {
         Vec::new()
     }
@@ -228,6 +244,10 @@ impl Chosen for () {
 
 /// One entry.
 impl Chosen for usize {
+    fn entries(&self) -> Vec<usize> {
+        vec![*self]
+    }
+
     fn stretches(&self, session: &Session) -> Vec<(u32, u32)> {
         session.entries[*self].pieces().to_vec()
     }

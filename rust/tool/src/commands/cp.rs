@@ -59,6 +59,10 @@ struct Entries {
 }
 
 impl Chosen for Entries {
+    fn entries(&self) -> Vec<usize> {
+        self.inside.iter().chain([&self.at]).copied().collect()
+    }
+
     fn stretches(&self, session: &Session) -> Vec<(u32, u32)> {
         stretches_of(self.inside.iter().chain([&self.at]).filter_map(|&e| session.entries[e].chain.as_deref()))
     }
