@@ -162,8 +162,8 @@ mukthiban_planned mukthiban_plan_find(const uint8_t *table, size_t table_len,
  * bits past n are 0, and words past n's are neither looked at nor touched. A map under n bits (map_len below n / 32, rounded
  * up) is 3. Create, resize and delete with a map do what the call without one does and keep it: it always equals one built
  * afresh. They refuse a map that is not the table's: 4 with entry and rule 0, after the table's own 4. The calls without a
- * map that change the free chain (create, resize, delete, format) leave a lent map behind: the next call with that map
- * answers 4, until it is built again. A merge leaves it as it should be. */
+ * map that change the free chain (create, resize, delete, format, plan_apply) leave a lent map behind: the next call with
+ * that map answers 4, until it is built again. A merge leaves it as it should be. */
 
 /* Builds the map of the table. Answers 1, 2, 3, 4. */
 mukthiban_answered mukthiban_map_build(const uint8_t *table, size_t table_len,

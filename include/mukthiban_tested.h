@@ -118,7 +118,7 @@ mukthiban_answered mukthiban_tested_map_build(const uint8_t *table, size_t table
 /* Makes a file of block_count blocks and keeps the map: only the words of the blocks that move are written. Answers 20,
  * 2 (count 0), 6.
  * Requires: a sound table of n blocks; map_len is n / 32, rounded up, and map is the table's, as the call above or an earlier
- * one of these left it. So of the next two. */
+ * one of these left it, with no change of the table since but by these or by a merge. So of the next two. */
 mukthiban_created mukthiban_tested_map_create(uint8_t *table, size_t table_len, size_t n, size_t block_len,
                                               uint32_t *map, size_t map_len, size_t block_count);
 

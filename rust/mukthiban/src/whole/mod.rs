@@ -63,8 +63,9 @@ impl From<NotSound> for Refusal {
 /// - The bytes of a `Volume` are private, and nothing but these calls changes them. [`Volume::parts`] lends them to be
 ///   read; [`Volume::into_parts`] gives them away and ends the volume.
 ///
-/// The same holds of the free map that it keeps: it is built when the volume is opened, and every inner call that changes
-/// the free chain leaves the map that a build would make (theorem of each step).
+/// The same holds of the free map that it keeps: it is built when the volume is opened, create, resize and delete leave the
+/// map that a build would make (theorem of each step), and so does a merge, which changes no block's being free. Whatever
+/// else changes the table, as a plan that is applied, has the map built anew.
 ///
 /// The counts that a volume keeps beside its bytes (free blocks, the blocks of each file) decide nothing: they are
 /// counted when it is opened, held against what the test answered, and carried on with each call.
