@@ -85,6 +85,19 @@ others-in (suc k) x y g lo hi e = go (member x g) refl (λ h. others-in k (suc x
     go true q f = ⊎-elim (λ h. f h) (λ h. let z : y ≡ x = omega (arith, lo, h) in untrue (sym e ∙ ap (λ (v : ℕ). member v g) z ∙ q)) (le-or-lt (suc x) y)
     go false q f = ⊎-elim (λ h. inr (f h)) (λ h. inl (omega (arith, lo, h))) (le-or-lt (suc x) y)
 
+others-once : (k x : ℕ) (g : List ℕ) → Distinct (others k x g)
+others-once zero x g = tt
+others-once (suc k) x g = go (member x g) (others-once k (suc x) g)
+  where
+    go : (b : Bool) → Distinct (others k (suc x) g) → Distinct (cond b (others k (suc x) g) (x ∷ others k (suc x) g))
+    go true d = d
+    go false d = ((λ h. let z = in-others k (suc x) x g h in omega (arith, z .0)), d)
+
+-- whatever the table holds, no entry is listed twice
+pub once : (w : ℕ) (t : List ℕ) → Distinct (entries w t)
+unfolding entries
+once w t = others-once (bound w t - 1) 1 (gone w t)
+
 -- ---- exact
 
 -- a table is as a sound one in its length, its count, and the collision fields of entry 0 and of the removed entries, whatever stands elsewhere

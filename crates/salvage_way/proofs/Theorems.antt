@@ -71,6 +71,9 @@ module _ (t t′ : List ℕ) (D : View) (s : Dirs D) (a : SameList 40 t t′ D) 
       let r = live-links (up D x) (x′ ∷ xs) (s .below .parents x m n) (k .2) in
       ((k .0, k .1, subst⁻¹ (λ (v : ℕ). Links (parentOf t) v (x′ ∷ xs)) (parent x m) (r .0)), (λ z h. ⊎-elim (λ e. subst⁻¹ (LiveIn D) e m) (λ e. r .1 z e) h))
 
+  pub live-above : (y : ℕ) (xs : List ℕ) → LiveIn D y → Links (up D) y xs → (z : ℕ) → z ∈ xs → LiveIn D z
+  live-above y xs l k = live-links y xs l k .1
+
   -- the way up from a live directory is the way of the sound tables
   pub way-exact : (y : ℕ) → LiveIn D y → (xs : List ℕ) → Links (up D) y xs → way t y ≡ xs
   unfolding way

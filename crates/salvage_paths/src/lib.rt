@@ -1,0 +1,1 @@
+// The files of damaged tables, each with its path: theorems alone.
