@@ -16,7 +16,7 @@ fn row(name: &str, t: &Tally) {
         share(t.right_marked),
         share(t.wrong_marked),
         t.own,
-        t.above,
+        format!("{} ({})", t.above, t.above_sound),
         t.wrong,
         share(t.missing),
         share(t.naive)
@@ -26,7 +26,7 @@ fn row(name: &str, t: &Tally) {
 fn main() {
     let mut args = std::env::args().skip(1).map(|a| a.parse::<u64>().expect("a number"));
     let (volumes, seed) = (args.next().unwrap_or(2_100), args.next().unwrap_or(1));
-    println!("| damage | volumes | files | right | right, marked | wrong, marked | own damage | directory damaged | wrong, no mark | not found | script right |");
+    println!("| damage | volumes | files | right | right, marked | wrong, marked | own damage | directory damaged (sound) | wrong, no mark | not found | script right |");
     println!("|---|---|---|---|---|---|---|---|---|---|---|");
     let mut all = Tally::default();
     for (sort, name) in DAMAGE.iter().enumerate() {

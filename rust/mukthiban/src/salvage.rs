@@ -35,10 +35,14 @@ use mukthiban_ffi as ffi;
 
 #[cfg(feature = "std")]
 mod entries;
+#[cfg(feature = "std")]
+mod evidence;
 #[cfg(all(unix, feature = "std"))]
 mod load;
 #[cfg(feature = "std")]
 mod naive;
+#[cfg(feature = "std")]
+mod table;
 #[cfg(feature = "std")]
 mod volume;
 

@@ -91,8 +91,9 @@ impl Broken {
             Some(Doubt::PastData) => "a block of it lies past the end of data.bin".into(),
             Some(Doubt::NoWay) => "its directory can't be followed up to the root".into(),
             Some(Doubt::SameName) => "another file has its directory and name".into(),
-            Some(Doubt::OtherKey) => {
-                "its name, or a directory's above it, is not the one that it was entered under".into()
+            Some(Doubt::Entry) => "its entry is damaged: its name or its directory may be another".into(),
+            Some(Doubt::Above) => {
+                "its bytes are whole, but the entry of a directory above it is damaged: its path may be another".into()
             }
             Some(Doubt::Lengths) => {
                 "the block length does not go with table and data, and it can't be told which is right for it".into()

@@ -29,9 +29,10 @@ pub enum Doubt {
     SameName,
     /// Its entry lies at or above the count of the table.
     AboveCount,
-    /// A bucket has its entry, or that of a directory above it, that the key does not belong to: its name or its directory is
-    /// not the one that was entered.
-    OtherKey,
+    /// Its entry shows damage: its name or its directory may be another.
+    Entry,
+    /// The entry of a directory above it shows damage: its path may be another.
+    Above,
     /// The block length does not go with the lengths of table and data, and it has not as many blocks as its size asks for,
     /// or two block lengths are as good.
     Lengths,
@@ -270,12 +271,13 @@ fn file(
         }
     }
     let way = entries.way(found.parent);
-    let moved = |way: &[u32]| found.misplaced || way.iter().any(|&d| entries.dir_misplaced(d));
+    let moved = |way: &[u32]| way.iter().any(|&d| entries.dir_damaged(d));
     let other = match (&way, twice, found.sure) {
         (Way::Lost(_), ..) => Some(Doubt::NoWay),
         (_, true, _) => Some(Doubt::SameName),
         (.., false) => Some(Doubt::AboveCount),
-        (Way::Root(way), ..) if moved(way) => Some(Doubt::OtherKey),
+        _ if found.damaged => Some(Doubt::Entry),
+        (Way::Root(way), ..) if moved(way) => Some(Doubt::Above),
         _ => None,
     };
     SalvagedFile { inode: found.inode, name: found.name, way, record, blocks, followed, doubt: doubt.or(other) }

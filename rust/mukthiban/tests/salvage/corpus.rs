@@ -192,6 +192,8 @@ pub struct Tally {
     pub own: usize,
     /// Called whole, with its bytes and another path: a directory above it was damaged, and nothing of its own.
     pub above: usize,
+    /// Of these, those of a volume whose entry tables are sound as they are now: nothing in them can tell.
+    pub above_sound: usize,
     /// The same where none of them was.
     pub wrong: usize,
     pub missing: usize,
@@ -208,10 +210,17 @@ impl Tally {
         self.wrong_marked += o.wrong_marked;
         self.own += o.own;
         self.above += o.above;
+        self.above_sound += o.above_sound;
         self.wrong += o.wrong;
         self.missing += o.missing;
         self.naive += o.naive;
     }
+}
+
+/// Whether the four entry tables of a volume are sound.
+pub fn tree_sound(p: &Parts) -> bool {
+    let mut work = vec![0; p.dir_table.len() / 40 + p.file_table.len() / 48];
+    mukthiban::tree::test(p.tables(), &mut work).is_ok()
 }
 
 /// Makes a volume, damages it in one way, and counts.
@@ -254,7 +263,10 @@ pub fn run(seed: u64, sort: usize) -> Tally {
             (true, false) => tally.right_marked += 1,
             (false, false) => tally.wrong_marked += 1,
             (false, true) if !own_record() || !data() => tally.own += 1,
-            (false, true) if !ways() && original.bytes == bytes => tally.above += 1,
+            (false, true) if !ways() && original.bytes == bytes => {
+                tally.above += 1;
+                tally.above_sound += usize::from(tree_sound(&broken));
+            }
             (false, true) => tally.wrong += 1,
         }
     }

@@ -3,7 +3,7 @@
 mod corpus;
 
 use corpus::{run, Tally, DAMAGE};
-use mukthiban::salvage::{chain, shared, Ends, Salvage};
+use mukthiban::salvage::{chain, shared, Ends, Salvage, Way};
 use mukthiban::{fat, Refusal};
 
 /// No file is called whole that is wrong, unless its own record, its data or a directory above it was damaged; and as many
@@ -35,6 +35,37 @@ fn sound_volumes_are_whole() {
             assert_eq!(file.blocks, files[&file.inode].blocks);
         }
     }
+}
+
+/// One place damaged in a directory's key is told of every file below it, wherever anything in the four tables can tell: a file
+/// is called whole at another path only where the tables are sound as they are now.
+#[test]
+fn one_place_in_a_directory() {
+    let (mut told, mut silent) = (0, 0);
+    for seed in 1..6 {
+        let (sound, files) = corpus::volume(&mut corpus::Rng::new(seed));
+        let dirs = u32::from_le_bytes(sound.dir_table[..4].try_into().unwrap()) as usize;
+        let places = (2..dirs).flat_map(|d| (0..20).map(move |at| 40 * d + at));
+        for (at, bit) in places.flat_map(|at| [0, 2, 5, 7].map(|bit| (at, bit))) {
+            let mut broken = sound.clone();
+            broken.dir_table[at] ^= 1 << bit;
+            let salvage = Salvage::of(&broken);
+            for file in &salvage.files {
+                let Way::Root(way) = &file.way else { continue };
+                let mut path: Vec<_> = way.iter().map(|&d| salvage.entries.dir_name(d)).collect();
+                path.push(file.name);
+                match (path == files[&file.inode].path, file.doubt) {
+                    (true, _) => (),
+                    (false, Some(_)) => told += 1,
+                    (false, None) => {
+                        silent += 1;
+                        assert!(corpus::tree_sound(&broken), "seed {seed}, byte {at}, bit {bit}: {}", file.inode);
+                    }
+                }
+            }
+        }
+    }
+    assert!(told > 1_000 && silent > 0, "{told} told, {silent} not");
 }
 
 /// Every refusal of the two calls, in the order of their rows; a refusal leaves the lists alone.
