@@ -428,6 +428,17 @@ mukthiban_plain mukthiban_salvage_shared(const uint8_t *table, size_t table_len,
                                          const uint32_t *firsts, size_t firsts_len,
                                          uint32_t *list, size_t list_len);
 
+/* Follows the chain of each of firsts, as mukthiban_salvage_chain does one, in one call that is linear in the blocks and
+ * firsts. Writes three places of ends for each: how many blocks were followed (none where no node can be read there), and
+ * the entry and the rule that say why there are no more; rule 9 where the chains before it have more than 4n blocks
+ * together, so that it was not followed. Writes to list the blocks of all, one chain behind the other, never more than 5n;
+ * count is how many. Places past them stay. Answers 1, 2 (also for more than 1,000,000 firsts), 3, 8 (ends or list). */
+mukthiban_listed mukthiban_salvage_chains(const uint8_t *table, size_t table_len,
+                                          uint32_t *work, size_t work_len,
+                                          const uint32_t *firsts, size_t firsts_len,
+                                          size_t *ends, size_t ends_len,
+                                          uint32_t *list, size_t list_len);
+
 /* Writes to list the live directories of a directory table, in the order of their inodes: those below count and room that
  * the removed list, as far as it can be followed, does not name. No bucket and no list of children is looked at. Key and
  * record of an inode stand in the table. The work list needs a place for each entry of the room. Places of list past them

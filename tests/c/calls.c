@@ -445,6 +445,7 @@ static void salvage(void)
 {
     static const uint32_t firsts[3] = {0, 3, 0};
     uint32_t kinds[4] = {9, 9, 9, 9};
+    size_t ends[7] = {9, 9, 9, 9, 9, 9, 9};
     mukthiban_salvaged followed;
 
     disagreeing();
@@ -465,6 +466,14 @@ static void salvage(void)
     EXPECT(mukthiban_salvage_shared(fat, 8, places, PLACES, firsts, 3, kinds, 4).answer == MUKTHIBAN_INVALID_VALUE);
     EXPECT(mukthiban_salvage_shared(fat, sizeof fat, places, 0, firsts, 3, kinds, 4).answer == MUKTHIBAN_WORK_TOO_SHORT);
     EXPECT(mukthiban_salvage_shared(fat, sizeof fat, places, PLACES, firsts, 3, kinds, 2).answer == MUKTHIBAN_LIST_TOO_SHORT);
+
+    EXPECT(mukthiban_salvage_chains(fat, sizeof fat, places, PLACES, firsts, 2, ends, 7, FOUND).answer == MUKTHIBAN_DONE);
+    EXPECT(ends[0] == 2 && ends[1] == 0 && ends[2] == 0 && ends[5] == 0 && ends[6] == 9 && found[0] == 0 && found[2] == 3);
+    EXPECT(mukthiban_salvage_chains(fat, 7, places, PLACES, firsts, 2, ends, 7, FOUND).answer == MUKTHIBAN_SIZE_MISMATCH);
+    EXPECT(mukthiban_salvage_chains(fat, 8, places, PLACES, firsts, 2, ends, 7, FOUND).answer == MUKTHIBAN_INVALID_VALUE);
+    EXPECT(mukthiban_salvage_chains(fat, sizeof fat, places, 0, firsts, 2, ends, 7, FOUND).answer == MUKTHIBAN_WORK_TOO_SHORT);
+    EXPECT(mukthiban_salvage_chains(fat, sizeof fat, places, PLACES, firsts, 2, ends, 5, FOUND).answer == MUKTHIBAN_LIST_TOO_SHORT);
+    EXPECT(mukthiban_salvage_chains(fat, sizeof fat, places, PLACES, firsts, 2, ends, 7, found, 2).answer == MUKTHIBAN_LIST_TOO_SHORT);
 
     memset(file_hash, 9, sizeof file_hash); /* no bucket is looked at */
     EXPECT(mukthiban_salvage_files(FILES, places, PLACES, FOUND).count == 4 && found[0] == 1 && found[3] == 4);

@@ -10,6 +10,8 @@ use Rattle.salvage.specs.Calls.{chainGives, ChainPromise}
 use Rattle.salvage.proofs.Theorems.{one-chain}
 use Rattle.salvage_shared.specs.Calls.{sharedGives, SharedPromise}
 use Rattle.salvage_shared.proofs.Theorems.{one-shared}
+use Rattle.salvage_chains.specs.Calls.{chainedGives, ChainsPromise}
+use Rattle.salvage_chains.proofs.Theorems.{one-chains}
 use Rattle.salvage_tree.specs.Calls.{enteredGives, EnteredPromise}
 use Rattle.salvage_tree.proofs.Theorems.{one-entered}
 use Rattle.salvage_way.specs.Calls.{WayPromise}
@@ -27,6 +29,12 @@ pub export-shared : (t : Bytes) (work firsts list : List ℕ)
 export-shared t work firsts list =
     one-beside (λ (a : Answer) (x : List ℕ). sharedGives a x) (λ g. g .answer) (λ g. g .list) (SharedPromise t work firsts list) (λ a x. refl) (λ a x. refl)
     (one-shared t work firsts list)
+
+pub export-chains : (t : Bytes) (work firsts e list : List ℕ)
+    → OneExport {X = (ℕ × List ℕ × List ℕ) × List ℕ} (λ a x. beside (chainedGives a (x .0 .0) (x .0 .1) (x .0 .2)) (x .1)) (ChainsPromise t work firsts e list)
+export-chains t work firsts e list =
+    one-beside (λ (a : Answer) (x : ℕ × List ℕ × List ℕ). chainedGives a (x .0) (x .1) (x .2)) (λ g. g .answer) (λ g. (g .count, g .ends, g .list)) (ChainsPromise t work firsts e list)
+    (λ a x. refl) (λ a x. refl) (one-chains t work firsts e list)
 
 pub export-entered : (w : ℕ) (t work list : List ℕ)
     → OneExport {X = (ℕ × List ℕ) × List ℕ} (λ a x. beside (enteredGives a (x .0 .0) (x .0 .1)) (x .1)) (EnteredPromise w t work list)

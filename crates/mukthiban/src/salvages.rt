@@ -1,8 +1,9 @@
-// What can still be trusted on tables of any bytes: one chain, which of some chains are whole, the live entries of one entry table, and the way up from a directory.
+// What can still be trusted on tables of any bytes: one chain, which of some chains are whole, some chains, the live entries of one entry table, and the way up from a directory.
 ghost use Rattle.order.specs.Answer.{fault};
 ghost use Rattle.order.specs.Beside.{beside};
 ghost use Rattle.salvage.specs.Calls.{chainGives, ChainPromise};
 ghost use Rattle.salvage_shared.specs.Calls.{sharedGives, SharedPromise};
+ghost use Rattle.salvage_chains.specs.Calls.{chainedGives, ChainsPromise};
 ghost use Rattle.salvage_tree.specs.Calls.{enteredGives, EnteredPromise};
 ghost use Rattle.salvage_way.specs.Calls.{WayPromise};
 ghost use Rattle.mukthiban.specs.Export.{Exported};
@@ -43,6 +44,24 @@ pub extern "C" fn mukthiban_salvage_shared(
     let answer = r.answer;
     Plain {
         answer: order::number(answer),
+    }
+}
+
+#[no_mangle]
+pub extern "C" fn mukthiban_salvage_chains(
+    table: &[u8],
+    work: &mut [u32],
+    firsts: &[u32],
+    ends: &mut [usize],
+    list: &mut [u32],
+) -> Listed
+    ensures { λ p. ⌜ Exported (p .answer) (λ a. ChainsPromise (now (table .entry)) (now (work .entry)) (now (firsts .entry)) (now (ends .entry)) (now (list .entry)) (beside (chainedGives a (p .count) (now (ends .exit)) (now (list .exit))) (now (work .exit)))) ⌝ }
+{
+    let r = salvage_chains::chains(table, work, firsts, ends, list);
+    let answer = r.answer;
+    Listed {
+        answer: order::number(answer),
+        count: r.count,
     }
 }
 

@@ -16,8 +16,8 @@ use Rattle.salvage.specs.Follow.{salvaged}
 use Rattle.salvage.proofs.Bounds.{apart-none}
 use Rattle.salvage.proofs.Follows.{Stands, stop, node, left}
 
--- the blocks of some runs of the chain c are written, and index i names the next
-pub record Filling (n : ℕ) (t : Bytes) (c : List Run) (l₀ : List ℕ) (i at : ℕ) (l : List ℕ) : Type 0 where
+-- the blocks of some runs of the chain c are written, from place f on, and index i names the next
+pub record Filling (n : ℕ) (t : Bytes) (c : List Run) (f : ℕ) (l₀ : List ℕ) (i at : ℕ) (l : List ℕ) : Type 0 where
   pub passed : List Run
   pub rest : List Run
   pub end : ℕ
@@ -25,11 +25,11 @@ pub record Filling (n : ℕ) (t : Bytes) (c : List Run) (l₀ : List ℕ) (i at 
   pub before : ℕ
   pub stands : Stands n t before i rest end
   pub sum : at ≡ total passed
-  pub done : sets l₀ 0 (blocksOf c) ≡ sets l at (blocksOf rest)
+  pub done : sets l₀ f (blocksOf c) ≡ sets l (f + at) (blocksOf rest)
   pub long : length l ≡ length l₀
 
-pub fill-begin : (n : ℕ) (t : Bytes) (first : ℕ) (l : List ℕ) (i : ℕ) → i ≡ first + 1 → Filling n t (salvaged n t first .runs) l i 0 l
-fill-begin n t first l i e =
+pub fill-begin : (n : ℕ) (t : Bytes) (first f : ℕ) (l : List ℕ) (i : ℕ) → i ≡ first + 1 → Filling n t (salvaged n t first .runs) f l i 0 l
+fill-begin n t first f l i e =
     let o = left (suc n) n t [] 0 (suc first) (apart-none n) in
     let q : suc first ≡ i = omega (arith, e) in
     record {
@@ -40,7 +40,7 @@ fill-begin n t first l i e =
       before = 0;
       stands = subst (λ (j : ℕ). Stands n t 0 j (o .rest) (o .end)) q (o .stands);
       sum = refl;
-      done = ap (λ (c : List Run). sets l 0 (blocksOf c)) (o .is);
+      done = ap (λ (c : List Run). sets l f (blocksOf c)) (o .is) ∙ ap (λ (k : ℕ). sets l k (blocksOf (o .rest))) (let z : f ≡ f + 0 = omega arith in z);
       long = refl;
     }
 
@@ -70,12 +70,12 @@ empty : (n : ℕ) (t : Bytes) (p i : ℕ) (rest : List Run) (end : ℕ) → Stan
 empty n t p i rest end stop h = refl
 empty n t p i rest end (node {b = b} {s} w back r) h = absurd (omega (arith, h, w .some))
 
-module _ (n : ℕ) (t : Bytes) (c : List Run) (l₀ : List ℕ) (i at : ℕ) (l : List ℕ) (w : Filling n t c l₀ i at l) (count : ℕ) (ec : count ≡ total c) where
+module _ (n : ℕ) (t : Bytes) (c : List Run) (f : ℕ) (l₀ : List ℕ) (i at : ℕ) (l : List ℕ) (w : Filling n t c f l₀ i at l) (count : ℕ) (ec : count ≡ total c) where
   sums : count ≡ at + total (w .rest)
   sums = omega (arith, ec, ap total (w .is), total-append (w .passed) (w .rest), w .sum)
 
-  pub fill-end : count ≤ at → l ≡ sets l₀ 0 (blocksOf c)
-  fill-end h = sym (w .done ∙ ap (λ (r : List Run). sets l at (blocksOf r)) (empty n t (w .before) i (w .rest) (w .end) (w .stands) (omega (arith, sums, h))))
+  pub fill-end : count ≤ at → l ≡ sets l₀ f (blocksOf c)
+  fill-end h = sym (w .done ∙ ap (λ (r : List Run). sets l (f + at) (blocksOf r)) (empty n t (w .before) i (w .rest) (w .end) (w .stands) (omega (arith, sums, h))))
 
   module _ (h : at < count) where
     here : Here n t i (w .rest) (w .end)
@@ -97,21 +97,23 @@ module _ (n : ℕ) (t : Bytes) (c : List Run) (l₀ : List ℕ) (i at : ℕ) (l 
       pub fill-fits : (at + s ≤ count) × (1 ≤ s) × ((i - 1) + s ≤ n)
       fill-fits = (omega (arith, sums, ap total (here .is), size), omega (arith, k .some), k .within)
 
-      pub fill-next : (q : ℕ) (l′ : List ℕ) → q ≡ nextAt t (i - 1) → l′ ≡ sets l at (blocksFrom s (i - 1)) → Filling n t c l₀ q (at + s) l′
-      fill-next q l′ f p =
+      pub fill-next : (q : ℕ) (l′ : List ℕ) → q ≡ nextAt t (i - 1) → l′ ≡ sets l (f + at) (blocksFrom s (i - 1)) → Filling n t c f l₀ q (at + s) l′
+      fill-next q l′ e p =
           let z : w .rest ≡ run (i - 1) s ∷ here .after = here .is ∙ ap (λ (m : ℕ). run (i - 1) m ∷ here .after) (sym size) in
+          let g : f + at + s ≡ f + (at + s) = omega arith in
           record {
             passed = w .passed ++ run (i - 1) s ∷ [];
             rest = here .after;
             end = w .end;
             is = w .is ∙ ap (λ (r : List Run). w .passed ++ r) z ∙ sym (append-assoc (w .passed) (run (i - 1) s ∷ []) (here .after));
             before = i;
-            stands = subst⁻¹ (λ (j : ℕ). Stands n t i j (here .after) (w .end)) f (here .on);
+            stands = subst⁻¹ (λ (j : ℕ). Stands n t i j (here .after) (w .end)) e (here .on);
             sum = omega (arith, w .sum, total-append (w .passed) (run (i - 1) s ∷ []));
             done = w .done
-                ∙ ap (λ (r : List Run). sets l at (blocksOf r)) z
-                ∙ sets-append (blocksFrom s (i - 1)) (blocksOf (here .after)) l at
-                ∙ ap (λ (j : ℕ). sets (sets l at (blocksFrom s (i - 1))) (at + j) (blocksOf (here .after))) (length-from s (i - 1))
-                ∙ ap (λ (y : List ℕ). sets y (at + s) (blocksOf (here .after))) (sym p);
-            long = ap length p ∙ length-sets l at (blocksFrom s (i - 1)) ∙ w .long;
+                ∙ ap (λ (r : List Run). sets l (f + at) (blocksOf r)) z
+                ∙ sets-append (blocksFrom s (i - 1)) (blocksOf (here .after)) l (f + at)
+                ∙ ap (λ (j : ℕ). sets (sets l (f + at) (blocksFrom s (i - 1))) (f + at + j) (blocksOf (here .after))) (length-from s (i - 1))
+                ∙ ap (λ (j : ℕ). sets (sets l (f + at) (blocksFrom s (i - 1))) j (blocksOf (here .after))) g
+                ∙ ap (λ (y : List ℕ). sets y (f + (at + s)) (blocksOf (here .after))) (sym p);
+            long = ap length p ∙ length-sets l (f + at) (blocksFrom s (i - 1)) ∙ w .long;
           }

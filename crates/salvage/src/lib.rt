@@ -142,19 +142,26 @@ fn number_run(list: &mut [u32], at: usize, b: usize, size: usize)
     }
 }
 
-// Writes the count blocks that a walk followed into a list that has room for them.
-fn number_chain(table: &[u8], n: usize, first: usize, count: usize, list: &mut [u32])
+// Writes the count blocks that a walk followed into a list that has room for them, from place from on.
+pub fn number_chain(
+    table: &[u8],
+    n: usize,
+    first: usize,
+    count: usize,
+    list: &mut [u32],
+    from: usize,
+)
     requires { ⌜ length (now table) ≡ 8 * (n + 1) ⌝ }
     requires { ⌜ (n ≤ 1000000) × (first < n) ⌝ }
-    requires { ⌜ (count ≡ total (salvaged n (now table) first .runs)) × (count ≤ length (now list)) ⌝ }
-    ensures { λ _. ⌜ now (list .exit) ≡ sets (now (list .entry)) 0 (blocksOf (salvaged n (now (table .entry)) first .runs)) ⌝ }
+    requires { ⌜ (count ≡ total (salvaged n (now table) first .runs)) × (from + count ≤ length (now list)) ⌝ }
+    ensures { λ _. ⌜ now (list .exit) ≡ sets (now (list .entry)) from (blocksOf (salvaged n (now (table .entry)) first .runs)) ⌝ }
 {
     let mut i = first + 1;
     let mut at: usize = 0;
     while at < count {
         let b = i - 1;
         let size = fat_node::size_of(table, n, b) as usize;
-        number_run(list, at, b, size);
+        number_run(list, from + at, b, size);
         at += size;
         i = fat_node::next_of(table, b);
     }
@@ -211,7 +218,7 @@ fn chain_sized(table: &[u8], n: usize, work: &mut [u32], first: usize, list: &mu
     if list.len() < count {
         return refused(Answer::ListTooShort);
     }
-    number_chain(table, n, first, count, list);
+    number_chain(table, n, first, count, list, 0);
     Salvaged {
         answer: Answer::Done,
         count,

@@ -27,7 +27,7 @@ use Rattle.salvage_shared.proofs.Counted.{added-none, added-append}
 -- ---- places
 
 -- what stands from place i on, where there is one
-from-at : (l : List ℕ) (i : ℕ) → i < length l → drop i l ≡ getD l i 0 ∷ drop (i + 1) l
+pub from-at : (l : List ℕ) (i : ℕ) → i < length l → drop i l ≡ getD l i 0 ∷ drop (i + 1) l
 from-at l i h = let q : suc i ≡ i + 1 = omega arith in drop-cons l i 0 h ∙ ap (λ (j : ℕ). getD l i 0 ∷ drop j l) q
 
 -- a whole list written
@@ -54,7 +54,7 @@ module _ (n : ℕ) (t : Bytes) (b : ℕ) where
       go true e h = eqb-true (salvaged n t b .why .rule) 0 e
       go false e h = absurd (omega (arith, h))
 
-  few : total (salvaged n t b .runs) ≤ n
+  pub few : total (salvaged n t b .runs) ≤ n
   few = total-apart n (salvaged n t b .runs) (left (suc n) n t [] 0 (suc b) (apart-none n) .apart)
 
   next-more : (spent kind spent′ : ℕ) → spent ≤ 4 * n → kindOf n t b ≡ kind → spent′ ≡ spent + total (salvaged n t b .runs) → (bs : List ℕ)
@@ -75,7 +75,7 @@ module _ (n : ℕ) (t : Bytes) (b : ℕ) where
   none : n ≤ b → (s : ℕ) → NodeAt t n b s → ⊥
   none h s w = omega (arith, h, w .some, w .within)
 
-  out : n ≤ b → salvaged n t b ≡ salvage [] (unread n t 0 b)
+  pub out : n ≤ b → salvaged n t b ≡ salvage [] (unread n t 0 b)
   out h = follow-none n n t [] 0 b (unreadable n t b (none h))
 
   pub judge-out : (w : List ℕ) (m spent : ℕ) → MayJudge n t w m spent → spent ≤ 4 * n → (x : ℕ) → x ≡ b → n ≤ x → Judges n t b m spent w 1 spent

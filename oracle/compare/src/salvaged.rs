@@ -33,7 +33,8 @@ fn same(asked: Asked, table: &[u8], places: usize, room: usize) {
         "the library differs\nlent {before:?}\nrules {stated:?} {:?} {:?}\nlibrary {answered:?} {:?} {:?}",
         lent.list, lent.work, library.list, library.work
     );
-    assert!(stated.number == 0 || lent.list == before.list, "the rules changed the list and refused");
+    let kept = lent.list == before.list && lent.asked == before.asked;
+    assert!(stated.number == 0 || kept, "the rules changed a list and refused");
     ANSWERS[stated.number as usize].fetch_add(1, Ordering::Relaxed);
     match (stated.number, &before.asked) {
         (0, Asked::Chain(_)) => {
@@ -75,12 +76,17 @@ pub fn run(chance: &mut Chance) {
     let most = chance.pick(&[n, n + 3, 1]);
     let firsts: Vec<u32> = (0..many).map(|_| chance.below(most) as u32).collect();
     let room = many + chance.below(2) - usize::from(many > 0 && chance.one_in(8));
-    same(Asked::Shared(firsts), &table, places, room);
+    same(Asked::Shared(firsts.clone()), &table, places, room);
+    let ends = vec![55; 3 * many + chance.below(2) - usize::from(many > 0 && chance.one_in(8))];
+    let room = chance.pick(&[5 * n, 5 * n, n, 1]);
+    same(Asked::Chains(firsts, ends), &table, places, room);
     let whole: Vec<u32> = (0..n as u32).collect();
     same(Asked::Shared(whole.repeat(6)), &table, places, 6 * n);
+    same(Asked::Chains(whole.repeat(6), vec![55; 18 * n]), &table, places, 5 * n);
     let cut = chance.below(20);
     same(Asked::Chain(0), &table[..cut.min(table.len())], places, n);
     same(Asked::Shared(vec![0]), &table[..cut.min(table.len())], places, n);
+    same(Asked::Chains(vec![0], vec![55; 3]), &table[..cut.min(table.len())], places, n);
     let tree = trees::any_sound(chance);
     for (asked, width, mut table) in [(Asked::Dirs, 40, tree.dir_table), (Asked::Files, 48, tree.file_table)] {
         let room = table.len() / width;

@@ -1,14 +1,16 @@
 //! Salvage: by the rules and by the library.
 
 use crate::Answered;
-use mukthiban_ffi::{mukthiban_salvage_chain, mukthiban_salvage_dirs, mukthiban_salvage_files, mukthiban_salvage_shared, mukthiban_salvage_way};
-use rules::salvage::{chain, entries, shared, way};
+use mukthiban_ffi::{mukthiban_salvage_chain, mukthiban_salvage_chains, mukthiban_salvage_dirs, mukthiban_salvage_files, mukthiban_salvage_shared, mukthiban_salvage_way};
+use rules::salvage::{chain, chains, entries, shared, way};
 
 /// Which call.
 #[derive(Clone, PartialEq, Eq, Debug)]
 pub enum Asked {
     Chain(usize),
     Shared(Vec<u32>),
+    /// Some first blocks, and the list of ends.
+    Chains(Vec<u32>, Vec<usize>),
     Dirs,
     Files,
     Way(u32),
@@ -31,6 +33,9 @@ impl Salvage {
             Asked::Chain(first) => chain(table, work, *first, list)
                 .map(|(count, ends)| Answered::with(0, &[count as u64]).at(ends.entry, ends.rule)),
             Asked::Shared(firsts) => shared(table, work, firsts, list).map(|()| Answered::number(0)),
+            Asked::Chains(firsts, ends) => {
+                chains(table, work, firsts, ends, list).map(|count| Answered::with(0, &[count as u64]))
+            }
             Asked::Dirs => entries(table, 40, work, list).map(|count| Answered::with(0, &[count as u64])),
             Asked::Files => entries(table, 48, work, list).map(|count| Answered::with(0, &[count as u64])),
             Asked::Way(inode) => way(table, work, *inode, list).map(|count| Answered::with(0, &[count as u64])),
@@ -52,6 +57,11 @@ impl Salvage {
                 }
                 Asked::Shared(firsts) => {
                     Answered::number(mukthiban_salvage_shared(t, tl, w, wl, firsts.as_ptr(), firsts.len(), l, ll).answer)
+                }
+                Asked::Chains(firsts, ends) => {
+                    let (e, el) = (ends.as_mut_ptr(), ends.len());
+                    let a = mukthiban_salvage_chains(t, tl, w, wl, firsts.as_ptr(), firsts.len(), e, el, l, ll);
+                    Answered::with(a.answer, &[a.count as u64])
                 }
                 Asked::Dirs => {
                     let a = mukthiban_salvage_dirs(t, tl, w, wl, l, ll);

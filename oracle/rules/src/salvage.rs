@@ -83,6 +83,26 @@ pub fn shared(table: &[u8], work: &mut [u32], firsts: &[u32], list: &mut [u32]) 
     Ok(())
 }
 
+/// The chains of some first blocks, each as far as it can be followed; rule 9 for one that is not followed. Three numbers for each, and the blocks of all.
+pub fn chains(table: &[u8], work: &mut [u32], firsts: &[u32], ends: &mut [usize], list: &mut [u32]) -> Outcome<usize> {
+    let n = sizes(table, work, firsts.len())?;
+    refuse(ends.len() < 3 * firsts.len(), ListTooShort)?;
+    let (mut told, mut blocks) = (vec![], vec![]);
+    for &first in firsts {
+        if blocks.len() > 4 * n {
+            told.extend([0, 0, 9]);
+            continue;
+        }
+        let followed = follow(table, n, first as usize);
+        told.extend([followed.blocks.len(), followed.ends.entry, followed.ends.rule as usize]);
+        blocks.extend(followed.blocks);
+    }
+    refuse(list.len() < blocks.len(), ListTooShort)?;
+    ends[..told.len()].copy_from_slice(&told);
+    list[..blocks.len()].copy_from_slice(&blocks);
+    Ok(blocks.len())
+}
+
 /// The entries below count and room, and those among them that the removed list names, as far as it can be followed.
 fn removed(table: &[u8], width: usize, work: &mut [u32]) -> Outcome<(usize, HashSet<usize>)> {
     refuse(table.len() < width, SizeMismatch)?;

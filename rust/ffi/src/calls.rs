@@ -153,6 +153,9 @@ calls! {
     fn mukthiban_salvage_shared(
         table: &[u8], work: &mut [u32], firsts: &[u32], list: &mut [u32],
     ) -> Plain;
+    fn mukthiban_salvage_chains(
+        table: &[u8], work: &mut [u32], firsts: &[u32], ends: &mut [usize], list: &mut [u32],
+    ) -> Listed;
     fn mukthiban_salvage_dirs(table: &[u8], work: &mut [u32], list: &mut [u32]) -> Listed;
     fn mukthiban_salvage_files(table: &[u8], work: &mut [u32], list: &mut [u32]) -> Listed;
     fn mukthiban_salvage_way(table: &[u8], work: &mut [u32], inode: u32, list: &mut [u32]) -> Listed;

@@ -1,6 +1,6 @@
 //! What can still be trusted on a broken volume. Nothing here writes to one.
 //!
-//! [`chain`], [`shared`], [`dirs`], [`files`] and [`way`] are calls of the proved library, over lent slices, any bytes
+//! [`chain`], [`chains`], [`shared`], [`dirs`], [`files`] and [`way`] are calls of the proved library, over lent slices, any bytes
 //! allowed. [`Salvage`] takes a whole volume apart with them: every file with its path, its blocks and how far it can be
 //! trusted, and the chains that no file names. What it takes beside the live entries and the sure ways, and how it marks a
 //! file, is Rust, and tested alone.
@@ -76,6 +76,28 @@ pub struct Followed {
     pub ends: Ends,
 }
 
+impl Followed {
+    /// What the three numbers say that [`chains`] writes of a chain; none where it was not followed, since those before it
+    /// have more than 4n blocks together.
+    pub fn of(told: &[usize; 3]) -> Option<Followed> {
+        let ends = match told[2] {
+            9 => return None,
+            rule => Ends::of(told[1], rule as u32),
+        };
+        Some(Followed { count: told[0], ends })
+    }
+}
+
+impl Ends {
+    fn of(entry: usize, rule: u32) -> Ends {
+        match rule {
+            0 => Ends::Whole,
+            8 => Ends::HasPrevious,
+            rule => Ends::Broken(Fault { entry, rule }),
+        }
+    }
+}
+
 /// What a chain is worth beside others.
 #[derive(Clone, Copy, Debug, PartialEq, Eq)]
 pub enum Trust {
@@ -113,12 +135,37 @@ pub fn chain(table: &[u8], work: &mut [u32], first_block: usize, list: &mut [u32
         )
     };
     judge(r.answer)?;
-    let ends = match r.rule {
-        0 => Ends::Whole,
-        8 => Ends::HasPrevious,
-        rule => Ends::Broken(Fault { entry: r.entry, rule }),
+    Ok(Followed { count: r.count, ends: Ends::of(r.entry, r.rule) })
+}
+
+/// The same for each of some first blocks, in one call that is linear in blocks and first blocks: `told` has three places
+/// for each ([`Followed::of`]), and `list` the blocks of all, one chain behind the other. Answers how many these are; they
+/// are no more than 5n. Where no node can be read at a first block, its chain has none.
+pub fn chains(
+    table: &[u8],
+    work: &mut [u32],
+    firsts: &[u32],
+    told: &mut [[usize; 3]],
+    list: &mut [u32],
+) -> Result<usize, Refusal> {
+    // SAFETY: pointers and lengths are those of slices, three numbers to each of `told`, and what is lent `&mut` overlaps
+    // nothing.
+    let r = unsafe {
+        ffi::mukthiban_salvage_chains(
+            table.as_ptr(),
+            table.len(),
+            work.as_mut_ptr(),
+            work.len(),
+            firsts.as_ptr(),
+            firsts.len(),
+            told.as_mut_ptr().cast(),
+            3 * told.len(),
+            list.as_mut_ptr(),
+            list.len(),
+        )
     };
-    Ok(Followed { count: r.count, ends })
+    judge(r.answer)?;
+    Ok(r.count)
 }
 
 /// Writes to `list` the live directories of a directory table, by their inodes, and answers how many there are: those below

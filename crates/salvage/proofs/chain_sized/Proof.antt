@@ -1,5 +1,6 @@
 -- `salvage::chain_sized` meets its contract.
 use mathlib.Core.Path.{_∙_}
+use native.Mathlib.Omega.{arith}
 use borrow.Author.Needs.{needs}
 use Rattle.salvage.proofs.Walks.{clear-below, read-below}
 use Rattle.salvage.proofs.Outs.{out-none, out-short, out-done}
@@ -41,7 +42,7 @@ returns-2 c = search (out-short)
 number-chain-requires : tie.Need-number-chain-requires
 number-chain-requires c κs =
     let a = c .before .before .before .before .before .before .before .before .before .before .before .before .before .before .before .before .before .before .before .before .pre in
-    (a .0, ((a .1 .0, read-below _ _ _ _ (c .before .before .before .before .before .before .before .before .before .before .before .before .readable .ensures) (c .before .before .before .before .before .before .before .before .before .before .before .if1 .left)), (c .before .before .before .before .before .before .before .before .before .walk .ensures .sum, c .before .if2 .left)))
+    (a .0, ((a .1 .0, read-below _ _ _ _ (c .before .before .before .before .before .before .before .before .before .before .before .before .readable .ensures) (c .before .before .before .before .before .before .before .before .before .before .before .if1 .left)), (c .before .before .before .before .before .before .before .before .before .walk .ensures .sum, omega (arith, c .before .if2 .left))))
 
 same-length-3 : tie.Need-same-length-3
 same-length-3 c = search needs

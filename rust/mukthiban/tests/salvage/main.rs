@@ -3,7 +3,7 @@
 mod corpus;
 
 use corpus::{run, Tally, DAMAGE};
-use mukthiban::salvage::{chain, shared, Ends, Salvage, Way};
+use mukthiban::salvage::{chain, chains, shared, Ends, Followed, Salvage, Way};
 use mukthiban::{fat, Refusal};
 
 /// No file is called whole that is wrong, unless its own record, its data or a directory above it was damaged; and as many
@@ -94,6 +94,44 @@ fn refusals_in_their_order() {
     assert_eq!(shared(&table, &mut work, &[0], &mut []), Err(Refusal::ListTooShort));
     assert_eq!(shared(&table, &mut work, &[0, 1, u32::MAX], &mut list), Ok(()));
     assert_eq!((list, work), ([0, 1, 1, 3, 9], [0, 0, 0, 0, 7]));
+}
+
+/// Some chains in one call are what they are one by one, on damaged tables; and its refusals, in their order.
+#[test]
+fn chains_in_one_call() {
+    for seed in 1..40 {
+        let mut rng = corpus::Rng::new(seed);
+        let (mut parts, _) = corpus::volume(&mut rng);
+        corpus::damage(&mut rng, &mut parts, seed as usize % 4);
+        let n = parts.blocks();
+        let firsts: Vec<u32> = (0..n as u32 + 2).collect();
+        let (mut work, mut one, mut list) = (vec![7; n], vec![0; n], vec![0; 5 * n]);
+        let mut told = vec![[0; 3]; firsts.len()];
+        let count = chains(&parts.fat, &mut work, &firsts, &mut told, &mut list).unwrap();
+        let mut at = 0;
+        for (&first, told) in firsts.iter().zip(&told) {
+            let Some(followed) = Followed::of(told) else { panic!("not followed") };
+            match chain(&parts.fat, &mut work, first as usize, &mut one) {
+                Ok(single) => assert_eq!((followed, &list[at..at + told[0]]), (single, &one[..single.count])),
+                Err(refusal) => assert_eq!((refusal, told[0]), (Refusal::NotAFile, 0)),
+            }
+            at += told[0];
+        }
+        assert_eq!(at, count);
+        let short = &mut told[..n];
+        assert_eq!(chains(&parts.fat[1..], &mut [], &firsts, short, &mut []), Err(Refusal::SizeMismatch));
+        assert_eq!(chains(&parts.fat[..8], &mut [], &firsts, short, &mut []), Err(Refusal::InvalidValue));
+        assert_eq!(chains(&parts.fat, &mut work[1..], &firsts, short, &mut []), Err(Refusal::WorkTooShort));
+        assert_eq!(chains(&parts.fat, &mut work, &firsts, short, &mut list), Err(Refusal::ListTooShort));
+        assert_eq!(
+            chains(&parts.fat, &mut work, &firsts, &mut told, &mut list[..count - 1]),
+            Err(Refusal::ListTooShort)
+        );
+        // the same blocks over and over: from over 4n on nothing is followed
+        let (again, mut told) = (firsts.repeat(20), vec![[0; 3]; 20 * firsts.len()]);
+        let count = chains(&parts.fat, &mut work, &again, &mut told, &mut list).unwrap();
+        assert!(count <= 5 * n && told.last() == Some(&[0, 0, 9]), "{count} of {n}");
+    }
 }
 
 /// Why a chain ends: each rule that can stop one, on a table of twelve blocks with a file of three and two.
