@@ -2,16 +2,16 @@
 
 use super::evidence::{Evidence, Half};
 use super::table::word;
-use super::way;
 use crate::tables::{Name, Tables, DIR_WIDTH, FILE_WIDTH, ROOT};
-use std::collections::{HashMap, HashSet};
+use std::collections::HashSet;
 
 /// How far a way up by parents leads.
 #[derive(Clone, Debug, PartialEq, Eq)]
 pub enum Way {
     /// To the root: the directories' inodes from the top down, the root left out.
     Root(Vec<u32>),
-    /// Not to the root: the directories that were passed, the lowest last; above them is no live directory, or a ring.
+    /// Not to the root: the directories that were passed, the lowest last, no more than 64; above them is no live directory,
+    /// or a ring.
     Lost(Vec<u32>),
 }
 
@@ -40,8 +40,31 @@ pub struct Entries {
     dirs: Vec<Option<(u32, Name)>>,
     /// The directories whose entries show damage.
     damaged: Vec<bool>,
-    /// The way up of every live directory, and of every one that a file names.
-    ways: HashMap<u32, Way>,
+    /// The directories whose way up leads to the root.
+    rooted: Vec<bool>,
+}
+
+/// The most directories that are kept of a way that does not lead to the root.
+const LOWEST: usize = 64;
+
+/// Which directories lead up to the root, each looked at once. Of those that the proved call lists these are exactly the
+/// ones whose way, by the call [`way`](super::way), leads there: theorems `way-below` and `way-above`.
+fn rooted(dirs: &[Option<(u32, Name)>]) -> Vec<bool> {
+    let mut leads: Vec<Option<bool>> = vec![None; dirs.len()];
+    if let Some(root) = leads.get_mut(ROOT as usize) {
+        *root = Some(true);
+    }
+    for start in 0..dirs.len() {
+        let (mut way, mut at) = (Vec::new(), start);
+        while let (Some(Some((parent, _))), Some(None)) = (dirs.get(at), leads.get(at)) {
+            leads[at] = Some(false); // where the way comes back here it is a ring
+            way.push(at);
+            at = *parent as usize;
+        }
+        let to_root = leads.get(at).copied().flatten() == Some(true);
+        way.into_iter().for_each(|dir| leads[dir] = Some(to_root));
+    }
+    leads.into_iter().map(|leads| leads == Some(true)).collect()
 }
 
 impl Entries {
@@ -53,7 +76,7 @@ impl Entries {
         let below = Half::new(tables.file_table, FILE_WIDTH, tables.file_hash);
         let evidence = Evidence::of(&half, &below);
         // directories above the count are taken too: what is below them may be right
-        let dirs = (0..half.table.room()).map(|i| half.live[i].then(|| key(half.table.entry(i)))).collect();
+        let dirs: Vec<_> = (0..half.table.room()).map(|i| half.live[i].then(|| key(half.table.entry(i)))).collect();
         let table = &below.table;
         let found = |inode: usize| {
             let (parent, name) = key(table.entry(inode));
@@ -62,50 +85,31 @@ impl Entries {
             Found { inode: inode as u32, parent, name, carried, sure, damaged }
         };
         let files = (1..table.room()).filter(|&i| below.live[i]).map(found).collect();
-        let mut entries = Entries { files, dirs, damaged: evidence.dirs, ways: HashMap::new() };
-        let named: HashSet<u32> = entries.dir_inodes().chain(entries.files.iter().map(|f| f.parent)).collect();
-        entries.ways = named.into_iter().map(|d| (d, entries.climb(tables.dir_table, d))).collect();
-        entries
+        let rooted = rooted(&dirs);
+        Entries { files, dirs, damaged: evidence.dirs, rooted }
     }
 
-    /// The way up from a directory's inode: the proved call's where it leads to the root; else by the parents of all that
-    /// look live, those above the count too.
-    fn climb(&self, dir_table: &[u8], dir: u32) -> Way {
-        let room = (dir_table.len() / DIR_WIDTH).min(65_536);
-        let (mut work, mut list) = (vec![0; room], vec![0; room]);
-        let bytes = &dir_table[..dir_table.len().min(65_536 * DIR_WIDTH)];
-        if let Ok(count @ 1..) = way(bytes, &mut work, dir, &mut list) {
-            if list[count - 1] == ROOT {
-                list[..count - 1].reverse();
-                return Way::Root(list[..count - 1].to_vec());
-            }
-        }
-        self.guess(dir)
-    }
-
-    fn guess(&self, dir: u32) -> Way {
+    /// The way up from a directory's inode, by the parents of all that look live, those above the count too.
+    pub fn way(&self, dir: u32) -> Way {
         let (mut way, mut at) = (Vec::new(), dir);
-        let mut met = HashSet::new();
-        while at != ROOT {
-            let parent = self.dirs.get(at as usize).copied().flatten().map(|(parent, _)| parent);
-            match parent {
-                Some(parent) if met.insert(at) => {
-                    way.push(at);
-                    at = parent;
-                }
-                _ => {
-                    way.reverse();
-                    return Way::Lost(way);
-                }
+        if dir == ROOT || self.rooted.get(dir as usize) == Some(&true) {
+            while at != ROOT {
+                way.push(at);
+                at = self.dirs[at as usize].expect("a directory on the way").0;
             }
+            way.reverse();
+            return Way::Root(way);
+        }
+        let mut met = HashSet::new();
+        while let Some((parent, _)) = self.dirs.get(at as usize).copied().flatten() {
+            if way.len() == LOWEST || !met.insert(at) {
+                break;
+            }
+            way.push(at);
+            at = parent;
         }
         way.reverse();
-        Way::Root(way)
-    }
-
-    /// The way up from a directory's inode.
-    pub fn way(&self, dir: u32) -> Way {
-        self.ways.get(&dir).cloned().unwrap_or(Way::Lost(Vec::new()))
+        Way::Lost(way)
     }
 
     /// Whether a directory's entry shows damage: by its bucket, its parent's list, its name or its links.

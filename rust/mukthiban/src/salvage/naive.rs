@@ -22,7 +22,7 @@ pub(super) fn blocks(table: &[u8], first: u32, need: u64) -> Vec<u32> {
             true => (word(at + 2, 4) as usize).clamp(at + 1, n),
             false => at + 1,
         };
-        out.extend(at as u32..end as u32);
+        out.extend((at as u32..end as u32).take((need - out.len() as u64) as usize));
         match (v % TOP).checked_sub(1) {
             Some(next) => at = next as usize,
             None => break,

@@ -1,7 +1,7 @@
 //! A broken volume's files, each with how far it can be trusted.
 
 use super::entries::{Entries, Found, Way};
-use super::{chain, naive, shared, Ends, Trust};
+use super::{chains, naive, shared, Ends, Followed, Trust};
 use crate::fat::MAX_BLOCKS;
 use crate::parts::Parts;
 use crate::record::Record;
@@ -124,6 +124,32 @@ fn trusts(table: &[u8], work: &mut [u32], firsts: &[u32]) -> Vec<Trust> {
     }
 }
 
+/// The chains of some first blocks, by one proved call.
+struct Chains {
+    told: Vec<[usize; 3]>,
+    /// Where the blocks of each begin.
+    from: Vec<usize>,
+    list: Vec<u32>,
+}
+
+impl Chains {
+    fn of(table: &[u8], work: &mut [u32], firsts: &[u32]) -> Chains {
+        let mut told = vec![[0, 0, 9]; firsts.len()];
+        let mut list = vec![0; 5 * work.len()];
+        let count = chains(table, work, firsts, &mut told, &mut list).unwrap_or(0); // 0: no table at all
+        list.truncate(count);
+        let from = told.iter().scan(0, |at, told| Some(std::mem::replace(at, *at + told[0]))).collect();
+        Chains { told, from, list }
+    }
+
+    /// The blocks of one, and why there are no more; none where no node can be read at its first block.
+    fn at(&self, place: usize) -> (&[u32], Option<Ends>) {
+        let blocks = &self.list[self.from[place]..][..self.told[place][0]];
+        let ends = Followed::of(&self.told[place]).map(|f| f.ends);
+        (blocks, ends.filter(|e| !blocks.is_empty() || *e == Ends::HasPrevious))
+    }
+}
+
 impl Salvage {
     /// Takes a volume apart. Any bytes are allowed.
     ///
@@ -164,7 +190,7 @@ impl Salvage {
     fn with(parts: &Parts, block_len: usize, lengths: Lengths) -> Salvage {
         let table = fitting(&parts.fat);
         let n = (table.len() / 8).saturating_sub(1);
-        let (mut work, mut list) = (vec![0; n], vec![0; n]);
+        let mut work = vec![0; n];
         let entries = Entries::read(parts.tables());
         let records: Vec<Record> = entries.files.iter().map(|f| Record::of(&f.carried)).collect();
         let head = head_of(table);
@@ -172,32 +198,24 @@ impl Salvage {
         let mut firsts: Vec<u32> = records.iter().filter(|r| r.size > 0).map(|r| r.first_block).collect();
         firsts.extend(head);
         let judged = trusts(table, &mut work, &firsts);
+        let chains = Chains::of(table, &mut work, &firsts);
         let mut names: HashMap<(u32, Name), usize> = HashMap::new();
         for f in &entries.files {
             *names.entry((f.parent, f.name)).or_default() += 1;
         }
-        let mut at = 0;
+        // as many blocks are guessed behind chains that are cut as the calls follow, so that this is linear too
+        let (mut at, mut guess) = (0, 4 * n as u64);
         let mut files = Vec::with_capacity(records.len());
         for (found, record) in entries.files.iter().zip(&records) {
-            let trust = (record.size > 0).then(|| {
+            let chain = (record.size > 0).then(|| {
                 at += 1;
-                judged[at - 1]
+                (judged[at - 1], chains.at(at - 1))
             });
             let twice = names[&(found.parent, found.name)] > 1;
-            files.push(file(
-                parts,
-                (block_len, lengths),
-                table,
-                (&mut work, &mut list),
-                &entries,
-                found,
-                *record,
-                trust,
-                twice,
-            ));
+            files.push(file(parts, (block_len, lengths), (table, &mut guess), &entries, found, *record, chain, twice));
         }
-        let free = head.map_or(Vec::new(), |b| follow(table, &mut work, &mut list, b).0);
-        let lost = lost(table, &mut work, &mut list, &firsts);
+        let free = head.map_or(Vec::new(), |_| chains.at(at).0.to_vec());
+        let lost = lost(table, &mut work, &firsts);
         Salvage { files, lost, entries, free, block_len, remark: None }
     }
 
@@ -216,44 +234,36 @@ fn head_of(table: &[u8]) -> Option<u32> {
     }
 }
 
-fn follow(table: &[u8], work: &mut [u32], list: &mut [u32], first: u32) -> (Vec<u32>, Option<Ends>) {
-    match chain(table, work, first as usize, list) {
-        Ok(followed) => (list[..followed.count].to_vec(), Some(followed.ends)),
-        Err(_) => (Vec::new(), None),
-    }
-}
-
 #[allow(clippy::too_many_arguments)]
 fn file(
     parts: &Parts,
     (block_len, lengths): (usize, Lengths),
-    table: &[u8],
-    (work, list): (&mut [u32], &mut [u32]),
+    (table, guess): (&[u8], &mut u64),
     entries: &Entries,
     found: &Found,
     record: Record,
-    trust: Option<Trust>,
+    chain: Option<(Trust, (&[u32], Option<Ends>))>,
     twice: bool,
 ) -> SalvagedFile {
     let (mut blocks, mut doubt) = (Vec::new(), None);
     let need = record.blocks(block_len);
     let mut followed = 0;
-    if let Some(trust) = trust {
-        let (taken, ends) = follow(table, work, list, record.first_block);
+    if let Some((trust, (taken, ends))) = chain {
         followed = taken.len();
-        blocks = taken;
+        blocks = taken.to_vec();
         doubt = match (trust, ends) {
-            (_, None) => Some(Doubt::NoChain),
             (Trust::Unjudged, _) => Some(Doubt::Unjudged),
+            (_, None) => Some(Doubt::NoChain),
             (Trust::Shared, _) => Some(Doubt::Shared),
             (Trust::Whole, _) if (blocks.len() as u64) < need => Some(Doubt::Short),
             (Trust::Whole, _) => None,
             (Trust::Cut, Some(ends)) => Some(Doubt::Cut(ends)),
         };
         if matches!(doubt, Some(Doubt::Cut(_) | Doubt::NoChain)) {
-            blocks = naive::blocks(table, record.first_block, need);
+            blocks = naive::blocks(table, record.first_block, need.min(*guess));
+            *guess -= blocks.len().min(*guess as usize) as u64;
             if blocks.len() < followed {
-                blocks = list[..followed].to_vec();
+                blocks = taken.to_vec();
             }
         }
         let end = |b: u32| (u64::from(b) + 1) * block_len as u64;
@@ -285,7 +295,7 @@ fn file(
 
 /// The whole chains that no file names: of every block at which a node with no previous can be read, those that share
 /// no block with another.
-fn lost(table: &[u8], work: &mut [u32], list: &mut [u32], named: &[u32]) -> Vec<LostChain> {
+fn lost(table: &[u8], work: &mut [u32], named: &[u32]) -> Vec<LostChain> {
     let n = work.len();
     let known: std::collections::HashSet<u32> = named.iter().copied().collect();
     let first = |b: usize| table[8 * (b + 1)..8 * (b + 1) + 4] == [0, 0, 0, 0x80];
@@ -297,5 +307,7 @@ fn lost(table: &[u8], work: &mut [u32], list: &mut [u32], named: &[u32]) -> Vec<
     }
     let judged = trusts(table, work, &all);
     let alone = starts.iter().zip(&judged[named.len()..]).filter(|(_, t)| **t == Trust::Whole).map(|(b, _)| *b);
-    alone.map(|b| LostChain { blocks: follow(table, work, list, b).0 }).collect()
+    let alone: Vec<u32> = alone.collect();
+    let chains = Chains::of(table, work, &alone);
+    (0..alone.len()).map(|i| LostChain { blocks: chains.at(i).0.to_vec() }).collect()
 }
