@@ -37,6 +37,25 @@ fn a_wrong_bit_in_a_hash_loses_nothing() {
 }
 
 #[test]
+fn a_damaged_directory_puts_the_path_in_doubt() {
+    let b = two_files();
+    let files = lifted(&b);
+    b.done(&["mkdir", "v", "deep"]);
+    b.done(&["mv", "v", "one", "deep/one"]);
+    // The directory is inode 2; its name becomes d, a zero and the rest of the old one.
+    b.poke("v/dir_table.bin", 2 * 40 + 5, &[0]);
+    assert!(said(&b, &["check", "v"], 4).contains("1 of 2 files can be lifted whole"));
+    said(&b, &["lift", "--salvage", "v", "out"], 4);
+    assert_eq!(fs::read(b.at("out/two")).unwrap(), files[1]);
+    let report = fs::read_to_string(b.at("out/salvage.txt")).unwrap();
+    let line = report.lines().find(|l| l.starts_with("doubtful  /d")).expect("its line");
+    assert!(line.contains("its bytes are whole") && line.contains("its path may be another"), "{report}");
+    let to = line.rsplit(" -> ").next().unwrap();
+    assert!(to.starts_with("doubtful/d"), "{report}");
+    assert_eq!(fs::read(b.at("out").join(to)).unwrap(), files[0]);
+}
+
+#[test]
 fn what_is_in_doubt_is_set_apart() {
     let b = two_files();
     let files = lifted(&b);
