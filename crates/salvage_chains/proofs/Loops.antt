@@ -25,11 +25,11 @@ use Rattle.salvage_chains.specs.inner.Says.{OneSays, MayNumber, MayAll, 
 -- ---- one chain
 
 module _ (n : ℕ) (t : Bytes) (b : ℕ) where
-  one-is : (spent : ℕ) → spent ≤ 4 * n → one n t b spent ≡ salvaged n t b
+  pub one-is : (spent : ℕ) → spent ≤ 4 * n → one n t b spent ≡ salvaged n t b
   unfolding one
   one-is spent h = rw (le-leb spent (4 * n) h)
 
-  one-not : (spent : ℕ) → 4 * n < spent → one n t b spent ≡ salvage [] (fault 0 9)
+  pub one-not : (spent : ℕ) → 4 * n < spent → one n t b spent ≡ salvage [] (fault 0 9)
   unfolding one
   one-not spent h = rw (lt-leb spent (4 * n) h)
 

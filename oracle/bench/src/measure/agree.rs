@@ -2,10 +2,10 @@
 
 use super::sides::{library_merge, library_plan, peer_plan};
 use crate::peers::nodes::entries;
-use crate::peers::{audit, calls, careful, ends, fault, merge, sorted, walks};
+use crate::peers::{audit, calls, careful, ends, fault, merge, salvage, sorted, walks};
 use compare::chance::Chance;
 use compare::{audited, trees, volumes};
-use port::{Audit, BlockCall, Blocks, Library, PlanCall, Port, Tree, TreeCall};
+use port::{Asked, Audit, BlockCall, Blocks, Library, PlanCall, Port, Salvage, Tree, TreeCall};
 use rules::put_word;
 
 /// A word that a table might wrongly hold.
@@ -71,6 +71,19 @@ fn audits(lent: &Audit) {
         let mut theirs = lent.clone();
         let told = audit::audit(&mut theirs, blocks, tree);
         assert!(told == (answer.number.into(), answer.fields[0]) && theirs == ours, "the audit: {told:?} beside {answer:?}");
+    }
+}
+
+/// Any first blocks of a table of any bytes.
+fn salvages(chance: &mut Chance, table: &[u8]) {
+    let n = table.len() / 8 - 1;
+    let firsts: Vec<u32> = (0..chance.within(1, 3 * n)).map(|_| chance.below(n + 1) as u32).collect();
+    let ends = vec![9; 3 * firsts.len()];
+    for asked in [Asked::Chain(chance.below(n)), Asked::Shared(firsts.clone()), Asked::Chains(firsts, ends)] {
+        let mut ours = Salvage { asked, table: table.to_vec(), work: vec![7; n], list: vec![9; 5 * n] };
+        let mut theirs = ours.clone();
+        let told = (salvage::salvage(&mut theirs), super::salvages::answered(&mut ours));
+        assert!(told.0 == told.1 && theirs == ours, "the salvage of {ours:?}: {told:?}");
     }
 }
 
@@ -153,6 +166,7 @@ pub fn run(quick: bool) {
         tables += block_tests(&lent) as usize;
         block_merges(&lent);
         block_call(&mut chance, &lent);
+        salvages(&mut chance, &lent.table);
         let mut lent = audited::any_volume(&mut chance);
         audits(&lent);
         damage(&mut chance, &mut lent.table, 8);

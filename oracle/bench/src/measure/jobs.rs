@@ -178,6 +178,7 @@ pub fn run(report: &mut Report, quick: bool) {
     block_tests(report, n);
     merges(report, n);
     audits(report, n, if quick { 500 } else { 65_000 });
+    super::salvages::run(report, n, if quick { 500 } else { 65_000 });
     plans(report, n);
     super::maps::run(report, n);
     long_file(report, n);

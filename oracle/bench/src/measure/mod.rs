@@ -7,6 +7,7 @@ pub mod handles;
 pub mod jobs;
 pub mod keys;
 pub mod maps;
+pub mod salvages;
 pub mod sides;
 pub mod tree;
 pub mod whole;

@@ -11,6 +11,7 @@ pub mod lookup;
 pub mod merge;
 pub mod nodes;
 pub mod plan;
+pub mod salvage;
 pub mod sorted;
 pub mod walks;
 
