@@ -177,10 +177,11 @@ module _ (n : ℕ) (t : Bytes) (firsts e₀ l₀ w e l : List ℕ) (at i : ℕ) 
   pub writing-may : MayJudge n t w (i + 1) at
   writing-may = g .before .next
 
-  pub writing-end : length firsts ≤ i → Wrote n t firsts e₀ l₀ e l w
+  pub writing-end : length firsts ≤ i → Wrote n t firsts e₀ l₀ e l w at
   writing-end h = record {
     told-is = sym (g .told-is ∙ ap (λ (bs : List ℕ). sets e (3 * i) (endsOf (chainsFrom n t bs at))) (drop-of-length-le firsts {i = i} h));
     list-is = sym (g .list-is ∙ ap (λ (bs : List ℕ). sets l at (followed (chainsFrom n t bs at))) (drop-of-length-le firsts {i = i} h));
+    sum = summing-end n t firsts w at i (g .before) h .sum;
     long = g .before .next .sized .long;
   }
 

@@ -1,17 +1,19 @@
 -- The ways out of the call that follows some chains.
 use mathlib.Core.Path.{_≡_, refl, sym, ap, subst⁻¹, _∙_}
 use mathlib.Core.List.{List, [], _∷_, _++_}
-use mathlib.Core.Bool.{Bool, true, false}
+use mathlib.Core.Bool.{Bool, true, false, not}
 use mathlib.Core.Logic.{_⊎_, inl, inr, ⊎-elim}
 use Prim.Native.Nat.{ℕ, _+_, _*_, _≤_, _<_}
 use native.Mathlib.Omega.{arith}
 use lib.ListN.{length, take, drop, replicate, length-replicate, length-append}
 use lib.Seq.{sets, sets-eq, length-take-le}
+use borrow.Author.Tests.{not-true, not-false}
 use Rattle.order.specs.Beside.{beside}
 use Rattle.order.specs.declared.Answer.the-variants as is
 use Rattle.order.proofs.Beside.{passed}
 use Rattle.fat_node.specs.Entry.{Bytes}
 use Rattle.fat_node.specs.Sizes.{blocks, Misfit, Outside}
+use Rattle.fat_node.proofs.Cases.{untrue}
 use Rattle.fat_node.proofs.Sizes.{denied, fit, inside}
 use Rattle.fat_table.specs.Chain.{total}
 use Rattle.fat_promises.specs.Blocks.{blocksOf}
@@ -21,7 +23,8 @@ use Rattle.salvage_shared.specs.Calls.{sharedGate}
 use Rattle.salvage_shared.specs.inner.Says.{Sized}
 use Rattle.salvage_chains.specs.Chains.{one, chainsFrom, chains, many, told, endsOf, followed}
 use Rattle.salvage_chains.specs.Calls.{Chained, chainedGives, chainedRows, chainedDone, ChainsPromise}
-use Rattle.salvage_chains.specs.inner.Says.{MayAll, Summed, Rooms, Wrote, ChainedSays}
+use Rattle.salvage_chains.specs.inner.Says.{MayAll, Summed, RoomSays, Rooms, Wrote, ChainedSays}
+use Rattle.salvage_chains.proofs.Theorems.{places}
 
 -- ---- lengths
 
@@ -58,46 +61,55 @@ may n t w₀ w firsts a f c = record {
   few = f;
 }
 
+module _ (n : ℕ) (t : Bytes) (firsts : List ℕ) (k : ℕ) where
+  pub room-always : (w : List ℕ) → MayAll n t w firsts → 5 * n ≤ k → RoomSays n t firsts k true w
+  room-always w a h = record { yes = λ e. omega (arith, h, places n t firsts); no = λ e. untrue (sym e); clear = a .clear }
+
+  module _ (count : ℕ) (w₁ w : List ℕ) (s : Summed n t firsts count w₁) (c : w ≡ replicate (length w₁) 0) where
+    pub room-short : k < count → RoomSays n t firsts k false w
+    room-short h = record { yes = λ e. untrue e; no = λ e. omega (arith, h, s .sum); clear = all-clear n w w₁ c (s .long) }
+
+    pub room-counted : count ≤ k → RoomSays n t firsts k true w
+    room-counted h = record { yes = λ e. omega (arith, h, s .sum); no = λ e. untrue (sym e); clear = all-clear n w w₁ c (s .long) }
+
 module _ (n : ℕ) (t : Bytes) (w₀ firsts : List ℕ) (a : Sized n t w₀) (f : length firsts ≤ 1000000) where
   pub may-first : (w : List ℕ) → w ≡ replicate (length w₀) 0 → MayAll n t w firsts
   may-first w c = may n t w₀ w firsts a f (all-clear n w w₀ c (a .long))
 
-  pub may-again : (count : ℕ) (w₁ w : List ℕ) → Summed n t firsts count w₁ → w ≡ replicate (length w₁) 0 → MayAll n t w firsts
-  may-again count w₁ w s c = may n t w₀ w firsts a f (all-clear n w w₁ c (s .long))
+  pub may-again : (k : ℕ) (r : Bool) (w : List ℕ) → RoomSays n t firsts k r w → MayAll n t w firsts
+  may-again k r w s = may n t w₀ w firsts a f (s .clear)
 
-module _ (n : ℕ) (t : Bytes) (w₀ firsts e list : List ℕ) (a : Sized n t w₀) where
-  module _ (w : List ℕ) (c : w ≡ replicate (length w₀) 0) where
-    pub out-ends : length e < 3 * length firsts → ChainedSays n t firsts e list (chainedGives is.ListTooShort 0 e list) w
-    out-ends h = record { given = inl (h, refl); clear = all-clear n w w₀ c (a .long) }
+module _ (n : ℕ) (t : Bytes) (firsts e list : List ℕ) where
+  pub out-ends : (w₀ w : List ℕ) → Sized n t w₀ → w ≡ replicate (length w₀) 0 → length e < 3 * length firsts
+      → ChainedSays n t firsts e list (chainedGives is.ListTooShort 0 e list) w
+  out-ends w₀ w a c h = record { given = inl (h, refl); clear = all-clear n w w₀ c (a .long) }
 
-  module _ (count : ℕ) (w₁ : List ℕ) (s : Summed n t firsts count w₁) (h : 3 * length firsts ≤ length e) where
-    module _ (w : List ℕ) (c : w ≡ replicate (length w₁) 0) where
-      pub out-short : length list < count → ChainedSays n t firsts e list (chainedGives is.ListTooShort 0 e list) w
-      out-short k = record {
-        given = inr ((λ z. omega (arith, z, h)), inl (omega (arith, k, s .sum), refl));
-        clear = all-clear n w w₁ c (s .long);
-      }
+  module _ (r : Bool) (w : List ℕ) (s : RoomSays n t firsts (length list) r w) (h : 3 * length firsts ≤ length e) where
+    pub out-short : not r ≡ true → ChainedSays n t firsts e list (chainedGives is.ListTooShort 0 e list) w
+    out-short q = record { given = inr ((λ z. omega (arith, z, h)), inl (s .no (not-true r q), refl)); clear = s .clear }
 
-    module _ (k : count ≤ length list) where
+    module _ (q : not r ≡ false) where
       pub rooms : Rooms n t firsts e list
-      rooms = record { three = h; blocks = omega (arith, k, s .sum) }
+      rooms = record { three = h; blocks = s .yes (not-false r q) }
 
-      pub out-done : (e′ l′ w w₂ : List ℕ) → Wrote n t firsts e list e′ l′ w₂ → w ≡ replicate (length w₂) 0
-          → ChainedSays n t firsts e list (chainedGives is.Done count e′ l′) w
-      out-done e′ l′ w w₂ o c = record {
-        given = inr (
-          (λ z. omega (arith, z, h)),
-          inr (
-            (λ z. omega (arith, z, k, s .sum)),
-            ap (λ (m : ℕ). chainedGives is.Done m e′ l′) (s .sum)
-                ∙ ap (λ (v : List ℕ). chainedGives is.Done (many (chains n t firsts)) v l′)
-                (o .told-is ∙ written (endsOf (chains n t firsts)) e (3 * length firsts) (three n t firsts) h)
-                ∙ ap (λ (v : List ℕ). chainedGives is.Done (many (chains n t firsts)) (endsOf (chains n t firsts) ++ drop (3 * length firsts) e) v)
-                (o .list-is ∙ written (followed (chains n t firsts)) list (many (chains n t firsts)) (many-length (chains n t firsts)) (omega (arith, k, s .sum))),
-          ),
-        );
-        clear = all-clear n w w₂ c (o .long);
-      }
+      pub out-done : (count : ℕ) (e′ l′ w′ w₂ : List ℕ) → Wrote n t firsts e list e′ l′ w₂ count → w′ ≡ replicate (length w₂) 0
+          → ChainedSays n t firsts e list (chainedGives is.Done count e′ l′) w′
+      out-done count e′ l′ w′ w₂ o c =
+          let k : many (chains n t firsts) ≤ length list = s .yes (not-false r q) in
+          record {
+            given = inr (
+              (λ z. omega (arith, z, h)),
+              inr (
+                (λ z. omega (arith, z, k)),
+                ap (λ (m : ℕ). chainedGives is.Done m e′ l′) (o .sum)
+                    ∙ ap (λ (v : List ℕ). chainedGives is.Done (many (chains n t firsts)) v l′)
+                    (o .told-is ∙ written (endsOf (chains n t firsts)) e (3 * length firsts) (three n t firsts) h)
+                    ∙ ap (λ (v : List ℕ). chainedGives is.Done (many (chains n t firsts)) (endsOf (chains n t firsts) ++ drop (3 * length firsts) e) v)
+                    (o .list-is ∙ written (followed (chains n t firsts)) list (many (chains n t firsts)) (many-length (chains n t firsts)) k),
+              ),
+            );
+            clear = all-clear n w′ w₂ c (o .long);
+          }
 
 -- ---- the rows of sizes and work list: x and y are what the two tests of the table say
 

@@ -1,4 +1,5 @@
-// Some chains of a block table of any bytes, each followed as far as it can be trusted, in two passes: how many blocks they have, and then their blocks.
+// Some chains of a block table of any bytes, each followed as far as it can be trusted. How many blocks they have is counted first where the list might be too
+// short.
 //
 // A walk marks by its chain's place in the list, so that nothing is cleared between walks; all together no more than 5n blocks are followed in a pass, so that
 // what the call does is linear in the blocks and the first blocks.
@@ -14,7 +15,7 @@ ghost use Rattle.fat_promises.specs.Blocks.{blocksOf};
 ghost use Rattle.salvage_shared.specs.inner.Says.{Sized, MayJudge};
 ghost use Rattle.salvage_chains.specs.Chains.{one, told};
 ghost use Rattle.salvage_chains.specs.Calls.{chainedGives, ChainsPromise};
-ghost use Rattle.salvage_chains.specs.inner.Says.{OneSays, MayNumber, MayAll, Summed, Rooms, Wrote, ChainedSays};
+ghost use Rattle.salvage_chains.specs.inner.Says.{OneSays, MayNumber, MayAll, Summed, RoomSays, Rooms, Wrote, ChainedSays};
 
 // The same number, wider.
 fn wide(x: u32) -> usize
@@ -66,6 +67,22 @@ fn sum_all(table: &[u8], n: usize, work: &mut [u32], firsts: &[u32]) -> usize
     at
 }
 
+// Whether the blocks of all chains have room in so many places. 5n are always enough; the work list is clear before and after it.
+fn has_room(table: &[u8], n: usize, work: &mut [u32], firsts: &[u32], room: usize) -> bool
+    requires { ⌜ MayAll n (now table) (now work) (now firsts) ⌝ }
+    ensures { λ r. ⌜ RoomSays n (now (table .entry)) (now (firsts .entry)) room r (now (work .exit)) ⌝ }
+{
+    if 5 * n <= room {
+        return true;
+    }
+    let count = sum_all(table, n, work, firsts);
+    order::clear(work);
+    if room < count {
+        return false;
+    }
+    true
+}
+
 // Writes what is told of a chain, from place at on.
 fn put_end(ends: &mut [usize], at: usize, count: usize, why: Fault)
     requires { ⌜ at + 3 ≤ length (now ends) ⌝ }
@@ -95,7 +112,7 @@ fn number_one(
     salvage::number_chain(table, n, wide(first), count, list, at);
 }
 
-// Writes what is told of each chain, and the blocks of all.
+// Writes what is told of each chain, and the blocks of all; how many these are.
 fn write_all(
     table: &[u8],
     n: usize,
@@ -103,10 +120,10 @@ fn write_all(
     firsts: &[u32],
     ends: &mut [usize],
     list: &mut [u32],
-)
+) -> usize
     requires { ⌜ MayAll n (now table) (now work) (now firsts) ⌝ }
     requires { ⌜ Rooms n (now table) (now firsts) (now ends) (now list) ⌝ }
-    ensures { λ _. ⌜ Wrote n (now (table .entry)) (now (firsts .entry)) (now (ends .entry)) (now (list .entry)) (now (ends .exit)) (now (list .exit)) (now (work .exit)) ⌝ }
+    ensures { λ r. ⌜ Wrote n (now (table .entry)) (now (firsts .entry)) (now (ends .entry)) (now (list .entry)) (now (ends .exit)) (now (list .exit)) (now (work .exit)) r ⌝ }
 {
     let mut at: usize = 0;
     let mut i: usize = 0;
@@ -119,6 +136,7 @@ fn write_all(
         at += count;
         i += 1;
     }
+    at
 }
 
 // What the call answers: how many blocks the chains have together.
@@ -147,15 +165,13 @@ fn chains_sized(
             count: 0,
         };
     }
-    let count = sum_all(table, n, work, firsts);
-    order::clear(work);
-    if list.len() < count {
+    if !has_room(table, n, work, firsts, list.len()) {
         return Chained {
             answer: Answer::ListTooShort,
             count: 0,
         };
     }
-    write_all(table, n, work, firsts, ends, list);
+    let count = write_all(table, n, work, firsts, ends, list);
     order::clear(work);
     Chained {
         answer: Answer::Done,

@@ -1,5 +1,6 @@
 -- What the functions inside say. Before a chain is followed, what is asked of work list and mark is `MayJudge` of the call on shared blocks.
 use mathlib.Core.Path.{_≡_}
+use mathlib.Core.Bool.{Bool, true, false}
 use mathlib.Core.List.{List}
 use Prim.Native.Nat.{ℕ, _+_, _*_, _≤_, _<_}
 use lib.ListN.{length, replicate}
@@ -39,15 +40,22 @@ pub record Summed (n : ℕ) (t : Bytes) (firsts : List ℕ) (r : ℕ) (w′ : Li
   pub sum : r ≡ many (chains n t firsts)
   pub long : length w′ ≡ n
 
+-- r tells whether the blocks have room in k places; the work list is clear then
+pub record RoomSays (n : ℕ) (t : Bytes) (firsts : List ℕ) (k : ℕ) (r : Bool) (w′ : List ℕ) : Type 0 where
+  pub yes : r ≡ true → many (chains n t firsts) ≤ k
+  pub no : r ≡ false → k < many (chains n t firsts)
+  pub clear : w′ ≡ replicate n 0
+
 -- both lists have room
 pub record Rooms (n : ℕ) (t : Bytes) (firsts e list : List ℕ) : Type 0 where
   pub three : 3 * length firsts ≤ length e
   pub blocks : many (chains n t firsts) ≤ length list
 
--- both lists are written
-pub record Wrote (n : ℕ) (t : Bytes) (firsts e list e′ list′ w′ : List ℕ) : Type 0 where
+-- both lists are written, with so many blocks
+pub record Wrote (n : ℕ) (t : Bytes) (firsts e list e′ list′ w′ : List ℕ) (count : ℕ) : Type 0 where
   pub told-is : e′ ≡ sets e 0 (endsOf (chains n t firsts))
   pub list-is : list′ ≡ sets list 0 (followed (chains n t firsts))
+  pub sum : count ≡ many (chains n t firsts)
   pub long : length w′ ≡ n
 
 -- what the call gives where the sizes fit, and the work list then

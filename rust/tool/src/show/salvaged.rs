@@ -88,7 +88,8 @@ impl Report {
     pub fn text(&self) -> String {
         let (whole, files) = (self.whole() as u64, self.files.len() as u64);
         let mut out = format!("{}: {} of {} whole\n", self.volume.display(), number(whole), count(files, "file"));
-        out += "whole: its chain is whole by the proved call, shares no block and is long enough for its size\n";
+        out += "whole: its chain is whole by the proved call, shares no block and is long enough for its size, and no entry on\n";
+        out += "its path shows damage\n";
         out += "doubtful: what there is of it, with the first reason; the bytes behind the blocks followed are a guess\n\n";
         self.remarks.iter().for_each(|line| out += &format!("remark    {line}\n"));
         self.files.iter().chain(&self.lost).for_each(|line| out += &line.text());
