@@ -18,6 +18,7 @@ use Rattle.order.specs.declared.Answer.the-variants as is
 use Rattle.fat_node.specs.Entry.{Bytes}
 use Rattle.fat_node.specs.Node.{Run}
 use Rattle.fat_node.specs.Sizes.{blocks, Misfit, Outside}
+use Rattle.fat_node.proofs.Sizes.{denied}
 use Rattle.fat_table.specs.Chain.{total}
 use Rattle.fat_promises.specs.Blocks.{blocksOf}
 use Rattle.fat_inner.proofs.Lists.{listed-is}
@@ -73,26 +74,30 @@ module _ (n : ℕ) (t : Bytes) (b : ℕ) (list : List ℕ) (w w₀ : List ℕ) w
         clear = all-clear n w w₀ ew (s .long);
       }
 
--- ---- the rows of sizes and work list
-module _ (t : Bytes) (work : List ℕ) (b : ℕ) (list : List ℕ) where
+-- ---- the rows of sizes and work list: x and y are what the two tests of the table say
+module _ (t : Bytes) (work : List ℕ) (b : ℕ) (list : List ℕ) (x : Bool) where
+  same : (a a′ : Answer) (count : ℕ) (why : Fault) → (a ≡ a′) × (count ≡ 0) × (why ≡ unbroken)
+      → beside (chainGives a count why list) work ≡ beside (chainGives a′ 0 unbroken list) work
+  same a a′ count why e = ap (λ o. beside o work) (gives list a a′ count why (e .0) (e .1) (e .2))
+
   module _ (a : Answer) (count : ℕ) (why : Fault) where
-    same : (a′ : Answer) → (a ≡ a′) × (count ≡ 0) × (why ≡ unbroken) → beside (chainGives a count why list) work ≡ beside (chainGives a′ 0 unbroken list) work
-    same a′ e = ap (λ o. beside o work) (gives list a a′ count why (e .0) (e .1) (e .2))
+    pub size-misfit : (x ≡ true → Misfit t) → x ≡ true → (a ≡ is.SizeMismatch) × (count ≡ 0) × (why ≡ unbroken)
+        → ChainPromise t work b list (beside (chainGives a count why list) work)
+    size-misfit d h e = inl (d h, same a is.SizeMismatch count why e)
 
-    pub size-misfit : Misfit t → (a ≡ is.SizeMismatch) × (count ≡ 0) × (why ≡ unbroken) → ChainPromise t work b list (beside (chainGives a count why list) work)
-    size-misfit h e = inl (h, same is.SizeMismatch e)
-
-    module _ (m : Misfit t → ⊥) where
-      pub size-outside : Outside t → (a ≡ is.InvalidValue) × (count ≡ 0) × (why ≡ unbroken) → ChainPromise t work b list (beside (chainGives a count why list) work)
-      size-outside h e = inr (m, inl (h, same is.InvalidValue e))
-
-      pub size-short : (Outside t → ⊥) → length work < blocks t → (a ≡ is.WorkTooShort) × (count ≡ 0) × (why ≡ unbroken)
+    module _ (mis : Misfit t → x ≡ true) (ex : x ≡ false) (y : Bool) where
+      pub size-outside : (y ≡ true → Outside t) → y ≡ true → (a ≡ is.InvalidValue) × (count ≡ 0) × (why ≡ unbroken)
           → ChainPromise t work b list (beside (chainGives a count why list) work)
-      size-short o h e = inr (m, inr (o, inl (h, same is.WorkTooShort e)))
+      size-outside d h e = inr (denied x mis ex, inl (d h, same a is.InvalidValue count why e))
 
-  pub size-passed : (Misfit t → ⊥) → (Outside t → ⊥) → blocks t ≤ length work → (o : Followed) (w : List ℕ) → ChainSays (blocks t) t b list o w
-      → ChainPromise t work b list (beside o (w ++ drop (blocks t) work))
-  size-passed m u h o w s =
-      subst⁻¹ (λ (v : List ℕ). ChainPromise t work b list (beside o (v ++ drop (blocks t) work))) (s .clear)
-      (passed (salvageGate (λ a w. beside (chainGives a 0 unbroken list) w) t work) (replicate (blocks t) 0 ++ drop (blocks t) work) (chainRows (blocks t) t b list)
-      (chainDone (blocks t) t b list) o (m, (u, ((λ k. omega (arith, h, k)), tt))) (s .given))
+      pub size-short : (Outside t → y ≡ true) → y ≡ false → length work < blocks t → (a ≡ is.WorkTooShort) × (count ≡ 0) × (why ≡ unbroken)
+          → ChainPromise t work b list (beside (chainGives a count why list) work)
+      size-short out ey h e = inr (denied x mis ex, inr (denied y out ey, inl (h, same a is.WorkTooShort count why e)))
+
+  module _ (mis : Misfit t → x ≡ true) (ex : x ≡ false) (y : Bool) (out : Outside t → y ≡ true) (ey : y ≡ false) where
+    pub size-passed : blocks t ≤ length work → (o : Followed) (w : List ℕ) → ChainSays (blocks t) t b list o w
+        → ChainPromise t work b list (beside o (w ++ drop (blocks t) work))
+    size-passed h o w s =
+        subst⁻¹ (λ (v : List ℕ). ChainPromise t work b list (beside o (v ++ drop (blocks t) work))) (s .clear)
+        (passed (salvageGate (λ a w. beside (chainGives a 0 unbroken list) w) t work) (replicate (blocks t) 0 ++ drop (blocks t) work) (chainRows (blocks t) t b list)
+        (chainDone (blocks t) t b list) o (denied x mis ex, (denied y out ey, ((λ k. omega (arith, h, k)), tt))) (s .given))

@@ -1,6 +1,7 @@
 -- The ways out of the call that tells of some chains.
 use mathlib.Core.Path.{_≡_, refl, sym, ap, subst⁻¹, _∙_}
 use mathlib.Core.List.{List, [], _∷_, _++_}
+use mathlib.Core.Bool.{Bool, true, false}
 use mathlib.Core.Logic.{_⊎_, inl, inr, ⊎-elim}
 use Prim.Native.Nat.{ℕ, _≤_, _<_}
 use native.Mathlib.Omega.{arith}
@@ -11,7 +12,7 @@ use Rattle.order.proofs.Beside.{passed}
 use Rattle.order.specs.declared.Answer.the-variants as is
 use Rattle.fat_node.specs.Entry.{Bytes}
 use Rattle.fat_node.specs.Sizes.{blocks, Misfit, Outside}
-use Rattle.fat_node.proofs.Sizes.{fit, inside}
+use Rattle.fat_node.proofs.Sizes.{denied, fit, inside}
 use Rattle.salvage_shared.specs.Shared.{kinds, laid, tells, trusts}
 use Rattle.salvage_shared.specs.Calls.{Shared, sharedGives, sharedRows, sharedDone, sharedGate, SharedPromise}
 use Rattle.salvage_shared.specs.inner.Says.{Added, TellsAll, Sized, Kinds, MayShare, JudgedAll, Shares, SharedSays}
@@ -79,32 +80,36 @@ out-done n t w firsts list l h s = record {
 pub taken : (k : ℕ) (l : List ℕ) → k ≤ length l → k ≡ length (take k l)
 taken k l h = sym (length-take-le k l h)
 
+-- ---- the rows of sizes and work list: x and y are what the two tests of the table say
+
 -- a table whose sizes fit, and the first places of the work list
-pub sized : (t : Bytes) (work : List ℕ) → (Misfit t → ⊥) → (Outside t → ⊥) → blocks t ≤ length work → Sized (blocks t) t (take (blocks t) work)
-sized t work m u h = record { room = fit t m; small = inside t u .1; long = length-take-le (blocks t) work h }
+pub sized : (t : Bytes) (work : List ℕ) (x y : Bool) → (Misfit t → x ≡ true) → x ≡ false → (Outside t → y ≡ true) → y ≡ false → blocks t ≤ length work
+    → Sized (blocks t) t (take (blocks t) work)
+sized t work x y mis ex out ey h =
+    record { room = fit t (denied x mis ex); small = inside t (denied y out ey) .1; long = length-take-le (blocks t) work h }
 
--- ---- the rows of sizes and work list
-module _ (t : Bytes) (work firsts list : List ℕ) where
-  pub size-misfit : Misfit t → SharedPromise t work firsts list (beside (sharedGives is.SizeMismatch list) work)
-  size-misfit h = inl (h, refl)
+module _ (t : Bytes) (work firsts list : List ℕ) (x : Bool) where
+  pub size-misfit : (x ≡ true → Misfit t) → x ≡ true → SharedPromise t work firsts list (beside (sharedGives is.SizeMismatch list) work)
+  size-misfit d h = inl (d h, refl)
 
-  module _ (m : Misfit t → ⊥) where
-    pub size-outside : Outside t → SharedPromise t work firsts list (beside (sharedGives is.InvalidValue list) work)
-    size-outside h = inr (m, inl (inl h, refl))
-
+  module _ (mis : Misfit t → x ≡ true) (ex : x ≡ false) where
     pub size-many : 1000000 < length firsts → SharedPromise t work firsts list (beside (sharedGives is.InvalidValue list) work)
-    size-many h = inr (m, inl (inr h, refl))
+    size-many h = inr (denied x mis ex, inl (inr h, refl))
 
-    module _ (u : Outside t → ⊥) (f : length firsts ≤ 1000000) where
-      valid : Outside t ⊎ (1000000 < length firsts) → ⊥
-      valid = ⊎-elim u (λ h. omega (arith, h, f))
+    module _ (y : Bool) where
+      pub size-outside : (y ≡ true → Outside t) → y ≡ true → SharedPromise t work firsts list (beside (sharedGives is.InvalidValue list) work)
+      size-outside d h = inr (denied x mis ex, inl (inl (d h), refl))
 
-      pub size-short : length work < blocks t → SharedPromise t work firsts list (beside (sharedGives is.WorkTooShort list) work)
-      size-short h = inr (m, inr (valid, inl (h, refl)))
+      module _ (out : Outside t → y ≡ true) (ey : y ≡ false) (f : length firsts ≤ 1000000) where
+        valid : Outside t ⊎ (1000000 < length firsts) → ⊥
+        valid = ⊎-elim (denied y out ey) (λ h. omega (arith, h, f))
 
-      pub size-passed : blocks t ≤ length work → (o : Shared) (w : List ℕ) → SharedSays (blocks t) t firsts list o w
-          → SharedPromise t work firsts list (beside o (w ++ drop (blocks t) work))
-      size-passed h o w s =
-          subst⁻¹ (λ (v : List ℕ). SharedPromise t work firsts list (beside o (v ++ drop (blocks t) work))) (s .clear)
-          (passed (sharedGate (λ a w. beside (sharedGives a list) w) t work firsts) (replicate (blocks t) 0 ++ drop (blocks t) work) (sharedRows firsts list)
-          (sharedDone (blocks t) t firsts list) o (m, (valid, ((λ k. omega (arith, h, k)), tt))) (s .given))
+        pub size-short : length work < blocks t → SharedPromise t work firsts list (beside (sharedGives is.WorkTooShort list) work)
+        size-short h = inr (denied x mis ex, inr (valid, inl (h, refl)))
+
+        pub size-passed : blocks t ≤ length work → (o : Shared) (w : List ℕ) → SharedSays (blocks t) t firsts list o w
+            → SharedPromise t work firsts list (beside o (w ++ drop (blocks t) work))
+        size-passed h o w s =
+            subst⁻¹ (λ (v : List ℕ). SharedPromise t work firsts list (beside o (v ++ drop (blocks t) work))) (s .clear)
+            (passed (sharedGate (λ a w. beside (sharedGives a list) w) t work firsts) (replicate (blocks t) 0 ++ drop (blocks t) work) (sharedRows firsts list)
+            (sharedDone (blocks t) t firsts list) o (denied x mis ex, (valid, ((λ k. omega (arith, h, k)), tt))) (s .given))

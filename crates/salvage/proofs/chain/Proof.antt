@@ -17,7 +17,7 @@ refused-requires : tie.Need-refused-requires
 refused-requires c κs = search needs
 
 returns : tie.Need-returns
-returns c = size-misfit _ _ _ _ _ _ _ (c .before .before .misfit .ensures .0 (c .before .if1 .taken)) (c .refused .ensures)
+returns c = search (size-misfit)
 
 outside-requires : tie.Need-outside-requires
 outside-requires c κs = search needs
@@ -26,7 +26,7 @@ refused-requires-2 : tie.Need-refused-requires-2
 refused-requires-2 c κs = search needs
 
 returns-2 : tie.Need-returns-2
-returns-2 c = size-outside _ _ _ _ _ _ _ (denied _ (c .before .before .before .before .misfit .ensures .1) (c .before .before .before .if1 .left)) (c .before .before .outside .ensures .0 (c .before .if2 .taken)) (c .refused2 .ensures)
+returns-2 c = search (size-outside)
 
 sub-n : tie.Need-sub-n
 sub-n c = omega (arith, fit (c .before .before .before .before .before .before .before .args .table .now) (denied _ (c .before .before .before .misfit .ensures .1) (c .before .before .if1 .left)))
@@ -35,7 +35,7 @@ refused-requires-3 : tie.Need-refused-requires-3
 refused-requires-3 c κs = search needs
 
 returns-3 : tie.Need-returns-3
-returns-3 c = size-short _ _ _ _ _ _ _ (denied _ (c .before .before .before .before .before .misfit .ensures .1) (c .before .before .before .before .if1 .left)) (denied _ (c .before .before .before .outside .ensures .1) (c .before .before .if2 .left)) (c .before .if3 .taken) (c .refused3 .ensures)
+returns-3 c = search (size-short)
 
 slice-relend-prefix-chain-sized : tie.Need-slice-relend-prefix-chain-sized
 slice-relend-prefix-chain-sized c = search needs
@@ -57,9 +57,7 @@ same-length-2 : tie.Need-same-length-2
 same-length-2 c = search needs
 
 returns-4 : tie.Need-returns-4
-returns-4 c =
-    size-passed _ _ _ _ (denied _ (c .before .before .before .before .before .before .before .before .before .before .before .misfit .ensures .1) (c .before .before .before .before .before .before .before .before .before .before .if1 .left)) (denied _ (c .before .before .before .before .before .before .before .before .before .outside .ensures .1) (c .before .before .before .before .before .before .before .before .if2 .left)) (omega arith) _ _
-    (c .before .before .before .before .chain-sized .ensures)
+returns-4 c = search (size-passed)
 
 pub chain-spec : {M : Type 1} → statement M
 chain-spec =

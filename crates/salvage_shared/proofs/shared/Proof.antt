@@ -14,22 +14,22 @@ misfit-requires : tie.Need-misfit-requires
 misfit-requires c κs = search needs
 
 returns : tie.Need-returns
-returns c = size-misfit (c .before .before .before .before .before .before .args .table .now) _ (c .before .before .before .before .before .before .args .firsts .now) _ (c .before .misfit .ensures .0 (c .if1 .taken))
+returns c = search (size-misfit)
 
 outside-requires : tie.Need-outside-requires
 outside-requires c κs = search needs
 
 returns-2 : tie.Need-returns-2
-returns-2 c = size-outside (c .before .before .before .before .before .before .before .before .args .table .now) _ (c .before .before .before .before .before .before .before .before .args .firsts .now) _ (denied _ (c .before .before .before .misfit .ensures .1) (c .before .before .if1 .left)) (c .before .outside .ensures .0 (c .if2 .taken))
+returns-2 c = search (size-outside)
 
 returns-3 : tie.Need-returns-3
-returns-3 c = size-many (c .before .before .before .before .before .before .before .before .before .args .table .now) _ (c .before .before .before .before .before .before .before .before .before .args .firsts .now) _ (denied _ (c .before .before .before .before .misfit .ensures .1) (c .before .before .before .if1 .left)) (c .if3 .taken)
+returns-3 c = search (size-many)
 
 sub-n : tie.Need-sub-n
 sub-n c = omega (arith, fit (c .before .before .before .before .before .before .before .before .before .args .table .now) (denied _ (c .before .before .before .before .misfit .ensures .1) (c .before .before .before .if1 .left)))
 
 returns-4 : tie.Need-returns-4
-returns-4 c = size-short (c .before .before .before .before .before .before .before .before .before .before .args .table .now) _ (c .before .before .before .before .before .before .before .before .before .before .args .firsts .now) _ (denied _ (c .before .before .before .before .before .misfit .ensures .1) (c .before .before .before .before .if1 .left)) (denied _ (c .before .before .before .outside .ensures .1) (c .before .before .if2 .left)) (c .before .if3 .left) (c .if4 .taken)
+returns-4 c = search (size-short)
 
 slice-relend-prefix-shared-sized : tie.Need-slice-relend-prefix-shared-sized
 slice-relend-prefix-shared-sized c = search needs
@@ -38,7 +38,7 @@ slice-aggregate-shared-sized : tie.Need-slice-aggregate-shared-sized
 slice-aggregate-shared-sized c = sym (length-take-le (length (c .before .before .before .before .before .before .before .before .before .before .before .args .table .now) / 8 - 1) (c .before .before .before .before .before .before .before .before .before .before .before .args .work .now) (omega arith))
 
 shared-sized-requires : tie.Need-shared-sized-requires
-shared-sized-requires c κs = (sized (c .before .before .before .before .before .before .before .before .before .before .before .before .args .table .now) (c .before .before .before .before .before .before .before .before .before .before .before .before .args .work .now) (denied _ (c .before .before .before .before .before .before .before .misfit .ensures .1) (c .before .before .before .before .before .before .if1 .left)) (denied _ (c .before .before .before .before .before .outside .ensures .1) (c .before .before .before .before .if2 .left)) (omega arith), c .before .before .before .if3 .left)
+shared-sized-requires c κs = (search (sized), search needs)
 
 same-length : tie.Need-same-length
 same-length c = search needs
@@ -47,7 +47,7 @@ same-length-2 : tie.Need-same-length-2
 same-length-2 c = search needs
 
 returns-5 : tie.Need-returns-5
-returns-5 c = size-passed _ _ _ _ (denied _ (c .before .before .before .before .before .before .before .before .before .before .before .before .misfit .ensures .1) (c .before .before .before .before .before .before .before .before .before .before .before .if1 .left)) (denied _ (c .before .before .before .before .before .before .before .before .before .before .outside .ensures .1) (c .before .before .before .before .before .before .before .before .before .if2 .left)) (c .before .before .before .before .before .before .before .before .if3 .left) (omega arith) _ _ (c .before .before .before .before .shared-sized .ensures)
+returns-5 c = search (size-passed)
 
 pub shared-spec : {M : Type 1} → statement M
 shared-spec =
