@@ -1,10 +1,12 @@
 // Read and write on sound tables: they follow a chain and leave the table as it is.
 ghost use mathlib.Core.Path.{_≡_};
+ghost use mathlib.Core.Bool.{true};
 ghost use mathlib.Core.List.{List};
 ghost use Prim.Native.Nat.{ℕ, _+_, _*_, _≤_, _<_};
 ghost use lib.ListN.{length};
 ghost use lib.Seq.{sets};
 ghost use Rattle.fat_node.specs.Node.{Run};
+ghost use Rattle.fat_table.specs.Sound.{File};
 ghost use Rattle.fat_table.specs.Chain.{sizeAt};
 ghost use Rattle.fat_promises.specs.Blocks.{blocksOf, bytesAt, written};
 ghost use Rattle.fat_promises.specs.Calls.{carryGives, ReadSound, WriteSound};
@@ -14,6 +16,7 @@ ghost use Rattle.fat_inner.specs.inner.Stretches.{StretchOf, Carries, Ca
 use crate::judge::CarryPlan;
 use crate::judge::judge_carry;
 use crate::step::Answered;
+use crate::walk::is_file;
 use crate::walk::least;
 use crate::walk::size_at;
 use order::Answer;
@@ -134,7 +137,35 @@ fn store(
     }
 }
 
-// Reads bytes of the file at a block, on a sound table.
+// Reads bytes of the file at a block, on a sound table. It is told whether the block begins a file.
+pub fn read_told(
+    table: &[u8],
+    data: &[u8],
+    block_len: usize,
+    n: usize,
+    first_block: usize,
+    begins: bool,
+    pos: usize,
+    buf: &mut [u8],
+) -> Answered
+    requires { ⌜ Volume n (now table) ⌝ }
+    requires { ⌜ (begins ≡ true → File (now table) n «first_block») × (File (now table) n «first_block» → begins ≡ true) ⌝ }
+    requires { ⌜ Data n (length (now «data»)) «block_len» ⌝ }
+    ensures { λ r. ⌜ ReadSound n (now (table .entry)) (now («data» .entry)) «block_len» «first_block» pos (now (buf .entry)) (carryGives (r .answer) (now (buf .exit))) ⌝ }
+{
+    let plan = judge_carry(table, n, block_len, first_block, pos, buf.len(), begins);
+    match plan {
+        CarryPlan::Refused { answer } => Answered { answer },
+        CarryPlan::Within { index, from } => {
+            fetch(table, data, block_len, n, index, from, buf);
+            Answered {
+                answer: Answer::Done,
+            }
+        }
+    }
+}
+
+// The same where it is not told.
 pub fn read_sound(
     table: &[u8],
     data: &[u8],
@@ -148,11 +179,31 @@ pub fn read_sound(
     requires { ⌜ Data n (length (now «data»)) «block_len» ⌝ }
     ensures { λ r. ⌜ ReadSound n (now (table .entry)) (now («data» .entry)) «block_len» «first_block» pos (now (buf .entry)) (carryGives (r .answer) (now (buf .exit))) ⌝ }
 {
-    let plan = judge_carry(table, n, block_len, first_block, pos, buf.len());
+    let begins = is_file(table, n, first_block);
+    read_told(table, data, block_len, n, first_block, begins, pos, buf)
+}
+
+// Writes bytes of the file at a block, on a sound table. It is told whether the block begins a file.
+pub fn write_told(
+    table: &[u8],
+    data: &mut [u8],
+    block_len: usize,
+    n: usize,
+    first_block: usize,
+    begins: bool,
+    pos: usize,
+    buf: &[u8],
+) -> Answered
+    requires { ⌜ Volume n (now table) ⌝ }
+    requires { ⌜ (begins ≡ true → File (now table) n «first_block») × (File (now table) n «first_block» → begins ≡ true) ⌝ }
+    requires { ⌜ Data n (length (now «data»)) «block_len» ⌝ }
+    ensures { λ r. ⌜ WriteSound n (now (table .entry)) (now («data» .entry)) «block_len» «first_block» pos (now (buf .entry)) (carryGives (r .answer) (now («data» .exit))) ⌝ }
+{
+    let plan = judge_carry(table, n, block_len, first_block, pos, buf.len(), begins);
     match plan {
         CarryPlan::Refused { answer } => Answered { answer },
         CarryPlan::Within { index, from } => {
-            fetch(table, data, block_len, n, index, from, buf);
+            store(table, data, block_len, n, index, from, buf);
             Answered {
                 answer: Answer::Done,
             }
@@ -160,7 +211,7 @@ pub fn read_sound(
     }
 }
 
-// Writes bytes of the file at a block, on a sound table.
+// The same where it is not told.
 pub fn write_sound(
     table: &[u8],
     data: &mut [u8],
@@ -174,14 +225,6 @@ pub fn write_sound(
     requires { ⌜ Data n (length (now «data»)) «block_len» ⌝ }
     ensures { λ r. ⌜ WriteSound n (now (table .entry)) (now («data» .entry)) «block_len» «first_block» pos (now (buf .entry)) (carryGives (r .answer) (now («data» .exit))) ⌝ }
 {
-    let plan = judge_carry(table, n, block_len, first_block, pos, buf.len());
-    match plan {
-        CarryPlan::Refused { answer } => Answered { answer },
-        CarryPlan::Within { index, from } => {
-            store(table, data, block_len, n, index, from, buf);
-            Answered {
-                answer: Answer::Done,
-            }
-        }
-    }
+    let begins = is_file(table, n, first_block);
+    write_told(table, data, block_len, n, first_block, begins, pos, buf)
 }

@@ -12,7 +12,6 @@ ghost use Rattle.fat_inner.specs.inner.Plans.{CreatePlanned, ResizePlann
 use crate::walk::Sought;
 use crate::walk::head_of;
 use crate::walk::is_end;
-use crate::walk::is_file;
 use crate::walk::last_from;
 use crate::walk::last_of;
 use crate::walk::seek;
@@ -108,12 +107,20 @@ fn judge_count(table: &[u8], n: usize, first_block: usize, block_count: usize) -
     }
 }
 
-// Judges a resize of the file at a block to so many blocks: NotAFile, InvalidValue, NoSpace.
-pub fn judge_resize(table: &[u8], n: usize, first_block: usize, block_count: usize) -> ResizePlan
+// Judges a resize of the file at a block to so many blocks: NotAFile, InvalidValue, NoSpace. Here and in the judges below it is told whether the block
+// begins a file.
+pub fn judge_resize(
+    table: &[u8],
+    n: usize,
+    first_block: usize,
+    block_count: usize,
+    begins: bool,
+) -> ResizePlan
     requires { ⌜ Volume n (now table) ⌝ }
+    requires { ⌜ (begins ≡ true → File (now table) n «first_block») × (File (now table) n «first_block» → begins ≡ true) ⌝ }
     ensures { λ r. ⌜ ResizePlanned n (now (table .entry)) «first_block» «block_count» r ⌝ }
 {
-    if !is_file(table, n, first_block) {
+    if !begins {
         return ResizePlan::Refused {
             answer: Answer::NotAFile,
         };
@@ -133,11 +140,12 @@ pub enum DeletePlan {
 }
 
 // Judges a delete of the file at a block: NotAFile.
-pub fn judge_delete(table: &[u8], n: usize, first_block: usize) -> DeletePlan
+pub fn judge_delete(table: &[u8], n: usize, first_block: usize, begins: bool) -> DeletePlan
     requires { ⌜ Volume n (now table) ⌝ }
+    requires { ⌜ (begins ≡ true → File (now table) n «first_block») × (File (now table) n «first_block» → begins ≡ true) ⌝ }
     ensures { λ r. ⌜ DeletePlanned n (now (table .entry)) «first_block» r ⌝ }
 {
-    if !is_file(table, n, first_block) {
+    if !begins {
         return DeletePlan::Refused {
             answer: Answer::NotAFile,
         };
@@ -153,11 +161,18 @@ pub enum ListPlan {
 }
 
 // Judges an open list of the file at a block, into a list of room places: NotAFile, ListTooShort. Into n places any file fits, and no chain is followed.
-pub fn judge_list(table: &[u8], n: usize, first_block: usize, room: usize) -> ListPlan
+pub fn judge_list(
+    table: &[u8],
+    n: usize,
+    first_block: usize,
+    room: usize,
+    begins: bool,
+) -> ListPlan
     requires { ⌜ Volume n (now table) ⌝ }
+    requires { ⌜ (begins ≡ true → File (now table) n «first_block») × (File (now table) n «first_block» → begins ≡ true) ⌝ }
     ensures { λ r. ⌜ ListPlanned n (now (table .entry)) «first_block» room r ⌝ }
 {
-    if !is_file(table, n, first_block) {
+    if !begins {
         return ListPlan::Refused {
             answer: Answer::NotAFile,
         };
@@ -256,12 +271,14 @@ pub fn judge_carry(
     first_block: usize,
     pos: usize,
     len: usize,
+    begins: bool,
 ) -> CarryPlan
     requires { ⌜ Volume n (now table) ⌝ }
+    requires { ⌜ (begins ≡ true → File (now table) n «first_block») × (File (now table) n «first_block» → begins ≡ true) ⌝ }
     requires { ⌜ (1 ≤ «block_len») × («block_len» ≤ 65536) ⌝ }
     ensures { λ r. ⌜ CarryPlanned n (now (table .entry)) «block_len» «first_block» pos len r ⌝ }
 {
-    if !is_file(table, n, first_block) {
+    if !begins {
         return CarryPlan::Refused {
             answer: Answer::NotAFile,
         };

@@ -1,8 +1,10 @@
 // A file's blocks, listed.
 ghost use mathlib.Core.Path.{_≡_};
+ghost use mathlib.Core.Bool.{true};
 ghost use Prim.Native.Nat.{_+_, _≤_, _<_};
 ghost use lib.ListN.{length};
 ghost use lib.Seq.{sets};
+ghost use Rattle.fat_table.specs.Sound.{File};
 ghost use Rattle.fat_table.specs.Chain.{total, chainAt};
 ghost use Rattle.fat_promises.specs.Blocks.{blocksFrom, blocksOf};
 ghost use Rattle.fat_promises.specs.Calls.{listGives, ListSound};
@@ -10,6 +12,7 @@ ghost use Rattle.fat_inner.specs.Volume.{Volume};
 ghost use Rattle.fat_inner.specs.inner.Chains.{ChainFrom};
 use crate::judge::ListPlan;
 use crate::judge::judge_list;
+use crate::walk::is_file;
 use crate::walk::size_at;
 use order::Answer;
 
@@ -50,12 +53,19 @@ pub struct Listed {
     pub count: usize,
 }
 
-// Lists the blocks of the file at a block, on a sound table, in chain order.
-pub fn open_list_sound(table: &[u8], n: usize, first_block: usize, list: &mut [u32]) -> Listed
+// Lists the blocks of the file at a block, on a sound table, in chain order. It is told whether the block begins a file.
+pub fn open_list_told(
+    table: &[u8],
+    n: usize,
+    first_block: usize,
+    begins: bool,
+    list: &mut [u32],
+) -> Listed
     requires { ⌜ Volume n (now table) ⌝ }
+    requires { ⌜ (begins ≡ true → File (now table) n «first_block») × (File (now table) n «first_block» → begins ≡ true) ⌝ }
     ensures { λ r. ⌜ ListSound n (now (table .entry)) «first_block» (now (list .entry)) (listGives (r .answer) (r .count) (now (list .exit))) ⌝ }
 {
-    let plan = judge_list(table, n, first_block, list.len());
+    let plan = judge_list(table, n, first_block, list.len(), begins);
     match plan {
         ListPlan::Refused { answer } => Listed { answer, count: 0 },
         ListPlan::Listing => {
@@ -66,4 +76,13 @@ pub fn open_list_sound(table: &[u8], n: usize, first_block: usize, list: &mut [u
             }
         }
     }
+}
+
+// The same where it is not told.
+pub fn open_list_sound(table: &[u8], n: usize, first_block: usize, list: &mut [u32]) -> Listed
+    requires { ⌜ Volume n (now table) ⌝ }
+    ensures { λ r. ⌜ ListSound n (now (table .entry)) «first_block» (now (list .entry)) (listGives (r .answer) (r .count) (now (list .exit))) ⌝ }
+{
+    let begins = is_file(table, n, first_block);
+    open_list_told(table, n, first_block, begins, list)
 }

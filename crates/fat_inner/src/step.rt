@@ -1,7 +1,9 @@
 // The calls that change a sound table: create, resize and delete, each as few writes, once it is judged.
 ghost use mathlib.Core.Path.{_≡_};
+ghost use mathlib.Core.Bool.{true};
 ghost use Prim.Native.Nat.{ℕ, _+_, _≤_, _<_};
 ghost use Rattle.fat_node.specs.Node.{nextAt};
+ghost use Rattle.fat_table.specs.Sound.{File};
 ghost use Rattle.fat_table.specs.Chain.{sizeAt, freeAt};
 ghost use Rattle.fat_table.specs.Steps.{created, resized, deleted};
 ghost use Rattle.fat_promises.specs.Calls.{createGives, CreateSound, changeGives, ResizeSound, DeleteSound};
@@ -16,6 +18,7 @@ use crate::judge::judge_create;
 use crate::judge::judge_delete;
 use crate::judge::judge_resize;
 use crate::walk::head_of;
+use crate::walk::is_file;
 use crate::walk::node_at;
 use crate::walk::size_at;
 use fat_node::Node;
@@ -195,12 +198,20 @@ pub fn create_sound(table: &mut [u8], n: usize, block_count: usize) -> Created
     }
 }
 
-// Resizes the file at a block to so many blocks, on a sound table: the file and the free chain after it, cut where the file is to end.
-pub fn resize_sound(table: &mut [u8], n: usize, first_block: usize, block_count: usize) -> Answered
+// Resizes the file at a block to so many blocks, on a sound table: the file and the free chain after it, cut where the file is to end. It is told whether
+// the block begins a file.
+pub fn resize_told(
+    table: &mut [u8],
+    n: usize,
+    first_block: usize,
+    block_count: usize,
+    begins: bool,
+) -> Answered
     requires { ⌜ Volume n (now table) ⌝ }
+    requires { ⌜ (begins ≡ true → File (now table) n «first_block») × (File (now table) n «first_block» → begins ≡ true) ⌝ }
     ensures { λ r. ⌜ ResizeSound n (now (table .entry)) «first_block» «block_count» (changeGives (r .answer) (now (table .exit))) ⌝ }
 {
-    let plan = judge_resize(table, n, first_block, block_count);
+    let plan = judge_resize(table, n, first_block, block_count, begins);
     match plan {
         ResizePlan::Refused { answer } => Answered { answer },
         ResizePlan::Same => Answered {
@@ -221,12 +232,22 @@ pub fn resize_sound(table: &mut [u8], n: usize, first_block: usize, block_count:
     }
 }
 
-// Deletes the file at a block, on a sound table: all its nodes go before the free front, in their order.
-pub fn delete_sound(table: &mut [u8], n: usize, first_block: usize) -> Answered
+// The same where it is not told.
+pub fn resize_sound(table: &mut [u8], n: usize, first_block: usize, block_count: usize) -> Answered
     requires { ⌜ Volume n (now table) ⌝ }
+    ensures { λ r. ⌜ ResizeSound n (now (table .entry)) «first_block» «block_count» (changeGives (r .answer) (now (table .exit))) ⌝ }
+{
+    let begins = is_file(table, n, first_block);
+    resize_told(table, n, first_block, block_count, begins)
+}
+
+// Deletes the file at a block, on a sound table: all its nodes go before the free front, in their order. It is told whether the block begins a file.
+pub fn delete_told(table: &mut [u8], n: usize, first_block: usize, begins: bool) -> Answered
+    requires { ⌜ Volume n (now table) ⌝ }
+    requires { ⌜ (begins ≡ true → File (now table) n «first_block») × (File (now table) n «first_block» → begins ≡ true) ⌝ }
     ensures { λ r. ⌜ DeleteSound n (now (table .entry)) «first_block» (changeGives (r .answer) (now (table .exit))) ⌝ }
 {
-    let plan = judge_delete(table, n, first_block);
+    let plan = judge_delete(table, n, first_block, begins);
     match plan {
         DeletePlan::Refused { answer } => Answered { answer },
         DeletePlan::Join { last } => {
@@ -236,4 +257,13 @@ pub fn delete_sound(table: &mut [u8], n: usize, first_block: usize) -> Answered
             }
         }
     }
+}
+
+// The same where it is not told.
+pub fn delete_sound(table: &mut [u8], n: usize, first_block: usize) -> Answered
+    requires { ⌜ Volume n (now table) ⌝ }
+    ensures { λ r. ⌜ DeleteSound n (now (table .entry)) «first_block» (changeGives (r .answer) (now (table .exit))) ⌝ }
+{
+    let begins = is_file(table, n, first_block);
+    delete_told(table, n, first_block, begins)
 }

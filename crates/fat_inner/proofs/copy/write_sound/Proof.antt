@@ -1,38 +1,18 @@
-use Rattle.fat_inner.proofs.Reached.{carry-refused, carry-goes, write-done}
-use Rattle.fat_inner.proofs.Found.{are-bytes}
 use borrow.Author.Needs.{needs}
 use Rattle.fat_inner.proofs.copy.write_sound.Statement.{statement}
 use Rattle.fat_inner.proofs.copy.write_sound.Tie as tie
 
-judge-carry-requires : tie.Need-judge-carry-requires
-judge-carry-requires c κs = search needs
+is-file-requires : tie.Need-is-file-requires
+is-file-requires c κs = search needs
 
-enum-known-plan : tie.Need-enum-known-plan
-enum-known-plan c = search needs
-
-enum-known-plan-2 : tie.Need-enum-known-plan-2
-enum-known-plan-2 c = search needs
-
-store-requires : tie.Need-store-requires
-store-requires c κs = (search (carry-goes, are-bytes), search needs)
-
-returns : tie.Need-returns
-returns c = search (carry-refused)
+write-told-requires : tie.Need-write-told-requires
+write-told-requires c κs = search needs
 
 same-length : tie.Need-same-length
 same-length c = search needs
 
-returns-2 : tie.Need-returns-2
-returns-2 c = search (write-done, are-bytes)
+returns : tie.Need-returns
+returns c = search needs
 
 pub write-sound-spec : {M : Type 1} → statement M
-write-sound-spec =
-    tie.close
-    (tie.spec
-    judge-carry-requires
-    enum-known-plan
-    enum-known-plan-2
-    store-requires
-    returns
-    same-length
-    returns-2)
+write-sound-spec = tie.close (tie.spec is-file-requires write-told-requires same-length returns)

@@ -5,9 +5,6 @@ use borrow.Author.Needs.{needs}
 use Rattle.fat_inner.proofs.judge.judge_carry.Statement.{statement}
 use Rattle.fat_inner.proofs.judge.judge_carry.Tie as tie
 
-is-file-requires : tie.Need-is-file-requires
-is-file-requires c κs = search needs
-
 returns : tie.Need-returns
 returns c = search (carry-no-file)
 
@@ -30,7 +27,6 @@ pub judge-carry-spec : {M : Type 1} → statement M
 judge-carry-spec =
     tie.close
     (tie.spec
-    is-file-requires
     returns
     mul-passes
     passes-requires

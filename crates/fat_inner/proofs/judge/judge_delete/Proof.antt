@@ -5,9 +5,6 @@ use borrow.Author.Needs.{needs}
 use Rattle.fat_inner.proofs.judge.judge_delete.Statement.{statement}
 use Rattle.fat_inner.proofs.judge.judge_delete.Tie as tie
 
-is-file-requires : tie.Need-is-file-requires
-is-file-requires c κs = search needs
-
 returns : tie.Need-returns
 returns c = search (delete-no-file)
 
@@ -22,4 +19,4 @@ returns-2 c = search (delete-at)
 
 pub judge-delete-spec : {M : Type 1} → statement M
 judge-delete-spec =
-    tie.close (tie.spec is-file-requires returns add-last-of last-of-requires returns-2)
+    tie.close (tie.spec returns add-last-of last-of-requires returns-2)

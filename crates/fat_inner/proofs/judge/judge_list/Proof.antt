@@ -5,9 +5,6 @@ use borrow.Author.Needs.{needs}
 use Rattle.fat_inner.proofs.judge.judge_list.Statement.{statement}
 use Rattle.fat_inner.proofs.judge.judge_list.Tie as tie
 
-is-file-requires : tie.Need-is-file-requires
-is-file-requires c κs = search needs
-
 returns : tie.Need-returns
 returns c = search (list-no-file)
 
@@ -39,7 +36,6 @@ pub judge-list-spec : {M : Type 1} → statement M
 judge-list-spec =
     tie.close
     (tie.spec
-    is-file-requires
     returns
     returns-2
     add-seek

@@ -3,9 +3,6 @@ use borrow.Author.Needs.{needs}
 use Rattle.fat_inner.proofs.judge.judge_resize.Statement.{statement}
 use Rattle.fat_inner.proofs.judge.judge_resize.Tie as tie
 
-is-file-requires : tie.Need-is-file-requires
-is-file-requires c κs = search needs
-
 returns : tie.Need-returns
 returns c = search (resize-no-file)
 
@@ -20,4 +17,4 @@ returns-3 c = search needs
 
 pub judge-resize-spec : {M : Type 1} → statement M
 judge-resize-spec =
-    tie.close (tie.spec is-file-requires returns returns-2 judge-count-requires returns-3)
+    tie.close (tie.spec returns returns-2 judge-count-requires returns-3)
