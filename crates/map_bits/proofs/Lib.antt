@@ -3,3 +3,4 @@ pub mod Turns
 pub mod Counts
 pub mod Masks
 pub mod Differs
+pub mod Ones

@@ -4,7 +4,7 @@ ghost use mathlib.Core.Bool.{Bool, true, false, cond, not};
 ghost use Prim.Native.Nat.{ℕ, _+_, _-_, _*_, _/_, _%_, _^_, _≤_, _<_};
 ghost use lib.ListN.{length};
 ghost use Rattle.order.specs.Tells.{Tells};
-ghost use Rattle.map_bits.specs.Bits.{wordsFrom, sumFrom, countedIn};
+ghost use Rattle.map_bits.specs.Bits.{wordsFrom, bit, sumFrom, countedIn};
 ghost use Rattle.map_bits.specs.inner.Counts.{CountOf};
 ghost use Rattle.map_bits.specs.inner.Turns.{Turn, Turnable};
 
@@ -74,6 +74,31 @@ pub fn turn(map: &mut [u32], lo: usize, hi: usize, on: bool)
     turn_part(map, i, lo % 32, 32, on);
     turn_whole(map, i + 1, j, on);
     turn_part(map, j, 0, hi % 32, on);
+}
+
+// Puts in one block, which is not in, or takes it out, which is.
+pub fn turn_one(map: &mut [u32], x: usize, on: bool)
+    requires { ⌜ Turnable on (now map) x (x + 1) ⌝ }
+    ensures { λ _. ⌜ ((c d : ℕ → ℕ) → Turn on (now (map .entry)) c d x (x + 1) → now (map .exit) ≡ wordsFrom (length (now (map .entry))) 0 d) ⌝ }
+{
+    let lo = x % 32;
+    turn_part(map, x / 32, lo, lo + 1, on);
+}
+
+// Whether bit k of a word is set.
+fn is_set(word: u32, k: usize) -> bool
+    requires { ⌜ k < 32 ⌝ }
+    ensures { λ r. ⌜ Tells (word / 2 ^ k % 2 ≡ 1) r ⌝ }
+{
+    (word as usize >> k) % 2 == 1
+}
+
+// Whether a block is in.
+pub fn has(map: &[u32], x: usize) -> bool
+    requires { ⌜ x < 32 * length (now map) ⌝ }
+    ensures { λ r. ⌜ Tells (bit (now (map .entry)) x ≡ 1) r ⌝ }
+{
+    is_set(map[x / 32], x % 32)
 }
 
 // The set bits of a word, from bit lo up to and without bit hi: the word is cut, and its ones are counted.

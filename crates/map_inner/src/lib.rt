@@ -29,6 +29,7 @@ use fat_inner::step::create_step;
 use fat_inner::step::delete_step;
 use fat_inner::step::resize_step;
 use fat_inner::walk::head_of;
+use fat_inner::walk::is_file;
 use fat_inner::walk::size_at;
 use order::Answer;
 
@@ -136,19 +137,21 @@ pub fn create_mapped(table: &mut [u8], n: usize, map: &mut [u32], block_count: u
     }
 }
 
-// Resizes the file at a block to so many blocks: the map loses or gets the blocks between.
-pub fn resize_mapped(
+// Resizes the file at a block to so many blocks: the map loses or gets the blocks between. It is told whether the block begins a file.
+pub fn resize_told(
     table: &mut [u8],
     n: usize,
     map: &mut [u32],
     first_block: usize,
     block_count: usize,
+    begins: bool,
 ) -> Answered
     requires { ⌜ Volume n (now table) ⌝ }
     requires { ⌜ now map ≡ mapOf n (now table) ⌝ }
+    requires { ⌜ (begins ≡ true → File (now table) n «first_block») × (File (now table) n «first_block» → begins ≡ true) ⌝ }
     ensures { λ r. ⌜ ResizeMapped n (now (table .entry)) «first_block» «block_count» (changeGives (r .answer) (now (table .exit))) (now (map .exit)) ⌝ }
 {
-    let plan = judge_resize(table, n, first_block, block_count);
+    let plan = judge_resize(table, n, first_block, block_count, begins);
     match plan {
         ResizePlan::Refused { answer } => Answered { answer },
         ResizePlan::Same => Answered {
@@ -171,13 +174,36 @@ pub fn resize_mapped(
     }
 }
 
-// Deletes the file at a block: the map gets its blocks.
-pub fn delete_mapped(table: &mut [u8], n: usize, map: &mut [u32], first_block: usize) -> Answered
+// The same where it is not told.
+pub fn resize_mapped(
+    table: &mut [u8],
+    n: usize,
+    map: &mut [u32],
+    first_block: usize,
+    block_count: usize,
+) -> Answered
     requires { ⌜ Volume n (now table) ⌝ }
     requires { ⌜ now map ≡ mapOf n (now table) ⌝ }
+    ensures { λ r. ⌜ ResizeMapped n (now (table .entry)) «first_block» «block_count» (changeGives (r .answer) (now (table .exit))) (now (map .exit)) ⌝ }
+{
+    let begins = is_file(table, n, first_block);
+    resize_told(table, n, map, first_block, block_count, begins)
+}
+
+// Deletes the file at a block: the map gets its blocks. It is told whether the block begins a file.
+pub fn delete_told(
+    table: &mut [u8],
+    n: usize,
+    map: &mut [u32],
+    first_block: usize,
+    begins: bool,
+) -> Answered
+    requires { ⌜ Volume n (now table) ⌝ }
+    requires { ⌜ now map ≡ mapOf n (now table) ⌝ }
+    requires { ⌜ (begins ≡ true → File (now table) n «first_block») × (File (now table) n «first_block» → begins ≡ true) ⌝ }
     ensures { λ r. ⌜ DeleteMapped n (now (table .entry)) «first_block» (changeGives (r .answer) (now (table .exit))) (now (map .exit)) ⌝ }
 {
-    let plan = judge_delete(table, n, first_block);
+    let plan = judge_delete(table, n, first_block, begins);
     match plan {
         DeletePlan::Refused { answer } => Answered { answer },
         DeletePlan::Join { last } => {
@@ -188,4 +214,14 @@ pub fn delete_mapped(table: &mut [u8], n: usize, map: &mut [u32], first_block: u
             }
         }
     }
+}
+
+// The same where it is not told.
+pub fn delete_mapped(table: &mut [u8], n: usize, map: &mut [u32], first_block: usize) -> Answered
+    requires { ⌜ Volume n (now table) ⌝ }
+    requires { ⌜ now map ≡ mapOf n (now table) ⌝ }
+    ensures { λ r. ⌜ DeleteMapped n (now (table .entry)) «first_block» (changeGives (r .answer) (now (table .exit))) (now (map .exit)) ⌝ }
+{
+    let begins = is_file(table, n, first_block);
+    delete_told(table, n, map, first_block, begins)
 }
