@@ -132,6 +132,57 @@ mukthiban_answered mukthiban_tested_map_resize(uint8_t *table, size_t table_len,
 mukthiban_answered mukthiban_tested_map_delete(uint8_t *table, size_t table_len, size_t n, size_t block_len,
                                                uint32_t *map, size_t map_len, size_t first_block);
 
+/* ---- Both maps ----
+ * The map of files' first blocks has a bit a block, the lowest block in the lowest bit of the first word, set where the block is
+ * a file's first; unused bits are 0. With it a call sees by one bit whether a block begins a file, and goes over no other file's
+ * nodes. The calls below keep both maps, whatever they answer. A merge and an applied plan leave the map of first blocks behind. */
+
+/* Builds the map of first blocks. Answers nothing but MUKTHIBAN_DONE.
+ * Requires: a sound table of n blocks; firsts_len is n / 32, rounded up. */
+mukthiban_answered mukthiban_tested_first_build(const uint8_t *table, size_t table_len, size_t n,
+                                                uint32_t *firsts, size_t firsts_len);
+
+/* Makes a file of block_count blocks. Answers 20, 2 (count 0), 6.
+ * Requires: a sound table of n blocks; map_len and firsts_len are n / 32, rounded up, and both maps are the table's, as the two
+ * builds or an earlier one of these calls left them, with no change of the table since but by these. So of the next two. */
+mukthiban_created mukthiban_tested_first_create(uint8_t *table, size_t table_len, size_t n, size_t block_len,
+                                                uint32_t *map, size_t map_len, uint32_t *firsts, size_t firsts_len,
+                                                size_t block_count);
+
+/* Grows or shrinks a file to block_count blocks. Answers 20, 5, 2 (count 0), 6.
+ * Requires: as mukthiban_tested_first_create. */
+mukthiban_answered mukthiban_tested_first_resize(uint8_t *table, size_t table_len, size_t n, size_t block_len,
+                                                 uint32_t *map, size_t map_len,
+                                                 const uint32_t *firsts, size_t firsts_len,
+                                                 size_t first_block, size_t block_count);
+
+/* Gives a whole file back. Answers 20, 5.
+ * Requires: as mukthiban_tested_first_create. */
+mukthiban_answered mukthiban_tested_first_delete(uint8_t *table, size_t table_len, size_t n, size_t block_len,
+                                                 uint32_t *map, size_t map_len, uint32_t *firsts, size_t firsts_len,
+                                                 size_t first_block);
+
+/* Writes the file's blocks to list, in chain order. Answers 5, 8.
+ * Requires: a sound table of n blocks; firsts is the table's, as for mukthiban_tested_first_create. So of the next two. */
+mukthiban_opened mukthiban_tested_first_open_list(const uint8_t *table, size_t table_len, size_t n,
+                                                  const uint32_t *firsts, size_t firsts_len,
+                                                  size_t first_block, uint32_t *list, size_t list_len);
+
+/* Reads buf_len bytes of the file from pos into buf. Answers 5, 7.
+ * Requires: as mukthiban_tested_first_open_list, and data that fit. */
+mukthiban_answered mukthiban_tested_first_read(const uint8_t *table, size_t table_len, size_t n,
+                                               const uint32_t *firsts, size_t firsts_len,
+                                               const uint8_t *data, size_t data_len, size_t block_len,
+                                               size_t first_block, size_t pos, uint8_t *buf, size_t buf_len);
+
+/* Writes buf's bytes to the file from pos on. Answers 20, 5, 7.
+ * Requires: as mukthiban_tested_first_open_list, and data that fit. */
+mukthiban_answered mukthiban_tested_first_write(const uint8_t *table, size_t table_len, size_t n,
+                                                const uint32_t *firsts, size_t firsts_len,
+                                                uint8_t *data, size_t data_len, size_t block_len,
+                                                size_t first_block, size_t pos,
+                                                const uint8_t *buf, size_t buf_len);
+
 /* ---- The entry tables ---- */
 
 /* Finds the directory with that parent and name. Answers 10.

@@ -3,6 +3,7 @@
 mod blocks;
 mod by_list;
 mod change;
+mod first;
 mod look;
 mod map;
 mod merge;

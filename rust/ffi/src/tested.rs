@@ -39,6 +39,25 @@ calls! {
     fn mukthiban_tested_map_delete(
         table: &mut [u8], n: usize, block_len: usize, map: &mut [u32], first_block: usize,
     ) -> Answered;
+    fn mukthiban_tested_first_build(table: &[u8], n: usize, firsts: &mut [u32]) -> Answered;
+    fn mukthiban_tested_first_create(
+        table: &mut [u8], n: usize, block_len: usize, map: &mut [u32], firsts: &mut [u32], block_count: usize,
+    ) -> Created;
+    fn mukthiban_tested_first_resize(
+        table: &mut [u8], n: usize, block_len: usize, map: &mut [u32], firsts: &[u32], first_block: usize, block_count: usize,
+    ) -> Answered;
+    fn mukthiban_tested_first_delete(
+        table: &mut [u8], n: usize, block_len: usize, map: &mut [u32], firsts: &mut [u32], first_block: usize,
+    ) -> Answered;
+    fn mukthiban_tested_first_open_list(
+        table: &[u8], n: usize, firsts: &[u32], first_block: usize, list: &mut [u32],
+    ) -> Opened;
+    fn mukthiban_tested_first_read(
+        table: &[u8], n: usize, firsts: &[u32], data: &[u8], block_len: usize, first_block: usize, pos: usize, buf: &mut [u8],
+    ) -> Answered;
+    fn mukthiban_tested_first_write(
+        table: &[u8], n: usize, firsts: &[u32], data: &mut [u8], block_len: usize, first_block: usize, pos: usize, buf: &[u8],
+    ) -> Answered;
     fn mukthiban_tested_tree_lookup_dir(
         dir_hash: &[u8], dir_table: &[u8], file_hash: &[u8], file_table: &[u8],
         parent: u32, name: &[u8; 16],

@@ -4,30 +4,67 @@
 //! the rest of what `include/mukthiban_tested.h` requires holds. [`Volume`](crate::Volume) sees to it.
 
 use crate::parts::Parts;
+use crate::whole::Maps;
 use mukthiban_ffi::{tested, Answered, Audited, Created, Opened, Planned};
 
-/// `map` has the words of the table's blocks. Here and in the next three it is, after the call, the table's map; before the
-/// next three it is so too.
+/// `map` has the words of the table's blocks. It is, after the call, the table's free map.
 pub unsafe fn build(p: &Parts, map: &mut [u32]) -> Answered {
     tested::mukthiban_tested_map_build(p.fat.as_ptr(), p.fat.len(), p.blocks(), map.as_mut_ptr(), map.len())
 }
 
-// The same calls without a map, `mukthiban_tested_fat_create`, `mukthiban_tested_fat_resize` and
-// `mukthiban_tested_fat_delete`, are for a program that keeps none.
-
-pub unsafe fn create(p: &mut Parts, map: &mut [u32], block_count: usize) -> Created {
-    let (fat, len, words, count) = (p.fat.as_mut_ptr(), p.fat.len(), map.as_mut_ptr(), map.len());
-    tested::mukthiban_tested_map_create(fat, len, p.blocks(), p.block_len, words, count, block_count)
+/// `firsts` has the words of the table's blocks. It is, after the call, the table's map of first blocks.
+pub unsafe fn build_firsts(p: &Parts, firsts: &mut [u32]) -> Answered {
+    let (fat, len) = (p.fat.as_ptr(), p.fat.len());
+    tested::mukthiban_tested_first_build(fat, len, p.blocks(), firsts.as_mut_ptr(), firsts.len())
 }
 
-pub unsafe fn resize(p: &mut Parts, map: &mut [u32], first: usize, block_count: usize) -> Answered {
-    let (fat, len, words, count) = (p.fat.as_mut_ptr(), p.fat.len(), map.as_mut_ptr(), map.len());
-    tested::mukthiban_tested_map_resize(fat, len, p.blocks(), p.block_len, words, count, first, block_count)
+// The same calls without maps, `mukthiban_tested_fat_create`, `mukthiban_tested_fat_resize`, `mukthiban_tested_fat_delete`,
+// `mukthiban_tested_fat_open_list`, `mukthiban_tested_fat_read` and `mukthiban_tested_fat_write`, and with the free map alone,
+// `mukthiban_tested_map_create`, `mukthiban_tested_map_resize` and `mukthiban_tested_map_delete`, are for a program that keeps
+// none or one.
+
+/// Both maps are the table's, before the call and after it; here and in the next two.
+pub unsafe fn create(p: &mut Parts, maps: &mut Maps, block_count: usize) -> Created {
+    tested::mukthiban_tested_first_create(
+        p.fat.as_mut_ptr(),
+        p.fat.len(),
+        p.blocks(),
+        p.block_len,
+        maps.free.as_mut_ptr(),
+        maps.free.len(),
+        maps.firsts.as_mut_ptr(),
+        maps.firsts.len(),
+        block_count,
+    )
 }
 
-pub unsafe fn delete(p: &mut Parts, map: &mut [u32], first: usize) -> Answered {
-    let (fat, len, words, count) = (p.fat.as_mut_ptr(), p.fat.len(), map.as_mut_ptr(), map.len());
-    tested::mukthiban_tested_map_delete(fat, len, p.blocks(), p.block_len, words, count, first)
+pub unsafe fn resize(p: &mut Parts, maps: &mut Maps, first: usize, block_count: usize) -> Answered {
+    tested::mukthiban_tested_first_resize(
+        p.fat.as_mut_ptr(),
+        p.fat.len(),
+        p.blocks(),
+        p.block_len,
+        maps.free.as_mut_ptr(),
+        maps.free.len(),
+        maps.firsts.as_ptr(),
+        maps.firsts.len(),
+        first,
+        block_count,
+    )
+}
+
+pub unsafe fn delete(p: &mut Parts, maps: &mut Maps, first: usize) -> Answered {
+    tested::mukthiban_tested_first_delete(
+        p.fat.as_mut_ptr(),
+        p.fat.len(),
+        p.blocks(),
+        p.block_len,
+        maps.free.as_mut_ptr(),
+        maps.free.len(),
+        maps.firsts.as_mut_ptr(),
+        maps.firsts.len(),
+        first,
+    )
 }
 
 /// `work` has a place for each block, all 0.
@@ -97,22 +134,27 @@ pub unsafe fn plan_find(p: &Parts, work: &mut [u32], first: usize, list: &mut [u
     )
 }
 
-pub unsafe fn open_list(p: &Parts, first: usize, list: &mut [u32]) -> Opened {
-    tested::mukthiban_tested_fat_open_list(
+/// `firsts` is the table's map of first blocks; here and in the next two.
+pub unsafe fn open_list(p: &Parts, firsts: &[u32], first: usize, list: &mut [u32]) -> Opened {
+    tested::mukthiban_tested_first_open_list(
         p.fat.as_ptr(),
         p.fat.len(),
         p.blocks(),
+        firsts.as_ptr(),
+        firsts.len(),
         first,
         list.as_mut_ptr(),
         list.len(),
     )
 }
 
-pub unsafe fn read(p: &Parts, first: usize, pos: usize, buf: &mut [u8]) -> Answered {
-    tested::mukthiban_tested_fat_read(
+pub unsafe fn read(p: &Parts, firsts: &[u32], first: usize, pos: usize, buf: &mut [u8]) -> Answered {
+    tested::mukthiban_tested_first_read(
         p.fat.as_ptr(),
         p.fat.len(),
         p.blocks(),
+        firsts.as_ptr(),
+        firsts.len(),
         p.data.as_ptr(),
         p.data.len(),
         p.block_len,
@@ -123,11 +165,13 @@ pub unsafe fn read(p: &Parts, first: usize, pos: usize, buf: &mut [u8]) -> Answe
     )
 }
 
-pub unsafe fn write(p: &mut Parts, first: usize, pos: usize, buf: &[u8]) -> Answered {
-    tested::mukthiban_tested_fat_write(
+pub unsafe fn write(p: &mut Parts, firsts: &[u32], first: usize, pos: usize, buf: &[u8]) -> Answered {
+    tested::mukthiban_tested_first_write(
         p.fat.as_ptr(),
         p.fat.len(),
         p.blocks(),
+        firsts.as_ptr(),
+        firsts.len(),
         p.data.as_mut_ptr(),
         p.data.len(),
         p.block_len,

@@ -11,8 +11,8 @@ use crate::refusal::{judge, Refusal};
 impl Volume {
     /// Makes a file of `block_count` blocks and answers its first block. No data byte changes.
     pub fn create(&mut self, block_count: usize) -> Result<usize, Refusal> {
-        // SAFETY: here and below, the tables are sound, and map and counts right, as the type's documentation says.
-        let r = unsafe { inner::create(&mut self.parts, &mut self.map, block_count) };
+        // SAFETY: here and below, the tables are sound, and maps and counts right, as the type's documentation says.
+        let r = unsafe { inner::create(&mut self.parts, &mut self.maps, block_count) };
         judge(r.answer)?;
         self.free -= block_count;
         self.counts[r.first_block] = block_count as u32;
@@ -21,7 +21,7 @@ impl Volume {
 
     /// Grows or shrinks a file. Its first block stays.
     pub fn resize(&mut self, first_block: usize, block_count: usize) -> Result<(), Refusal> {
-        let r = unsafe { inner::resize(&mut self.parts, &mut self.map, first_block, block_count) };
+        let r = unsafe { inner::resize(&mut self.parts, &mut self.maps, first_block, block_count) };
         judge(r.answer)?;
         self.free = self.free + self.counts[first_block] as usize - block_count;
         self.counts[first_block] = block_count as u32;
@@ -30,7 +30,7 @@ impl Volume {
 
     /// Gives all blocks of a file back.
     pub fn delete(&mut self, first_block: usize) -> Result<(), Refusal> {
-        let r = unsafe { inner::delete(&mut self.parts, &mut self.map, first_block) };
+        let r = unsafe { inner::delete(&mut self.parts, &mut self.maps, first_block) };
         judge(r.answer)?;
         self.free += self.counts[first_block] as usize;
         self.counts[first_block] = 0;
@@ -43,13 +43,15 @@ impl Volume {
         let mut work = vec![0; self.parts.blocks()];
         // SAFETY: the table is sound, and the work list is n places of 0.
         let r = unsafe { inner::merge(&mut self.parts, &mut work) };
-        judge(r.answer)
+        judge(r.answer)?;
+        self.redraw();
+        Ok(())
     }
 
     /// The blocks of a file, in chain order.
     pub fn open_list(&self, first_block: usize) -> Result<Vec<u32>, Refusal> {
         let mut list = vec![0; self.block_count(first_block).unwrap_or(0)];
-        let r = unsafe { inner::open_list(&self.parts, first_block, &mut list) };
+        let r = unsafe { inner::open_list(&self.parts, &self.maps.firsts, first_block, &mut list) };
         judge(r.answer)?;
         list.truncate(r.count);
         Ok(list)
@@ -57,11 +59,11 @@ impl Volume {
 
     /// Reads `buf.len()` bytes of a file from `pos` on.
     pub fn read(&self, first_block: usize, pos: usize, buf: &mut [u8]) -> Result<(), Refusal> {
-        judge(unsafe { inner::read(&self.parts, first_block, pos, buf) }.answer)
+        judge(unsafe { inner::read(&self.parts, &self.maps.firsts, first_block, pos, buf) }.answer)
     }
 
     /// Writes `buf` to a file from `pos` on.
     pub fn write(&mut self, first_block: usize, pos: usize, buf: &[u8]) -> Result<(), Refusal> {
-        judge(unsafe { inner::write(&mut self.parts, first_block, pos, buf) }.answer)
+        judge(unsafe { inner::write(&mut self.parts, &self.maps.firsts, first_block, pos, buf) }.answer)
     }
 }

@@ -1,21 +1,45 @@
-//! The free map that a volume keeps.
+//! The two maps that a volume keeps.
 
 use super::Volume;
+use crate::parts::Parts;
 use crate::refusal::{judge, Refusal};
 use crate::{inner, map};
 
+/// One bit a block each, the lowest block in the lowest bit of the first word.
+#[derive(Clone)]
+pub struct Maps {
+    /// Set where the block is free.
+    pub free: Vec<u32>,
+    /// Set where the block is a file's first.
+    pub firsts: Vec<u32>,
+}
+
+impl Maps {
+    /// Those of a table.
+    ///
+    /// # Safety
+    ///
+    /// The table is sound.
+    pub unsafe fn of(parts: &Parts) -> Maps {
+        let words = map::words(parts.blocks());
+        let mut maps = Maps { free: vec![0; words], firsts: vec![0; words] };
+        for built in [inner::build(parts, &mut maps.free), inner::build_firsts(parts, &mut maps.firsts)] {
+            judge(built.answer).expect("the inner builds refuse nothing");
+        }
+        maps
+    }
+}
+
 impl Volume {
-    /// Builds the map anew, where the table was changed by something else than the calls that keep it.
+    /// Builds the maps anew, where the table was changed by something else than the calls that keep them.
     pub(super) fn redraw(&mut self) {
-        self.map = vec![0; map::words(self.blocks())];
-        // SAFETY: the table is sound, and the map has its words.
-        let built = unsafe { inner::build(&self.parts, &mut self.map) };
-        judge(built.answer).expect("the inner build refuses nothing");
+        // SAFETY: the table is sound.
+        self.maps = unsafe { Maps::of(&self.parts) };
     }
 
-    /// The map: one bit a block, the lowest block in the lowest bit, set where the block is free.
+    /// The free map: one bit a block, the lowest block in the lowest bit, set where the block is free.
     pub fn map(&self) -> &[u32] {
-        &self.map
+        &self.maps.free
     }
 
     /// Free blocks from block `a` up to and without block `b`, counted in the map. `InvalidValue` where `a` is over `b`,
@@ -32,7 +56,7 @@ impl Volume {
     /// # Ok::<(), Refusal>(())
     /// ```
     pub fn free_in(&self, a: usize, b: usize) -> Result<usize, Refusal> {
-        map::count(&self.map, self.blocks(), a, b)
+        map::count(&self.maps.free, self.blocks(), a, b)
     }
 
     /// The longest stretch of free blocks, the lowest of several: its first block and its length; None where none is
@@ -53,7 +77,7 @@ impl Volume {
     pub fn largest_free(&self) -> Option<(usize, usize)> {
         let (mut best, mut from): (Option<(usize, usize)>, Option<usize>) = (None, None);
         for block in 0..=self.blocks() {
-            let free = block < self.blocks() && self.map[block / 32] >> (block % 32) & 1 == 1;
+            let free = block < self.blocks() && self.maps.free[block / 32] >> (block % 32) & 1 == 1;
             match (free, from) {
                 (true, None) => from = Some(block),
                 (false, Some(start)) => {

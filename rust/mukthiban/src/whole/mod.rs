@@ -12,6 +12,8 @@ pub use file::{File, FileMut};
 pub use kept::{BlockTable, Change, EntryTables, Part};
 pub use walk::{Entry, Walk};
 
+pub(crate) use map::Maps;
+
 use crate::fat::{self, MAX_BLOCKS, MAX_BLOCK_LEN};
 use crate::parts::{Parts, Shape};
 use crate::refusal::Refusal;
@@ -51,8 +53,8 @@ impl From<NotSound> for Refusal {
 /// A whole volume in memory, tested once.
 ///
 /// [`Volume::open`] hands the tables to both proved tests. After that each call is the inner call, which does not test
-/// again: a create costs the nodes that it touches, not a test of the whole table. A call on a file hops over the nodes
-/// before it besides, to see that the given block begins one.
+/// again: a call costs the nodes that it touches, not a test of the whole table. Whether the given block begins a file is one
+/// bit of a map.
 ///
 /// # Why that is right
 ///
@@ -63,9 +65,9 @@ impl From<NotSound> for Refusal {
 /// - The bytes of a `Volume` are private, and nothing but these calls changes them. [`Volume::parts`] lends them to be
 ///   read; [`Volume::into_parts`] gives them away and ends the volume.
 ///
-/// The same holds of the free map that it keeps: it is built when the volume is opened, create, resize and delete leave the
-/// map that a build would make (theorem of each step), and so does a merge, which changes no block's being free. Whatever
-/// else changes the table, as a plan that is applied, has the map built anew.
+/// The same holds of the two maps that it keeps, of the free blocks and of the files' first blocks: they are built when the
+/// volume is opened, and create, resize and delete leave the maps that a build would make (theorem of each step). Whatever
+/// else changes the table, as a plan that is applied, has them built anew.
 ///
 /// The counts that a volume keeps beside its bytes (free blocks, the blocks of each file) decide nothing: they are
 /// counted when it is opened, held against what the test answered, and carried on with each call.
@@ -101,8 +103,7 @@ pub struct Volume {
     free: usize,
     /// For the first block of each file how many blocks the file has; 0 for every other block.
     counts: Vec<u32>,
-    /// The free map: one bit a block.
-    map: Vec<u32>,
+    maps: Maps,
     /// Whether its block length is not in use.
     read_only: bool,
 }
@@ -138,10 +139,9 @@ impl Volume {
                 // A write of no bytes, whose answer is the library's word on the block length.
                 let written = fat::write_blocks(&mut parts.data, parts.block_len, &[], 0, &[]);
                 let read_only = written == Err(Refusal::ReadOnlyVolume);
-                let mut map = vec![0; crate::map::words(parts.blocks())];
-                // SAFETY: the test accepted the table, and the map has its words.
-                unsafe { crate::inner::build(&parts, &mut map) };
-                Ok(Volume { parts, dir_opens, file_opens, free: tested.free, counts, map, read_only })
+                // SAFETY: the test accepted the table.
+                let maps = unsafe { Maps::of(&parts) };
+                Ok(Volume { parts, dir_opens, file_opens, free: tested.free, counts, maps, read_only })
             }
             Err(refusal) => Err(NotSound { refusal, parts: Box::new(parts) }),
         }

@@ -1,0 +1,2 @@
+-- What the functions inside ask for and say. No promise needs it.
+pub mod Below
