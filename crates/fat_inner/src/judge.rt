@@ -161,13 +161,7 @@ pub enum ListPlan {
 }
 
 // Judges an open list of the file at a block, into a list of room places: NotAFile, ListTooShort. Into n places any file fits, and no chain is followed.
-pub fn judge_list(
-    table: &[u8],
-    n: usize,
-    first_block: usize,
-    room: usize,
-    begins: bool,
-) -> ListPlan
+pub fn judge_list(table: &[u8], n: usize, first_block: usize, room: usize, begins: bool) -> ListPlan
     requires { ⌜ Volume n (now table) ⌝ }
     requires { ⌜ (begins ≡ true → File (now table) n «first_block») × (File (now table) n «first_block» → begins ≡ true) ⌝ }
     ensures { λ r. ⌜ ListPlanned n (now (table .entry)) «first_block» room r ⌝ }
