@@ -3,14 +3,17 @@ use mathlib.Core.Path.{_≡_, refl, sym, ap, subst, subst⁻¹, _∙_}
 use mathlib.Core.List.{List, _∷_, _++_, append-assoc}
 use Prim.Native.Nat.{ℕ, _+_, _-_, _≤_, _<_}
 use native.Mathlib.Omega.{arith}
+use mathlib.Core.Logic.{inl, inr, ⊎-elim}
+use lib.ListN.{replicate}
 use Rattle.words.proofs.Laws as words
 use Rattle.order.specs.declared.Answer.{Answer}
 use Rattle.order.specs.declared.Answer.the-variants as is
 use Rattle.map_bits.specs.Bits.{wordsFrom, wordsIn}
 use Rattle.fat_node.specs.Entry.{Bytes}
 use Rattle.fat_node.specs.Node.{Run}
+use Rattle.fat_node.proofs.Nodes.{le-or-lt}
 use Rattle.fat_table.specs.Sound.{File}
-use Rattle.fat_table.specs.Chain.{total, freeAt, fileAt}
+use Rattle.fat_table.specs.Chain.{total, headAt, freeAt, fileAt}
 use Rattle.fat_table.specs.Layout.{layout, taken, left, covers}
 use Rattle.fat_table.specs.Steps.{created, resized, deleted}
 use Rattle.fat_table.proofs.Stepped.{free-read, holds-create, holds-delete}
@@ -20,6 +23,8 @@ use Rattle.fat_promises.specs.Calls.{createGives, CreateSound, changeGives, Res
 use Rattle.fat_inner.specs.Volume.{Volume}
 use Rattle.fat_inner.specs.inner.Chains.{Inside}
 use Rattle.fat_inner.specs.inner.Plans.{TakeAt, CreateAt, CreatePlanned, ShrinkAt, GrowAt, ResizePlanned, RecutAt, DeletePlanned}
+use Rattle.fat_inner.specs.declared.walk.Sought.{Sought}
+use Rattle.fat_inner.specs.declared.walk.Sought.the-variants.{Within, Past}
 use Rattle.fat_inner.specs.declared.judge.CreatePlan.{CreatePlan}
 use Rattle.fat_inner.specs.declared.judge.CreatePlan.the-variants as create-plan
 use Rattle.fat_inner.specs.declared.judge.ResizePlan.{ResizePlan}
@@ -27,12 +32,12 @@ use Rattle.fat_inner.specs.declared.judge.ResizePlan.the-variants as resize-pla
 use Rattle.fat_inner.specs.declared.judge.DeletePlan.{DeletePlan}
 use Rattle.fat_inner.specs.declared.judge.DeletePlan.the-variants as delete-plan
 use Rattle.fat_inner.proofs.Hops.{whole-of}
-use Rattle.fat_inner.proofs.Found.{inside-count}
-use Rattle.fat_inner.proofs.Few.{file-chain}
+use Rattle.fat_inner.proofs.Found.{inside-count, inside-first}
+use Rattle.fat_inner.proofs.Few.{free-chain, file-chain}
 use Rattle.fat_inner.proofs.Steps.{create-refused, create-goes, create-done, resize-refused, resize-kept, shrink-goes, shrink-done, grow-goes, grow-done, delete-refused, delete-goes, delete-done}
 use Rattle.map_inner.specs.Map.{mapOf}
 use Rattle.map_inner.specs.Sounds.{CreateMapped, ResizeMapped, DeleteMapped}
-use Rattle.map_inner.specs.inner.Moves.{CutAt}
+use Rattle.map_inner.specs.inner.Moves.{CutAt, TakenIn, TakenAll, TakeSays}
 
 module _ (n : ℕ) (t : Bytes) (w : Whole n t) where
   pub free-created : (c : ℕ) → 1 ≤ c → c ≤ total (freeAt n t) → freeAt n (created n t c) ≡ left (freeAt n t) c
@@ -72,15 +77,52 @@ module _ (n : ℕ) (t : Bytes) (v : Volume n t) (g : words.Bytes t) where
     create-kept a map e q = record { sound = create-refused n t c r s a e; kept = q }
 
     pub create-mapped : (f x m : ℕ) (u : Bytes) (map : List ℕ) → r ≡ create-plan.Cut f x m → ((c : ℕ) → Inside (freeAt n t) c x m → u ≡ created n t c)
-        → ((c : ℕ) → Inside (freeAt n t) c x m → map ≡ wordsFrom (wordsIn n) 0 (λ (x : ℕ). covers x (left (freeAt n t) c)))
+        → map ≡ wordsFrom (wordsIn n) 0 (λ (x : ℕ). covers x (left (freeAt n t) c))
         → CreateMapped n t c (createGives is.Done f u) map
     create-mapped f x m u map e p q =
         let k : CreateAt n t c f x m = subst (CreatePlanned n t c) e s in
         record {
           sound = create-done n t c r s f x m e u p;
           kept = subst⁻¹ (λ (z : Bytes). map ≡ mapOf n z) (p c (k .cut))
-              (map-as n (created n t c) (left (freeAt n t) c) map (q c (k .cut)) (free-created n t (whole-of n t v g) c (k .may .some) (k .may .enough)));
+              (map-as n (created n t c) (left (freeAt n t) c) map q (free-created n t (whole-of n t v g) c (k .may .some) (k .may .enough)));
         }
+
+  -- create, with the blocks taken out while they are sought
+  pub create-zero : (c : ℕ) (map : List ℕ) → c ≡ 0 → map ≡ mapOf n t → CreateMapped n t c (createGives is.InvalidValue 0 t) map
+  create-zero c map z q = create-kept c (create-plan.Refused is.InvalidValue) (inl (z, refl)) is.InvalidValue map refl q
+
+  module _ (c : ℕ) (r : Sought) (map : List ℕ) (s : TakeSays n t c r map) where
+    pub all-out : (i m : ℕ) → r ≡ Past i m → map ≡ replicate (wordsIn n) 0
+    all-out i m e = let k : TakenAll n t c i m map = subst (λ (o : Sought). TakeSays n t c o map) e s in k .shows
+
+    pub create-full : (i m : ℕ) → r ≡ Past i m → (c ≡ 0 → ⊥) → (map′ : List ℕ) → map′ ≡ mapOf n t → CreateMapped n t c (createGives is.NoSpace 0 t) map′
+    create-full i m e z map′ q =
+        let k : TakenAll n t c i m map = subst (λ (o : Sought). TakeSays n t c o map) e s in
+        create-kept c (create-plan.Refused is.NoSpace) (inr (z, inl (omega (arith, k .is .sum, k .is .some), refl))) is.NoSpace map′ refl q
+
+    module _ (x m : ℕ) (e : r ≡ Within x m) where
+      taken-in : TakenIn n t c x m map
+      taken-in = subst (λ (o : Sought). TakeSays n t c o map) e s
+
+      pub cut-at : TakeAt n t x m
+      cut-at = record { count = c; cut = taken-in .is }
+
+      pub front-some : (h : ℕ) → h ≡ headAt t → 1 ≤ h
+      front-some h q =
+          let f = free-chain n t (whole-of n t v g) in
+          omega (arith, inside-first n t (freeAt n t) c x m (f .chain) (taken-in .is), f .at, q)
+
+      pub create-cut : (h : ℕ) → h ≡ headAt t → (c ≡ 0 → ⊥) → (u : Bytes) → ((c : ℕ) → Inside (freeAt n t) c x m → u ≡ created n t c)
+          → CreateMapped n t c (createGives is.Done (h - 1) u) map
+      create-cut h q z u p =
+          let f = free-chain n t (whole-of n t v g) in
+          let at : CreateAt n t c (h - 1) x m =
+          record {
+            may = record { some = ⊎-elim (λ k. k) (λ k. absurd (z (omega (arith, k)))) (le-or-lt 1 c); enough = inside-count n t (freeAt n t) c x m (f .chain) (taken-in .is) };
+            at = ap (λ (j : ℕ). j - 1) q;
+            cut = taken-in .is;
+          } in
+          create-mapped c (create-plan.Cut (h - 1) x m) at (h - 1) x m u map refl p (taken-in .shows)
 
   -- resize
   module _ (b c : ℕ) (r : ResizePlan) (s : ResizePlanned n t b c r) where

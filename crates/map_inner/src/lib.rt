@@ -8,7 +8,7 @@ ghost use Rattle.order.specs.Tells.{Tells};
 ghost use Rattle.map_bits.specs.Bits.{wordsFrom, wordsIn};
 ghost use Rattle.fat_node.specs.Node.{Run};
 ghost use Rattle.fat_table.specs.Sound.{File};
-ghost use Rattle.fat_table.specs.Chain.{freeAt, fileAt};
+ghost use Rattle.fat_table.specs.Chain.{headAt, freeAt, fileAt};
 ghost use Rattle.fat_table.specs.Layout.{left, covers};
 ghost use Rattle.fat_promises.specs.Calls.{createGives, changeGives};
 ghost use Rattle.fat_inner.specs.Volume.{Volume};
@@ -16,11 +16,9 @@ ghost use Rattle.fat_inner.specs.inner.Chains.{Inside};
 ghost use Rattle.fat_inner.specs.inner.Plans.{TakeAt};
 ghost use Rattle.map_inner.specs.Map.{mapOf};
 ghost use Rattle.map_inner.specs.Sounds.{CreateMapped, ResizeMapped, DeleteMapped};
-ghost use Rattle.map_inner.specs.inner.Moves.{Segment, Move, Moves, CutAt};
-use fat_inner::judge::CreatePlan;
+ghost use Rattle.map_inner.specs.inner.Moves.{Segment, Move, Moves, CutAt, TakeSays};
 use fat_inner::judge::DeletePlan;
 use fat_inner::judge::ResizePlan;
-use fat_inner::judge::judge_create;
 use fat_inner::judge::judge_delete;
 use fat_inner::judge::judge_resize;
 use fat_inner::step::Answered;
@@ -28,6 +26,7 @@ use fat_inner::step::Created;
 use fat_inner::step::create_step;
 use fat_inner::step::delete_step;
 use fat_inner::step::resize_step;
+use fat_inner::walk::Sought;
 use fat_inner::walk::head_of;
 use fat_inner::walk::is_file;
 use fat_inner::walk::size_at;
@@ -117,21 +116,62 @@ fn give_rest(table: &[u8], n: usize, b: usize, part: usize, map: &mut [u32])
     turn_chain(table, n, next, 0, map, true);
 }
 
-// Creates a file of so many blocks: the map loses them.
+// Seeks the count-th block of the free chain, which index first starts, and takes out what it passes: the blocks up to that one, or all of the chain where it
+// has fewer.
+fn seek_take(table: &[u8], n: usize, first: usize, count: usize, map: &mut [u32]) -> Sought
+    requires { ⌜ Volume n (now table) ⌝ }
+    requires { ⌜ (first ≡ headAt (now table)) × (1 ≤ count) ⌝ }
+    requires { ⌜ now map ≡ mapOf n (now table) ⌝ }
+    ensures { λ r. ⌜ TakeSays n (now (table .entry)) count r (now (map .exit)) ⌝ }
+{
+    let mut i = first;
+    let mut passed: usize = 0;
+    let mut k = count;
+    while i != 0 {
+        let b = i - 1;
+        let size = size_at(table, n, b);
+        if k <= size {
+            map_bits::turn(map, b, b + k, false);
+            return Sought::Within { node: b, part: k };
+        }
+        map_bits::turn(map, b, b + size, false);
+        k -= size;
+        passed = i;
+        i = fat_node::next_of(table, b);
+    }
+    Sought::Past {
+        last: passed,
+        part: k,
+    }
+}
+
+// Creates a file of so many blocks: the map loses them. They are taken out while they are sought, and put back where there are too few.
 pub fn create_mapped(table: &mut [u8], n: usize, map: &mut [u32], block_count: usize) -> Created
     requires { ⌜ Volume n (now table) ⌝ }
     requires { ⌜ now map ≡ mapOf n (now table) ⌝ }
     ensures { λ r. ⌜ CreateMapped n (now (table .entry)) «block_count» (createGives (r .answer) (r .first) (now (table .exit))) (now (map .exit)) ⌝ }
 {
-    let plan = judge_create(table, n, block_count);
-    match plan {
-        CreatePlan::Refused { answer } => Created { answer, first: 0 },
-        CreatePlan::Cut { first, node, part } => {
-            take(table, n, node, part, map);
+    if block_count == 0 {
+        return Created {
+            answer: Answer::InvalidValue,
+            first: 0,
+        };
+    }
+    let head = head_of(table);
+    let sought = seek_take(table, n, head, block_count, map);
+    match sought {
+        Sought::Past { last: _, part: _ } => {
+            draw(table, n, map);
+            Created {
+                answer: Answer::NoSpace,
+                first: 0,
+            }
+        }
+        Sought::Within { node, part } => {
             create_step(table, n, node, part);
             Created {
                 answer: Answer::Done,
-                first,
+                first: head - 1,
             }
         }
     }

@@ -3,15 +3,17 @@ use mathlib.Core.Path.{_≡_}
 use mathlib.Core.List.{List, _++_}
 use mathlib.Core.Bool.{Bool, true, false}
 use Prim.Native.Nat.{ℕ, _+_, _≤_}
-use lib.ListN.{length}
+use lib.ListN.{length, replicate}
 use Rattle.map_bits.specs.Bits.{wordsFrom, wordsIn}
 use Rattle.fat_node.specs.Entry.{Bytes}
 use Rattle.fat_node.specs.Node.{Run}
 use Rattle.fat_table.specs.Sound.{File}
-use Rattle.fat_table.specs.Chain.{fileAt}
-use Rattle.fat_table.specs.Layout.{covers}
+use Rattle.fat_table.specs.Chain.{freeAt, fileAt}
+use Rattle.fat_table.specs.Layout.{left, covers}
 use Rattle.fat_table.specs.Steps.{first}
-use Rattle.fat_inner.specs.inner.Chains.{Chain, Inside}
+use Rattle.fat_inner.specs.inner.Chains.{Chain, Inside, Beyond}
+use Rattle.fat_inner.specs.declared.walk.Sought.{Sought}
+use Rattle.fat_inner.specs.declared.walk.Sought.the-variants.{Within, Past}
 
 -- the runs l of a chain of the table, from the node that index i names up to and without the one that index stop names, or to the chain's end
 pub record Segment (n : ℕ) (t : Bytes) (i stop : ℕ) (l : List Run) : Type 0 where
@@ -52,3 +54,18 @@ pub record CutAt (n : ℕ) (t : Bytes) (x m : ℕ) : Type 0 where
   pub count : ℕ
   pub is : File t n file
   pub cut : Inside (fileAt n t file) count x m
+
+-- up to its c-th block, the m-th of its node at block x, the free chain is taken out
+pub record TakenIn (n : ℕ) (t : Bytes) (c x m : ℕ) (map : List ℕ) : Type 0 where
+  pub is : Inside (freeAt n t) c x m
+  pub shows : map ≡ wordsFrom (wordsIn n) 0 (λ z. covers z (left (freeAt n t) c))
+
+-- the free chain has fewer than c blocks, and is taken out
+pub record TakenAll (n : ℕ) (t : Bytes) (c i m : ℕ) (map : List ℕ) : Type 0 where
+  pub is : Beyond (freeAt n t) c i m
+  pub shows : map ≡ replicate (wordsIn n) 0
+
+-- what is left in the map where the c-th free block is sought
+abbrev pub TakeSays : (n : ℕ) (t : Bytes) (c : ℕ) → Sought → List ℕ → Type 0
+TakeSays n t c (Within x m) map = TakenIn n t c x m map
+TakeSays n t c (Past i m) map = TakenAll n t c i m map
