@@ -1,7 +1,7 @@
 //! One call on the statement of the rules and on the proved library, compared whole.
 
 use crate::stored;
-use port::{Answered, BlockCall, Blocks, Inner, Library, Port, Stated, Tree, TreeCall};
+use port::{Answered, BlockCall, Blocks, First, Inner, Library, Port, Stated, Tree, TreeCall};
 use std::sync::atomic::{AtomicU64, Ordering};
 use std::thread;
 use std::time::Duration;
@@ -61,6 +61,16 @@ pub fn block_call(call: &BlockCall, lent: &mut Blocks) -> Answered {
             assert!(
                 same,
                 "the inner call differs\ncall {call:?}\nlent {}\nrules {stated:?} {}\ninner {answered:?} {}",
+                short(&before), short(lent), short(&copy)
+            );
+        }
+        let mut copy = before.clone();
+        if let Some(answered) = First.block_call(call, &mut copy) {
+            copy.work.clone_from(&lent.work);
+            let same = answered == stated && copy == *lent;
+            assert!(
+                same,
+                "the call beside both maps differs\ncall {call:?}\nlent {}\nrules {stated:?} {}\ncall {answered:?} {}",
                 short(&before), short(lent), short(&copy)
             );
         }

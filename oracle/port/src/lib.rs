@@ -3,6 +3,7 @@
 mod audit;
 mod by_list;
 mod calls;
+mod first;
 mod inner;
 mod library;
 mod map;
@@ -14,6 +15,7 @@ mod stated;
 pub use audit::Audit;
 pub use by_list::{library_version, ByList, ListCall};
 pub use calls::{Answered, BlockCall, Blocks, Kind, Tree, TreeCall};
+pub use first::First;
 pub use inner::Inner;
 pub use library::Library;
 pub use map::{count_library, count_stated, MapCall, Mapped};
