@@ -169,9 +169,10 @@ pub fn create_mapped(table: &mut [u8], n: usize, map: &mut [u32], block_count: u
         }
         Sought::Within { node, part } => {
             create_step(table, n, node, part);
+            let first = head - 1;
             Created {
                 answer: Answer::Done,
-                first: head - 1,
+                first,
             }
         }
     }

@@ -39,6 +39,10 @@ fn both(maps: &(Vec<u32>, Vec<u32>)) -> (&Vec<u32>, &Vec<u32>) {
 impl First {
     /// None for format and the test, which have no such call.
     pub fn block_call(&self, call: &BlockCall, lent: &mut Blocks) -> Option<Answered> {
+        // Both take tables that are not sound.
+        if matches!(call, BlockCall::Format | BlockCall::Test) {
+            return None;
+        }
         let n = lent.table.len() / 8 - 1;
         let (mut map, mut firsts) = built(&lent.table);
         assert!((&map, &firsts) == both(&stated(&lent.table)), "the maps are not the table's");

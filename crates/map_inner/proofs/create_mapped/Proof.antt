@@ -31,8 +31,8 @@ create-step-requires c κs =
     let known = called .before .before .before .before .before .before .before in
     (search needs, cut-at _ _ (known .before .pre .0) (are-bytes _ (known .slice-known .given)) _ _ _ (called .seek-take .ensures) _ _ (c .before .before .sought .given .1))
 
-sub-t28 : tie.Need-sub-t28
-sub-t28 c = search (front-some, are-bytes)
+sub-first : tie.Need-sub-first
+sub-first c = search (front-some, are-bytes)
 
 same-length : tie.Need-same-length
 same-length c = search needs
@@ -63,7 +63,7 @@ create-mapped-spec =
     draw-requires
     enum-known-sought
     create-step-requires
-    sub-t28
+    sub-first
     same-length
     same-length-2
     returns-2
