@@ -135,14 +135,14 @@ total-some [] b e p = let z : ⊥ = omega (arith, e) in absurd z
 total-some (r ∷ l) b e p = omega (arith, p)
 
 -- inode y is live exactly where the test says so
-live-in : (s : Tables) (y : ℕ) → isLive (s .fileTable) y ≡ true → LiveIn (files s) y
+pub live-in : (s : Tables) (y : ℕ) → isLive (s .fileTable) y ≡ true → LiveIn (files s) y
 unfolding isLive countOf removedFiles
 live-in s y e =
     let a = both (ltb 0 y) _ e in
     let b = both (ltb y (countOf (s .fileTable))) _ (a .1) in
     (ltb-true 0 y (a .0), ltb-true y (countOf (s .fileTable)) (b .0), not-member y (removedFiles (s .fileTable)) (flip (member y (removedFiles (s .fileTable))) (b .1)))
 
-in-live : (s : Tables) (y : ℕ) → LiveIn (files s) y → isLive (s .fileTable) y ≡ true
+pub in-live : (s : Tables) (y : ℕ) → LiveIn (files s) y → isLive (s .fileTable) y ≡ true
 unfolding isLive countOf removedFiles
 in-live s y l =
     and-true (ltb 0 y) _ (lt-ltb 0 y (l .0))

@@ -94,7 +94,7 @@ fn mark_removed(file_table: &[u8], n: usize, work: &mut [u32])
 }
 
 // Marks the chains and the removed inodes.
-fn mark(table: &[u8], n: usize, file_table: &[u8], work: &mut [u32])
+pub fn mark(table: &[u8], n: usize, file_table: &[u8], work: &mut [u32])
     requires { ⌜ Volume n (now table) ⌝ }
     requires { ⌜ Files (now «file_table») ⌝ }
     requires { ⌜ n + length (now «file_table») / 48 ≤ length (now work) ⌝ }
@@ -268,7 +268,13 @@ fn audit_blocks(n: usize, found: usize, work: &mut [u32], list: &mut [u32]) -> u
 }
 
 // Goes along the inodes and then along the blocks. The findings are written if the list has room for them all, and counted in any case.
-fn sweep(file_table: &[u8], n: usize, block_len: usize, work: &mut [u32], list: &mut [u32]) -> usize
+pub fn sweep(
+    file_table: &[u8],
+    n: usize,
+    block_len: usize,
+    work: &mut [u32],
+    list: &mut [u32],
+) -> usize
     requires { ⌜ Files (now «file_table») ⌝ }
     requires { ⌜ n + countOf (now «file_table») ≤ length (now work) ⌝ }
     requires { ⌜ (n ≤ 1000000) × («block_len» ≤ 65536) ⌝ }

@@ -1,0 +1,4 @@
+pub mod Public
+pub mod Unique
+pub mod Reader
+pub mod Again

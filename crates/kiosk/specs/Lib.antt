@@ -1,0 +1,3 @@
+pub mod Promise
+pub mod Reader
+pub mod inner

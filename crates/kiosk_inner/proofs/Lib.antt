@@ -1,0 +1,5 @@
+pub mod Dirs
+pub mod Files
+pub mod Chains
+pub mod Names
+pub mod Rules
