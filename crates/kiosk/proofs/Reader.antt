@@ -50,9 +50,13 @@ module _ (n : ℕ) (t : Bytes) (l : ℕ) (s : Tables) (w : Whole n t) where
   in-none : InProfile n t l s → rules
   in-none p = (
     λ h. h (clean n t l s w .1 (p .clean)),
-    (λ h. omega (arith, h, p .small),
-    (λ h. h .2 (p .alone (h .0) (h .1)),
-    (λ h. omega (arith, h, p .few), (λ h. h .2 (p .single (h .0) (h .1)), (λ h. clash (sym (p .names (h .0) (live-in s (h .0) (h .1))) ∙ h .2), tt))))),
+    (
+      λ h. omega (arith, h, p .small),
+      (
+        λ h. h .2 (p .alone (h .0) (h .1)),
+        (λ h. omega (arith, h, p .few), (λ h. h .2 (p .single (h .0) (h .1)), (λ h. clash (sym (p .names (h .0) (live-in s (h .0) (h .1))) ∙ h .2), tt))),
+      ),
+    ),
   )
 
   -- profile: the test tells 0 exactly when the volume is in the profile

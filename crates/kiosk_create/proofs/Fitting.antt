@@ -23,6 +23,10 @@ short : (l : List Run) → empties l ≡ 0 → length l ≤ total l
 short [] e = omega arith
 short (r ∷ l) e = omega (arith, short l (omega (arith, e)))
 
+-- a program that asks for a node of just so many blocks returns the right index; it is wrong where it goes on
+pub at-least : (a b : ℕ) → a ≡ b → a ≤ b
+at-least a b e = omega (arith, e)
+
 -- index i names the next node of the free chain; those passed are too short
 pub record Fitting (n : ℕ) (t : Bytes) (count i : ℕ) : Type 0 where
   pub stands : Chain n t (freeAt n t)

@@ -39,6 +39,13 @@ mark-one : (t : Bool) (m r : ℕ) → m ≡ cond t 0 gone → OneIf m r → r �
 mark-one true m r e p = p .yes e
 mark-one false m r e p = p .no (λ z. omega (arith, e, z))
 
+-- a mark of 0 counts for one, any other for none
+pub one-live : (m : ℕ) → m ≡ 0 → OneIf m 1
+one-live m e = record { yes = λ z. refl; no = λ h. absurd (h e); most = omega arith }
+
+pub one-dead : (m : ℕ) → (m ≡ 0 → ⊥) → OneIf m 0
+one-dead m h = record { yes = λ z. absurd (h z); no = λ k. refl; most = omega arith }
+
 -- ---- an inode of the walk
 
 pub record Inodes (f : Bytes) (y : ℕ) : Type 0 where

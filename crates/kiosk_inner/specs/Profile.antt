@@ -1,4 +1,4 @@
--- The kiosk's profile (RULES 6.25): six rules, each stated by what breaks it, in their order. n is the number of blocks, t the block table, l the block
+-- The kiosk's profile (RULES 6.18): six rules, each stated by what breaks it, in their order. n is the number of blocks, t the block table, l the block
 -- length, d the directories' table and f the files'.
 use mathlib.Core.Path.{_≡_}
 use mathlib.Core.List.{List, [], _∷_}

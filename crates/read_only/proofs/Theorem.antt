@@ -8,7 +8,8 @@ use Rattle.fat_listed.proofs.Same.{read-only-write-blocks}
 use Rattle.fat_history.proofs.InUse.{read-only-create, read-only-resize, read-only-delete, read-only-write}
 use Rattle.fat_merge.proofs.Theorems.{read-only-merge}
 use Rattle.fat_apply.proofs.Theorems.{read-only-apply}
-use Rattle.read_only.specs.Calls.{Calls, none, creates, resizes, deletes, writes, writes-listed, merges, applies, map-creates, map-resizes, map-deletes}
+use Rattle.kiosk_create.proofs.Theorems.{read-only-kiosk}
+use Rattle.read_only.specs.Calls.{Calls, none, creates, resizes, deletes, writes, writes-listed, merges, applies, kiosk-creates, map-creates, map-resizes, map-deletes}
 use Rattle.read_only.proofs.Maps.{read-only-map-create, read-only-map-resize, read-only-map-delete}
 
 module _ (l : ℕ) (u : InUse l → ⊥) (t d : Bytes) (g : AreBytes t) where
@@ -37,6 +38,9 @@ module _ (l : ℕ) (u : InUse l → ⊥) (t d : Bytes) (g : AreBytes t) where
       let s = read-only c in
       let r = read-only-apply t₁ d₁ l work b plan o (subst⁻¹ AreBytes (s .0) g) p u in
       (r .0 ∙ s .0, r .1 ∙ s .1)
+  read-only (kiosk-creates t₁ d₁ c work count o p) =
+      let s = read-only c in
+      (read-only-kiosk t₁ _ l work count o (subst⁻¹ AreBytes (s .0) g) p u ∙ s .0, s .1)
   read-only (map-creates t₁ d₁ c work map count o p) =
       let s = read-only c in
       (read-only-map-create t₁ _ l work map u count o p ∙ s .0, s .1)

@@ -2,7 +2,7 @@ use borrow.Author.Needs.{needs}
 use lib.ListN.{length}
 use Rattle.fat_table.specs.Chain.{chainAt}
 use Rattle.fat_inner.proofs.Found.{are-bytes}
-use Rattle.kiosk_create.proofs.Fitting.{Fitting, fit-begin, fit-end, fit-standing, fit-room, fit-here, fit-next, fit-less}
+use Rattle.kiosk_create.proofs.Fitting.{Fitting, at-least, fit-begin, fit-end, fit-standing, fit-room, fit-here, fit-next, fit-less}
 use Rattle.kiosk_create.proofs.find_fit.Statement.{statement}
 use Rattle.kiosk_create.proofs.find_fit.Tie as tie
 
@@ -25,7 +25,7 @@ size-at-requires : tie.Need-size-at-requires Inv-loop μ-loop
 size-at-requires c κs = search (fit-standing)
 
 returns : tie.Need-returns Inv-loop μ-loop
-returns c = search (fit-here, needs)
+returns c = search (fit-here, at-least)
 
 next-of-requires : tie.Need-next-of-requires Inv-loop μ-loop
 next-of-requires c κs = search (fit-room)

@@ -1,0 +1,1 @@
+// A kiosk's create and then a make of the file: theorems, and no code.
