@@ -1,2 +1,3 @@
 pub mod Bytes
+pub mod Named
 pub mod Made

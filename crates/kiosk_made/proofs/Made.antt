@@ -15,6 +15,7 @@ use Rattle.order.specs.Beside.{Beside}
 use Rattle.order.specs.declared.Answer.the-variants.{Done}
 use Rattle.fat_node.specs.Sizes.{blocks}
 use Rattle.fat_promises.specs.Calls.{Create}
+use Rattle.tree_key.specs.Key.{nameKey}
 use Rattle.tree_table.specs.Field.{field, Write, write, wrote}
 use Rattle.tree_table.specs.View.{View, LiveIn, removedOf}
 use Rattle.tree_table.specs.Steps.{taken, takeWrites}
@@ -30,6 +31,7 @@ use Rattle.tree_kept.proofs.Keys.{made-file-told, made-file-same}
 use Rattle.tree_history.specs.Whole.{Whole}
 use Rattle.tree_history.specs.May.{MayMake}
 use Rattle.tree_history.proofs.Sizes.{are-bytes, fine}
+use Rattle.tree_history.proofs.Steps.{after-made}
 use Rattle.tree_history.proofs.Lives.{live-make, live-new}
 use Rattle.audit_inner.specs.Volume.{recordBlock, recordSize}
 use Rattle.kiosk_create.specs.Create.{KioskPromise}
@@ -37,6 +39,7 @@ use Rattle.kiosk_inner.specs.Profile.{mostFiles, liveFiles, simple, nameOf}
 use Rattle.kiosk.specs.Reader.{InProfile, Recorded}
 use Rattle.kiosk.proofs.Again.{again}
 use Rattle.kiosk_made.proofs.Bytes as stays
+use Rattle.kiosk_made.proofs.Named.{name-is}
 
 module _ (s : Tables) (w : Whole s) (p : ℕ) (name bytes : List ℕ) (bn : AreBytes name) (bb : AreBytes bytes) (m : MayMake File s p name) where
   abbrev x : ℕ
@@ -145,16 +148,32 @@ module _ (s : Tables) (w : Whole s) (p : ℕ) (name bytes : List ℕ) (bn : AreB
     dirs = λ z l. made-file-same s (fine s w) (w .sound) p name bytes (are-bytes name bn) (are-bytes bytes bb) (m .parent) (m .new-key) (m .space) z l .0;
   }
 
+  -- named: the name that stands in the new entry is the one that make was given
+  new-key : files s′ .key x ≡ nameKey p name
+  new-key =
+      ⊎-elim (λ h. h .1) (λ h. absurd (not-new (h .0)))
+      (made-file-told s (fine s w) (w .sound) p name bytes (are-bytes name bn) (are-bytes bytes bb) (m .parent) (m .new-key) (m .space) x new-in)
+
+  pub named : length name ≡ 16 → nameOf (s′ .fileTable) x ≡ name
+  unfolding field
+  named sixteen =
+      name-is (s′ .fileTable) name x (after-made File s p name bytes .lent (w .lent) .file-table) bn (omega (arith, inside, long, long-two)) sixteen
+      (ap (λ (k : List ℕ). getD k 1 0) new-key)
+      (ap (λ (k : List ℕ). getD k 2 0) new-key)
+      (ap (λ (k : List ℕ). getD k 3 0) new-key)
+      (ap (λ (k : List ℕ). getD k 4 0) new-key)
+
   -- again-made: a volume in the profile that gets a kiosk create answered Done, and then a make whose carried bytes name the answered block and a size
-  -- above 0 that its blocks hold, is in the profile again, if the name in the new entry is one of the profile and there are at most 64 live files
+  -- above 0 that its blocks hold, is in the profile again, if the name is one of the profile and there are at most 64 live files
   pub again-made : (t : List ℕ) (d l : ℕ) (work : List ℕ) (count : ℕ) (o : Beside Create) → AreBytes t → KioskPromise t d l work count o → o .given .answer ≡ Done
       → word bytes 4 ≡ o .given .first
       → 1 ≤ word bytes 8 + 4294967296 * word bytes 12
       → word bytes 8 + 4294967296 * word bytes 12 ≤ count * l
-      → simple (nameOf (s′ .fileTable) x) ≡ true
+      → length name ≡ 16
+      → simple name ≡ true
       → liveFiles (s′ .fileTable) ≤ mostFiles
       → InProfile (blocks t) t l s
       → InProfile (blocks t) (o .given .table) l s′
-  again-made t d l work count o g q e b some fits simple-name few v =
+  again-made t d l work count o g q e b some fits sixteen simple-name few v =
       again t d l work count o g q e s s′ x (word bytes 8 + 4294967296 * word bytes 12)
-      (subst (λ (k : ℕ). Recorded s s′ x k (word bytes 8 + 4294967296 * word bytes 12)) b recorded) v some fits simple-name few
+      (subst (λ (k : ℕ). Recorded s s′ x k (word bytes 8 + 4294967296 * word bytes 12)) b recorded) v some fits (ap simple (named sixteen) ∙ simple-name) few
