@@ -162,8 +162,8 @@ mukthiban_planned mukthiban_plan_find(const uint8_t *table, size_t table_len,
  * bits past n are 0, and words past n's are neither looked at nor touched. A map under n bits (map_len below n / 32, rounded
  * up) is 3. Create, resize and delete with a map do what the call without one does and keep it: it always equals one built
  * afresh. They refuse a map that is not the table's: 4 with entry and rule 0, after the table's own 4. The calls without a
- * map that change the free chain (create, resize, delete, format, plan_apply) leave a lent map behind: the next call with
- * that map answers 4, until it is built again. A merge leaves it as it should be. */
+ * map that change the free chain (create, resize, delete, format, plan_apply, kiosk_create) leave a lent map behind: the
+ * next call with that map answers 4, until it is built again. A merge leaves it as it should be. */
 
 /* Builds the map of the table. Answers 1, 2, 3, 4. */
 mukthiban_answered mukthiban_map_build(const uint8_t *table, size_t table_len,
@@ -409,6 +409,28 @@ mukthiban_audited mukthiban_volume_audit(const uint8_t *table, size_t table_len,
                                          const uint8_t *file_table, size_t file_table_len,
                                          uint32_t *work, size_t work_len,
                                          uint32_t *list, size_t list_len);
+
+/* ---- The demo kiosk ---- */
+
+/* Whether the volume is in the kiosk's profile: broken is 0, or the first rule that is broken: 1, the audit finds nothing;
+ * 2, at most 8,191 blocks; 3, no directory but the root; 4, at most 64 live files; 5, every chain but the free one a
+ * single node; 6, file names of one or more of A to Z and 0 to 9, then zeros to the end. A broken rule is no refusal: the
+ * answer is 0. The work list needs n places and as many as the two rooms. Answers 1, 2, 3, 4, 9. */
+mukthiban_profiled mukthiban_kiosk_test(const uint8_t *table, size_t table_len,
+                                        const uint8_t *data, size_t data_len, size_t block_len,
+                                        const uint8_t *dir_hash, size_t dir_hash_len,
+                                        const uint8_t *dir_table, size_t dir_table_len,
+                                        const uint8_t *file_hash, size_t file_hash_len,
+                                        const uint8_t *file_table, size_t file_table_len,
+                                        uint32_t *work, size_t work_len);
+
+/* Makes a file of block_count blocks in one node: the left part of the first node along the free chain that has so many.
+ * What is left of that node stands in its place, and one taken whole leaves its neighbours linked. It leaves a lent map
+ * behind. Answers 1, 2, 3, 4, 20, 2 (count 0), 6 (no free node has so many blocks). */
+mukthiban_created mukthiban_kiosk_create(uint8_t *table, size_t table_len,
+                                         const uint8_t *data, size_t data_len, size_t block_len,
+                                         uint32_t *work, size_t work_len,
+                                         size_t block_count);
 
 /* ---- Salvage: tables of any bytes ---- */
 

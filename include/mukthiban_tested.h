@@ -108,6 +108,21 @@ mukthiban_planned mukthiban_tested_plan_find(const uint8_t *table, size_t table_
                                              size_t first_block,
                                              uint32_t *list, size_t list_len);
 
+/* ---- The demo kiosk ---- */
+
+/* Tells the first rule of the kiosk's profile that is broken, 0 where none is, as mukthiban_kiosk_test does. Answers nothing
+ * but MUKTHIBAN_DONE.
+ * Requires: as mukthiban_tested_volume_audit, and dir_table is one of the sound tables too. */
+mukthiban_profiled mukthiban_tested_kiosk_test(const uint8_t *table, size_t table_len, size_t n, size_t block_len,
+                                               const uint8_t *dir_table, size_t dir_table_len,
+                                               const uint8_t *file_table, size_t file_table_len,
+                                               uint32_t *work, size_t work_len);
+
+/* Makes a file in one node, as mukthiban_kiosk_create does. Answers 20, 2 (count 0), 6.
+ * Requires: a sound table of n blocks. */
+mukthiban_created mukthiban_tested_kiosk_create(uint8_t *table, size_t table_len, size_t n,
+                                                size_t block_len, size_t block_count);
+
 /* ---- The free map ---- */
 
 /* Builds the map of the table. Answers nothing but MUKTHIBAN_DONE.

@@ -136,6 +136,14 @@ typedef struct {
     uint32_t rule;
 } mukthiban_planned;
 
+/* The kiosk's test: 0 in the profile, else the first of its rules 1 to 6 that is broken. */
+typedef struct {
+    uint32_t answer;
+    uint32_t broken;
+    size_t entry;
+    uint32_t rule;
+} mukthiban_profiled;
+
 /* Stretch query: how many bits of the stretch are set. It judges no block table, so it has no entry and no rule. */
 typedef struct {
     uint32_t answer;

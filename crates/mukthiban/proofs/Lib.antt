@@ -8,3 +8,4 @@ pub mod OneVolume
 pub mod OneMap
 pub mod Asked
 pub mod OneOpens
+pub mod OneKiosk

@@ -4,6 +4,7 @@ mod blocks;
 mod by_list;
 mod change;
 mod first;
+mod demo;
 mod look;
 mod map;
 mod merge;
@@ -126,6 +127,15 @@ pub struct Planned {
 pub struct Salvaged {
     pub answer: u32,
     pub count: usize,
+    pub entry: usize,
+    pub rule: u32,
+}
+
+// The first rule of the kiosk's profile that is broken, 0 where none is.
+#[repr(C)]
+pub struct Profiled {
+    pub answer: u32,
+    pub broken: u32,
     pub entry: usize,
     pub rule: u32,
 }

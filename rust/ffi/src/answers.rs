@@ -28,6 +28,8 @@ answers! {
     Audited { answer: u32, count: usize, entry: usize, rule: u32 }
     /// Find of a plan.
     Planned { answer: u32, count: usize, entry: usize, rule: u32 }
+    /// The kiosk's test.
+    Profiled { answer: u32, broken: u32, entry: usize, rule: u32 }
     /// Stretch query of a free map.
     Counted { answer: u32, free: usize }
     /// A chain of a table of any bytes: entry and rule say why it ends, 0 and 0 where it is whole.

@@ -147,6 +147,14 @@ calls! {
         dir_hash: &[u8], dir_table: &[u8], file_hash: &[u8], file_table: &[u8],
         work: &mut [u32], list: &mut [u32],
     ) -> Audited;
+    fn mukthiban_kiosk_test(
+        table: &[u8], data: &[u8], block_len: usize,
+        dir_hash: &[u8], dir_table: &[u8], file_hash: &[u8], file_table: &[u8],
+        work: &mut [u32],
+    ) -> Profiled;
+    fn mukthiban_kiosk_create(
+        table: &mut [u8], data: &[u8], block_len: usize, work: &mut [u32], block_count: usize,
+    ) -> Created;
     fn mukthiban_salvage_chain(
         table: &[u8], work: &mut [u32], first_block: usize, list: &mut [u32],
     ) -> Salvaged;

@@ -29,6 +29,10 @@ calls! {
     fn mukthiban_tested_plan_find(
         table: &[u8], n: usize, work: &mut [u32], first_block: usize, list: &mut [u32],
     ) -> Planned;
+    fn mukthiban_tested_kiosk_test(
+        table: &[u8], n: usize, block_len: usize, dir_table: &[u8], file_table: &[u8], work: &mut [u32],
+    ) -> Profiled;
+    fn mukthiban_tested_kiosk_create(table: &mut [u8], n: usize, block_len: usize, block_count: usize) -> Created;
     fn mukthiban_tested_map_build(table: &[u8], n: usize, map: &mut [u32]) -> Answered;
     fn mukthiban_tested_map_create(
         table: &mut [u8], n: usize, block_len: usize, map: &mut [u32], block_count: usize,

@@ -32,6 +32,23 @@ impl Volume {
         Ok(list)
     }
 
+    /// The nodes of a file, in its order, each as its first block and its length.
+    ///
+    /// ```
+    /// # use mukthiban::{Shape, Volume};
+    /// let shape = Shape { blocks: 8, block_len: 512, dir_max: 4, file_max: 4, buckets: 3 };
+    /// let mut volume = Volume::new(shape)?;
+    /// let (one, two) = (volume.create(2)?, volume.create(2)?);
+    /// volume.delete(one)?;
+    /// volume.resize(two, 5)?;
+    /// assert_eq!(volume.nodes(two)?, [(2, 2), (0, 2), (4, 1)]);
+    /// # Ok::<(), mukthiban::Refusal>(())
+    /// ```
+    pub fn nodes(&self, first_block: usize) -> Result<Vec<(u32, u32)>, Refusal> {
+        self.block_count(first_block)?;
+        Ok(nodes(&self.parts().fat, Some(first_block)))
+    }
+
     /// The nodes of the free chain, in its order, each as its first block and its length.
     ///
     /// ```
@@ -48,15 +65,19 @@ impl Volume {
     /// ```
     pub fn free_nodes(&self) -> Vec<(u32, u32)> {
         let table = &self.parts().fat;
-        let mut nodes = Vec::new();
-        let mut at = free_front(table);
-        while let Some(start) = at {
-            let (size, next) = node(table, start);
-            nodes.push((start as u32, size));
-            at = next.checked_sub(1);
-        }
-        nodes
+        nodes(table, free_front(table))
     }
+}
+
+/// The nodes from one on to the end of its chain.
+fn nodes(table: &[u8], mut at: Option<usize>) -> Vec<(u32, u32)> {
+    let mut nodes = Vec::new();
+    while let Some(start) = at {
+        let (size, next) = node(table, start);
+        nodes.push((start as u32, size));
+        at = next.checked_sub(1);
+    }
+    nodes
 }
 
 /// The index that a word of the table holds.

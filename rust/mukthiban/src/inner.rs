@@ -5,7 +5,7 @@
 
 use crate::parts::Parts;
 use crate::whole::Maps;
-use mukthiban_ffi::{tested, Answered, Audited, Created, Opened, Planned};
+use mukthiban_ffi::{tested, Answered, Audited, Created, Opened, Planned, Profiled};
 
 /// `map` has the words of the table's blocks. It is, after the call, the table's free map.
 pub unsafe fn build(p: &Parts, map: &mut [u32]) -> Answered {
@@ -87,6 +87,28 @@ pub unsafe fn audit(p: &Parts, work: &mut [u32], list: &mut [u32]) -> Audited {
         list.as_mut_ptr(),
         list.len(),
     )
+}
+
+/// `work` as for [`audit`].
+pub unsafe fn kiosk_test(p: &Parts, work: &mut [u32]) -> Profiled {
+    tested::mukthiban_tested_kiosk_test(
+        p.fat.as_ptr(),
+        p.fat.len(),
+        p.blocks(),
+        p.block_len,
+        p.dir_table.as_ptr(),
+        p.dir_table.len(),
+        p.file_table.as_ptr(),
+        p.file_table.len(),
+        work.as_mut_ptr(),
+        work.len(),
+    )
+}
+
+/// The map is left behind.
+pub unsafe fn kiosk_create(p: &mut Parts, block_count: usize) -> Created {
+    let (fat, len) = (p.fat.as_mut_ptr(), p.fat.len());
+    tested::mukthiban_tested_kiosk_create(fat, len, p.blocks(), p.block_len, block_count)
 }
 
 /// `work` as for [`merge`].

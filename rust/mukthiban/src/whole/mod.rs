@@ -3,6 +3,7 @@ mod blocks;
 mod counts;
 mod file;
 mod kept;
+mod kiosk;
 mod map;
 mod plan;
 mod tree;
