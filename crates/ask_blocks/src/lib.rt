@@ -47,6 +47,11 @@ fn change(
             let answer = r.answer;
             says(answer, 0, 0)
         }
+        19 => {
+            let r = kiosk_create::create(table, data, block_len, work, count);
+            let answer = r.answer;
+            says(answer, r.first, 0)
+        }
         _ => {
             let r = fat::delete(table, data, block_len, work, first);
             let answer = r.answer;
@@ -207,6 +212,7 @@ fn call(
         }
         11..=13 => plans(which, table, data, block_len, work, list, first),
         14..=18 => mapped(which, table, data, block_len, work, list, first, count),
+        19 => change(which, table, data, block_len, work, first, count),
         _ => look(which, table, data, block_len, work, list, buf, first, count),
     }
 }

@@ -94,7 +94,7 @@ fn broken_at(said: Said) {
     }
 }
 
-// The fields of an answer: two of test, with its work list, and one of open list, create, plans applied and found, create with a map and the stretch query; of
+// The fields of an answer: two of test, with its work list, and one of open list, create, plans applied and found, create with a map, the stretch query and the kiosk's create; of
 // BrokenFat also where the table is broken.
 fn fields(which: u32, said: Said, volume: Volume, work: &[u32]) {
     match which {
@@ -102,7 +102,7 @@ fn fields(which: u32, said: Said, volume: Volume, work: &[u32]) {
             tell::fields(2, said.one, said.two);
             tell::places(work, volume.work);
         }
-        2..=3 | 12..=13 | 15 | 18 => tell::fields(1, said.one, 0),
+        2..=3 | 12..=13 | 15 | 18..=19 => tell::fields(1, said.one, 0),
         _ => {}
     }
     broken_at(said);
