@@ -11,6 +11,7 @@ pub mod edges;
 pub mod mapped;
 pub mod merged;
 pub mod planned;
+pub mod profiled;
 pub mod retired;
 pub mod salvaged;
 pub mod stored;

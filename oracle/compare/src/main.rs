@@ -1,7 +1,7 @@
 //! `compare short` or `compare long [seed]`: every comparison, with counts and the seed. It ends at the first difference.
 
 use compare::chance::Chance;
-use compare::{audited, block_history, by_list, check, closure, damage, edges, mapped, merged, planned, retired, salvaged, tree_history};
+use compare::{audited, block_history, by_list, check, closure, damage, edges, mapped, merged, planned, profiled, retired, salvaged, tree_history};
 use std::time::{Instant, SystemTime, UNIX_EPOCH};
 
 /// How much of everything.
@@ -63,6 +63,8 @@ fn main() {
     histories("read-only", retired::run, seed, run.histories);
     histories("audit", audited::run, seed, run.histories);
     audited::large();
+    histories("kiosk", profiled::run, seed, run.histories);
+    profiled::large();
     histories("salvage", salvaged::run, seed, run.histories);
     histories("tree", tree_history::run, seed, run.histories);
     histories("full tree", tree_history::full, seed, run.histories / 10);
@@ -91,6 +93,9 @@ fn main() {
     let maps = mapped::met();
     println!("calls with a map by their answers 0, 1, 2, 3, 4 (table), 4 (map), 5, 6, 20: {:?}; stretches 0, 2, 3: {:?}", &maps[..9], &maps[9..]);
     assert!(maps.iter().all(|times| *times > 0), "an answer of a call with a map was never met");
+    let (answers, rules, created) = profiled::met();
+    println!("kiosk tests by their answers 0, 1, 2, 3, 4, 9: {answers:?}; in the profile, and by the first broken rule: {rules:?}; kiosk creates by 0, 1, 2, 3, 4, 6, 20, whole, cut, from a later node: {created:?}");
+    assert!(answers.iter().chain(&rules).chain(&created).all(|times| *times > 0), "an answer or a rule of the kiosk was never met");
     let (answers, rules, kinds) = salvaged::met();
     println!("salvages by their answers 0, 1, 2, 3, 5, 8: {answers:?}; chains by their ends 0, 1, 3, 4, 5, 7, 8: {rules:?}; kinds 0 to 3: {kinds:?}");
     assert!(answers.iter().chain(&rules).chain(&kinds).all(|times| *times > 0), "an answer, an end or a kind was never met");

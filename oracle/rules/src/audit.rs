@@ -21,14 +21,14 @@ pub struct Both<'a> {
 pub type Finding = [u32; 2];
 
 /// A live file of size above 0, as its record has it.
-struct File {
+pub(crate) struct File {
     inode: u32,
     block: u32,
     size: u64,
 }
 
 /// "The record: 4 spare bytes, the first block (u32, byte 28 of the entry), the size (u64, byte 32)". Those of size 0 name no chain and are left out.
-fn files_with_bytes(four: Four, tree: &Tree) -> Vec<File> {
+pub(crate) fn files_with_bytes(four: Four, tree: &Tree) -> Vec<File> {
     let width = Kind::File.width();
     let file = |inode: u32| {
         let entry = &four.file_table[inode as usize * width..][..width];
@@ -39,7 +39,7 @@ fn files_with_bytes(four: Four, tree: &Tree) -> Vec<File> {
 }
 
 /// The whole list: "1 to 3 in the order of inodes, and of one file in the order of kinds; then kind 4 by first block".
-fn findings(layout: &Layout, files: &[File], block_len: usize) -> Vec<Finding> {
+pub(crate) fn findings(layout: &Layout, files: &[File], block_len: usize) -> Vec<Finding> {
     let chains: BTreeMap<u32, usize> = layout.files.iter().map(|chain| (chain[0].start as u32, blocks(chain))).collect();
     let mut lowest: BTreeMap<u32, u32> = BTreeMap::new();
     for file in files {
@@ -65,7 +65,7 @@ fn findings(layout: &Layout, files: &[File], block_len: usize) -> Vec<Finding> {
 }
 
 /// "1, over everything that is lent; 2, over all sizes".
-fn sizes(both: Both) -> Outcome<()> {
+pub(crate) fn sizes(both: Both) -> Outcome<()> {
     let volume = blocks::Volume { data_len: both.data.len(), block_len: both.block_len };
     let each = [blocks::sizes(both.table, Some(volume)).map(|_| ()), tree::sizes(both.four)];
     refuse(each.contains(&Err(SizeMismatch)), SizeMismatch)?;

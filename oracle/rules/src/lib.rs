@@ -10,6 +10,7 @@ pub mod blocks;
 pub mod by_list;
 pub mod entries;
 pub mod fault;
+pub mod kiosk;
 pub mod layout;
 pub mod map;
 pub mod merge;

@@ -29,7 +29,7 @@ fn accepted(plan: &[u32], chain: &[Run], free: &[bool]) -> bool {
 }
 
 /// "With the targets cut out in place": of each run the part before them, then the part behind them.
-fn carved(chain: &[Run], first: usize, count: usize) -> Chain {
+pub(crate) fn carved(chain: &[Run], first: usize, count: usize) -> Chain {
     let parts = |run: &Run| {
         let (start, end) = (run.start, run.start + run.size);
         let before = (start, end.min(first.max(start)));

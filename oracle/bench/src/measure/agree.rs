@@ -2,10 +2,10 @@
 
 use super::sides::{library_merge, library_plan, peer_plan};
 use crate::peers::nodes::entries;
-use crate::peers::{audit, calls, careful, ends, fault, merge, salvage, sorted, walks};
+use crate::peers::{audit, calls, careful, ends, fault, kiosk, merge, salvage, sorted, walks};
 use compare::chance::Chance;
-use compare::{audited, trees, volumes};
-use port::{Asked, Audit, BlockCall, Blocks, Library, PlanCall, Port, Salvage, Tree, TreeCall};
+use compare::{audited, profiled, trees, volumes};
+use port::{Asked, Audit, BlockCall, Blocks, Kiosk, Library, PlanCall, Port, Salvage, Tree, TreeCall};
 use rules::put_word;
 
 /// A word that a table might wrongly hold.
@@ -84,6 +84,17 @@ fn salvages(chance: &mut Chance, table: &[u8]) {
         let mut theirs = ours.clone();
         let told = (salvage::salvage(&mut theirs), super::salvages::answered(&mut ours));
         assert!(told.0 == told.1 && theirs == ours, "the salvage of {ours:?}: {told:?}");
+    }
+}
+
+fn kiosks(lent: &Kiosk) {
+    let mut ours = lent.clone();
+    let answer = ours.library();
+    let tests: [(audit::BlockTest, audit::TreeTest); 2] = [(careful::blocks, careful::tree), (walks::blocks, sorted::tree)];
+    for (blocks, tree) in tests {
+        let mut theirs = lent.clone();
+        let told = kiosk::test(&mut theirs, blocks, tree);
+        assert!(told == (answer.number.into(), answer.fields[0]) && theirs == ours, "the kiosk's test: {told:?} beside {answer:?}");
     }
 }
 
@@ -172,6 +183,7 @@ pub fn run(quick: bool) {
         damage(&mut chance, &mut lent.table, 8);
         damage(&mut chance, &mut lent.file_table, 8);
         audits(&lent);
+        kiosks(&profiled::any_volume(&mut chance));
         let mut lent = trees::any_sound(&mut chance);
         let n = lent.work.len();
         if chance.one_in(2) {

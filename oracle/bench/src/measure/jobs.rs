@@ -1,7 +1,7 @@
 //! The jobs of the first table, each beside every peer that does the same.
 
 use super::handles::{self, OpenFile};
-use super::sides::{OnBlocks, OnBoth, OnTree};
+use super::sides::{OnBlocks, OnBoth, OnKiosk, OnTree};
 use super::whole::{with, Step};
 use super::{commas, race, Side, JOB};
 use crate::report::Report;
@@ -59,6 +59,13 @@ fn audits(report: &mut Report, n: usize, files: usize) {
             job(report, &what, OnBoth::new(both::volume(n, files, findings)).audits());
         }
     }
+}
+
+/// The largest volume of a kiosk, with as many files as it takes, each in one node with a free one behind it.
+fn kiosks(report: &mut Report) {
+    let (n, files) = (8_191, 64);
+    let what = format!("kiosk's test, {} files on {} blocks: in the profile", commas(files), commas(n));
+    job(report, &what, OnKiosk::new(both::kiosk(n, files)).tests());
 }
 
 /// A file of an eighth of the blocks, single and in any order, with half of the volume free: its plan found, checked and applied.
@@ -179,6 +186,7 @@ pub fn run(report: &mut Report, quick: bool) {
     merges(report, n);
     audits(report, n, if quick { 500 } else { 65_000 });
     super::salvages::run(report, n, if quick { 500 } else { 65_000 });
+    kiosks(report);
     plans(report, n);
     super::maps::run(report, n);
     long_file(report, n);

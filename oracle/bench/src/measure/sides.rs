@@ -2,9 +2,9 @@
 
 use super::{digest, digest_list, Answer, Side};
 use crate::peers::nodes::entries;
-use crate::peers::{audit, calls, careful, ends, fault, merge, plan, sorted, walks};
+use crate::peers::{audit, calls, careful, ends, fault, kiosk, merge, plan, sorted, walks};
 use original::Volume;
-use port::{Answered, Audit, BlockCall, Blocks, Inner, Library, Merge, Plan, PlanCall, Port, Tree, TreeCall};
+use port::{Answered, Audit, BlockCall, Blocks, Inner, Kiosk, Library, Merge, Plan, PlanCall, Port, Tree, TreeCall};
 use std::cell::RefCell;
 
 fn answer(answered: Answered) -> Answer {
@@ -325,6 +325,49 @@ impl OnBoth {
             self.side(name, move |s| {
                 let (number, count) = audit::audit(s, blocks, tree);
                 [number, count, 0]
+            })
+        };
+        vec![
+            peer("careful", careful::blocks, careful::tree),
+            peer("several walks", walks::blocks, sorted::tree),
+            peer("by ends", ends::blocks, careful::tree),
+            self.side("library", |s| answer(s.library())),
+        ]
+    }
+}
+
+/// Both layers, which the kiosk's test only reads.
+pub struct OnKiosk {
+    state: RefCell<Kiosk>,
+}
+
+impl OnKiosk {
+    pub fn new(lent: Kiosk) -> OnKiosk {
+        OnKiosk { state: RefCell::new(lent) }
+    }
+
+    fn side<'a>(&'a self, name: &'static str, run: impl Fn(&mut Kiosk) -> Answer + 'a) -> Side<'a> {
+        Side {
+            name,
+            spoil: Box::new(|| {}),
+            ready: Box::new(|| {}),
+            run: Box::new(move || run(&mut self.state.borrow_mut())),
+            left: Box::new(move || {
+                let s = self.state.borrow();
+                assert!(s.work.iter().all(|place| *place == 0), "{name}: the work list is not 0");
+                0
+            }),
+            times: 1,
+            apart: false,
+        }
+    }
+
+    /// The tests in plain Rust, behind each pair of tests, then the library's.
+    pub fn tests(&self) -> Vec<Side<'_>> {
+        let peer = |name, blocks: audit::BlockTest, tree: audit::TreeTest| {
+            self.side(name, move |s| {
+                let (number, rule) = kiosk::test(s, blocks, tree);
+                [number, rule, 0]
             })
         };
         vec![

@@ -9,7 +9,7 @@ use port::Audit;
 pub type BlockTest = fn(&[u8], &mut [u32]) -> Option<(usize, usize)>;
 pub type TreeTest = fn([&[u8]; 4], &mut [u32]) -> bool;
 
-fn word(bytes: &[u8], at: usize) -> u32 {
+pub(super) fn word(bytes: &[u8], at: usize) -> u32 {
     u32::from_le_bytes(bytes[at..at + 4].try_into().expect("four bytes"))
 }
 
@@ -41,7 +41,7 @@ pub fn audit(lent: &mut Audit, blocks: BlockTest, tree: TreeTest) -> (u64, u64) 
 }
 
 /// At each block where a file's chain starts, the chain's length.
-fn mark_chains(table: &[u8], chains: &mut [u32]) {
+pub(super) fn mark_chains(table: &[u8], chains: &mut [u32]) {
     let (entries, head) = (entries(table), head(table));
     let mut index = 1;
     while index as usize <= chains.len() {
@@ -59,7 +59,7 @@ fn mark_chains(table: &[u8], chains: &mut [u32]) {
     }
 }
 
-fn mark_removed(file_table: &[u8], gone: &mut [u32]) {
+pub(super) fn mark_removed(file_table: &[u8], gone: &mut [u32]) {
     let mut inode = word(file_table, 44);
     while inode != 0 {
         gone[inode as usize] = 1;
@@ -68,7 +68,7 @@ fn mark_removed(file_table: &[u8], gone: &mut [u32]) {
 }
 
 /// Kinds 1 to 3, in the order of inodes; a chain that is named gets its flag.
-fn audit_files(file_table: &[u8], block_len: u64, chains: &mut [u32], gone: &[u32], found: &mut Vec<u32>) {
+pub(super) fn audit_files(file_table: &[u8], block_len: u64, chains: &mut [u32], gone: &[u32], found: &mut Vec<u32>) {
     let count = word(file_table, 0) as usize;
     let live = file_table.as_chunks::<48>().0.iter().enumerate().take(count).skip(1);
     for (inode, entry) in live.filter(|(inode, _)| gone[*inode] == 0) {
@@ -91,7 +91,7 @@ fn audit_files(file_table: &[u8], block_len: u64, chains: &mut [u32], gone: &[u3
 }
 
 /// Kind 4, by first block.
-fn audit_blocks(chains: &[u32], found: &mut Vec<u32>) {
+pub(super) fn audit_blocks(chains: &[u32], found: &mut Vec<u32>) {
     for (first, mark) in chains.iter().enumerate() {
         if *mark != 0 && mark & FLAG == 0 {
             found.extend([4, first as u32]);

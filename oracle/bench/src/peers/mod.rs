@@ -7,6 +7,7 @@ pub mod careful;
 pub mod ends;
 pub mod fault;
 pub mod files;
+pub mod kiosk;
 pub mod lookup;
 pub mod merge;
 pub mod nodes;
