@@ -63,18 +63,43 @@ impl Change {
 
     /// Blocks for the bytes, filled.
     fn record(&mut self, bytes: &[u8]) -> Result<Record, Refusal> {
+        self.record_by(bytes, Volume::create)
+    }
+
+    /// The same in one node, as a kiosk has it.
+    pub fn kiosk_record(&mut self, bytes: &[u8]) -> Result<Record, Refusal> {
+        self.record_by(bytes, Volume::create_kiosk)
+    }
+
+    fn record_by(
+        &mut self,
+        bytes: &[u8],
+        create: fn(&mut Volume, usize) -> Result<usize, Refusal>,
+    ) -> Result<Record, Refusal> {
         if bytes.is_empty() {
             return Ok(Record::EMPTY);
         }
         let blocks = bytes.len().div_ceil(self.block_len());
-        let first_block = self.volume().create(blocks)?;
+        let first_block = create(self.volume(), blocks)?;
         self.fill(first_block, bytes)?;
         Ok(Record { first_block: first_block as u32, size: bytes.len() as u64 })
     }
 
     /// A new file, with what it carries beside its record.
-    pub fn add(&mut self, parent: u32, name: &Name, bytes: &[u8], mut carried: [u8; 20]) -> Result<(), Refusal> {
-        self.record(bytes)?.put(&mut carried);
+    pub fn add(&mut self, parent: u32, name: &Name, bytes: &[u8], carried: [u8; 20]) -> Result<(), Refusal> {
+        let record = self.record(bytes)?;
+        self.add_record(parent, name, record, carried)
+    }
+
+    /// A new file with this record.
+    pub fn add_record(
+        &mut self,
+        parent: u32,
+        name: &Name,
+        record: Record,
+        mut carried: [u8; 20],
+    ) -> Result<(), Refusal> {
+        record.put(&mut carried);
         let inode = self.volume().make_file(parent, name, &carried)?;
         self.volume().close_file(inode, Want::Writer)
     }

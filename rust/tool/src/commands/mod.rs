@@ -5,6 +5,7 @@ mod cat;
 mod check;
 mod cp;
 mod defrag;
+mod kiosk;
 mod lift;
 mod ls;
 mod map;
@@ -37,6 +38,7 @@ pub const ALL: &[Command] = &[
     merge::COMMAND,
     whole::COMMAND,
     defrag::COMMAND,
+    kiosk::COMMAND,
     new::COMMAND,
     map::COMMAND,
     status::COMMAND,

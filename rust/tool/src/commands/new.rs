@@ -6,7 +6,7 @@ use crate::show::taken::tell_change;
 use crate::words::{count, directories};
 use mukthiban::fat::BLOCK_LENS;
 use mukthiban::folder::{self, FolderError};
-use mukthiban::{Shape, Volume};
+use mukthiban::{kiosk, Shape, Volume};
 
 pub const COMMAND: Command = Command {
     name: "new",
@@ -18,6 +18,7 @@ pub const COMMAND: Command = Command {
         ("--block-len", "N", "bytes in a block, 512 or 4,096 (usually 512)"),
         ("--dirs", "N", "room for so many directories beside the root, 0 to 65,534 (usually 64)"),
         ("--files", "N", "room for so many files, 0 to 65,535 (usually 256)"),
+        ("--kiosk", "", "fit for a demo kiosk: 8,191 blocks at most; usually room for no directory and 64 files"),
         ("--buckets", "N", "hash buckets of each table, 1 to 65,536 (usually as many as suit the room for entries)"),
     ],
     short: "make an empty volume",
@@ -28,10 +29,12 @@ pub const COMMAND: Command = Command {
 fn run(call: &Call) -> Outcome<u8> {
     let path = call.volume(0);
     // entry 0 and the root are counted by the tables, not by people
-    let dirs = call.bounded("--dirs", Some(64), 0, 65_534)?;
-    let files = call.bounded("--files", Some(256), 0, 65_535)?;
+    let kiosk = call.has("--kiosk");
+    let (usual_dirs, usual_files) = if kiosk { (0, kiosk::MAX_FILES) } else { (64, 256) };
+    let dirs = call.bounded("--dirs", Some(usual_dirs), 0, 65_534)?;
+    let files = call.bounded("--files", Some(usual_files), 0, 65_535)?;
     let shape = Shape {
-        blocks: call.bounded("--blocks", None, 1, 1_000_000)?,
+        blocks: call.bounded("--blocks", None, 1, if kiosk { kiosk::MAX_BLOCKS } else { 1_000_000 })?,
         block_len: block_len(call)?,
         dir_max: dirs + 2,
         file_max: files + 1,

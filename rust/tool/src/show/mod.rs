@@ -9,6 +9,7 @@ pub mod lifted;
 pub mod listing;
 pub mod map;
 pub mod picture;
+pub mod profiled;
 pub mod salvaged;
 pub mod svg;
 pub mod taken;

@@ -48,7 +48,11 @@ fn change_json(what: &str, path: &str, more: &[(&str, String)]) -> String {
 }
 
 fn changes_json(call: &Call, command: &str, changes: impl Iterator<Item = String>) -> String {
-    let volume = call.volume(if command == "cp" { 2 } else { 0 });
+    let volume = call.volume(match command {
+        "cp" => 2,
+        "kiosk put" => 1,
+        _ => 0,
+    });
     json::answer(command, &[("volume", json::text(&volume.to_string_lossy())), ("changes", json::list(changes))])
 }
 

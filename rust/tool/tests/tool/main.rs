@@ -6,6 +6,7 @@ mod damage;
 mod edges;
 mod hints;
 mod json;
+mod kiosk;
 mod layers;
 mod manual;
 mod many;
