@@ -65,12 +65,13 @@ fn answers_have_the_shapes_of_the_paper() {
     answers.push(answer(&b, &["whole", "v", "one"]));
     answers.push(answer(&b, &["defrag", "v"]));
     answers.push(answer(&b, &["status", "v"]));
+    answers.push(answer(&b, &["kiosk", "check", "v"]));
     b.poke("v/file_table.bin", 2 * 48 + 28, &[7, 0, 0, 0]);
     answers.push(answer(&b, &["lift", "v", "out2"]));
     b.poke("v/fat.bin", 0, &[1]);
     answers.push(answer(&b, &["check", "v"]));
     let examples = examples();
-    assert_eq!(examples.len(), 12);
+    assert_eq!(examples.len(), 13);
     for answer in &answers {
         let of_error = |v: &Value| matches!(v, Value::Object(o) if o.iter().any(|(k, _)| k == "error"));
         let Value::Text(name) = command(answer) else { panic!("a text") };
