@@ -1,0 +1,4 @@
+pub mod Packed
+pub mod Put
+pub mod Run
+pub mod Opens
