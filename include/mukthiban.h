@@ -35,10 +35,17 @@
  *  dir_hash, dir_table, file_hash, file_table
  *               the four tables of the tree; directory entries are 40 bytes
  *               wide, file entries 48; a bucket is 4 bytes
- *  opens        open records, one place an inode, at least the room of that
- *               call's own table (directories or files). A record is a u32: the
+ *  opens        the open records of that call's own table (directories or
+ *               files), packed: two places a record, an inode and its record,
+ *               rising by inode, for opened inodes alone. A record is a u32: the
  *               top bit (MUKTHIBAN_HELD) says that a writer holds the inode,
- *               the low 31 bits count its readers. 0 is nothing open
+ *               the low 31 bits count its readers. The list may have any length;
+ *               its places past the records are never looked at, and stay
+ *  opened       the number of records in opens: 0 where nothing is open. Open,
+ *               close, make and delete change it. A list that claims more
+ *               records than half its places, names inode 0, does not rise or
+ *               holds a record of 0 is 2, with the sizes; one whose places are
+ *               all taken is 17 where an inode is to be listed that is not
  *  kind         of an open: MUKTHIBAN_READER or MUKTHIBAN_WRITER
  *  inode        1 is the root directory; file inode 1 is an ordinary file
  *  parent       the inode of a directory
@@ -229,23 +236,23 @@ mukthiban_found mukthiban_tree_lookup_file(const uint8_t *dir_hash, size_t dir_h
                                            uint32_t parent, const uint8_t name[16]);
 
 /* Makes a directory with those 4 carried bytes (its padding), held by its writer. opens: the directories'.
- * Answers 1, 2, 3, 9, 2 (name), 10 (parent), 11, 6. */
+ * Answers 1, 2, 3, 9, 2 (name), 10 (parent), 11, 6, 17 (no place for the new inode). */
 mukthiban_made mukthiban_tree_make_dir(uint8_t *dir_hash, size_t dir_hash_len,
                                        uint8_t *dir_table, size_t dir_table_len,
                                        const uint8_t *file_hash, size_t file_hash_len,
                                        const uint8_t *file_table, size_t file_table_len,
                                        uint32_t *work, size_t work_len,
-                                       uint32_t *opens, size_t opens_len,
+                                       uint32_t *opens, size_t opens_len, size_t *opened,
                                        uint32_t parent, const uint8_t name[16], const uint8_t carried[4]);
 
 /* Makes a file entry with those 20 carried bytes, held by its writer. opens: the files'.
- * Answers 1, 2, 3, 9, 2 (name), 10 (parent), 11, 6. */
+ * Answers 1, 2, 3, 9, 2 (name), 10 (parent), 11, 6, 17 (no place for the new inode). */
 mukthiban_made mukthiban_tree_make_file(const uint8_t *dir_hash, size_t dir_hash_len,
                                         uint8_t *dir_table, size_t dir_table_len,
                                         uint8_t *file_hash, size_t file_hash_len,
                                         uint8_t *file_table, size_t file_table_len,
                                         uint32_t *work, size_t work_len,
-                                        uint32_t *opens, size_t opens_len,
+                                        uint32_t *opens, size_t opens_len, size_t *opened,
                                         uint32_t parent, const uint8_t name[16], const uint8_t carried[20]);
 
 /* Gives a directory that a writer holds another parent and name (legal as for make; the name that it has is not judged);
@@ -256,7 +263,7 @@ mukthiban_plain mukthiban_tree_rename_dir(uint8_t *dir_hash, size_t dir_hash_len
                                           const uint8_t *file_hash, size_t file_hash_len,
                                           const uint8_t *file_table, size_t file_table_len,
                                           uint32_t *work, size_t work_len,
-                                          const uint32_t *opens, size_t opens_len,
+                                          const uint32_t *opens, size_t opens_len, const size_t *opened,
                                           uint32_t inode, uint32_t parent, const uint8_t name[16]);
 
 /* Gives a file that a writer holds another parent and name; inode, carried bytes and opens stay. opens: the files'.
@@ -266,7 +273,7 @@ mukthiban_plain mukthiban_tree_rename_file(const uint8_t *dir_hash, size_t dir_h
                                            uint8_t *file_hash, size_t file_hash_len,
                                            uint8_t *file_table, size_t file_table_len,
                                            uint32_t *work, size_t work_len,
-                                           const uint32_t *opens, size_t opens_len,
+                                           const uint32_t *opens, size_t opens_len, const size_t *opened,
                                            uint32_t inode, uint32_t parent, const uint8_t name[16]);
 
 /* Deletes a directory without children, held by its writer and no reader; nothing of it is open then. opens: the
@@ -277,7 +284,7 @@ mukthiban_plain mukthiban_tree_delete_dir(uint8_t *dir_hash, size_t dir_hash_len
                                           const uint8_t *file_hash, size_t file_hash_len,
                                           const uint8_t *file_table, size_t file_table_len,
                                           uint32_t *work, size_t work_len,
-                                          uint32_t *opens, size_t opens_len,
+                                          uint32_t *opens, size_t opens_len, size_t *opened,
                                           uint32_t inode);
 
 /* Deletes a file entry, held by its writer and no reader; nothing of it is open then. Its blocks are the caller's to
@@ -288,7 +295,7 @@ mukthiban_plain mukthiban_tree_delete_file(const uint8_t *dir_hash, size_t dir_h
                                            uint8_t *file_hash, size_t file_hash_len,
                                            uint8_t *file_table, size_t file_table_len,
                                            uint32_t *work, size_t work_len,
-                                           uint32_t *opens, size_t opens_len,
+                                           uint32_t *opens, size_t opens_len, size_t *opened,
                                            uint32_t inode);
 
 /* Writes the inodes of the directories in directory inode to list, in list order. Answers 1, 2, 3, 9, 10, 8. */
@@ -362,7 +369,7 @@ mukthiban_plain mukthiban_tree_open_dir(const uint8_t *dir_hash, size_t dir_hash
                                         const uint8_t *file_hash, size_t file_hash_len,
                                         const uint8_t *file_table, size_t file_table_len,
                                         uint32_t *work, size_t work_len,
-                                        uint32_t *opens, size_t opens_len,
+                                        uint32_t *opens, size_t opens_len, size_t *opened,
                                         uint32_t inode, uint32_t kind);
 
 /* Opens a file once more, for a reader or for the writer. Another kind is 2, with the sizes. opens: the files'.
@@ -372,7 +379,7 @@ mukthiban_plain mukthiban_tree_open_file(const uint8_t *dir_hash, size_t dir_has
                                          const uint8_t *file_hash, size_t file_hash_len,
                                          const uint8_t *file_table, size_t file_table_len,
                                          uint32_t *work, size_t work_len,
-                                         uint32_t *opens, size_t opens_len,
+                                         uint32_t *opens, size_t opens_len, size_t *opened,
                                          uint32_t inode, uint32_t kind);
 
 /* Gives back an open of a directory, a reader's or the writer's. Another kind is 2, with the sizes. opens: the directories'.
@@ -382,7 +389,7 @@ mukthiban_plain mukthiban_tree_close_dir(const uint8_t *dir_hash, size_t dir_has
                                          const uint8_t *file_hash, size_t file_hash_len,
                                          const uint8_t *file_table, size_t file_table_len,
                                          uint32_t *work, size_t work_len,
-                                         uint32_t *opens, size_t opens_len,
+                                         uint32_t *opens, size_t opens_len, size_t *opened,
                                          uint32_t inode, uint32_t kind);
 
 /* Gives back an open of a file, a reader's or the writer's. Another kind is 2, with the sizes. opens: the files'.
@@ -392,7 +399,7 @@ mukthiban_plain mukthiban_tree_close_file(const uint8_t *dir_hash, size_t dir_ha
                                           const uint8_t *file_hash, size_t file_hash_len,
                                           const uint8_t *file_table, size_t file_table_len,
                                           uint32_t *work, size_t work_len,
-                                          uint32_t *opens, size_t opens_len,
+                                          uint32_t *opens, size_t opens_len, size_t *opened,
                                           uint32_t inode, uint32_t kind);
 
 /* ---- Both layers ---- */

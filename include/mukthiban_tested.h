@@ -12,8 +12,9 @@
  *    table, and n = table_len / 8 - 1.
  *  - Data that fit: block_len is from 1 to 65,536 and data_len = n * block_len.
  *  - Sound tables: mukthiban_tree_test answered MUKTHIBAN_DONE on the four.
- *  - Open records for every directory or file: opens_len is at least the room
- *    of that table (its length divided by 40 or 48).
+ *  - Open records in order: *opened is at most opens_len / 2, and the first
+ *    *opened records of opens rise by inode, none of inode 0 and none of 0.
+ *    None open is *opened = 0. These calls keep them so.
  * Whatever these calls answer, sound tables stay sound: so after one test any
  * number of them may follow, as long as nothing else writes to the tables.
  *
@@ -217,56 +218,56 @@ mukthiban_found mukthiban_tested_tree_lookup_file(const uint8_t *dir_hash, size_
                                                   uint32_t parent, const uint8_t name[16]);
 
 /* Makes a directory, held by its writer. Answers 2 (name), 10 (parent), 11, 6.
- * Requires: sound tables, open records for every directory. */
+ * Requires: sound tables, open records in order. */
 mukthiban_made mukthiban_tested_tree_make_dir(uint8_t *dir_hash, size_t dir_hash_len,
                                               uint8_t *dir_table, size_t dir_table_len,
                                               const uint8_t *file_hash, size_t file_hash_len,
                                               const uint8_t *file_table, size_t file_table_len,
-                                              uint32_t *opens, size_t opens_len, uint32_t parent,
+                                              uint32_t *opens, size_t opens_len, size_t *opened, uint32_t parent,
                                               const uint8_t name[16], const uint8_t carried[4]);
 
 /* Makes a file entry, held by its writer. Answers 2 (name), 10 (parent), 11, 6.
- * Requires: sound tables, open records for every file. */
+ * Requires: sound tables, open records in order. */
 mukthiban_made mukthiban_tested_tree_make_file(const uint8_t *dir_hash, size_t dir_hash_len,
                                                uint8_t *dir_table, size_t dir_table_len,
                                                uint8_t *file_hash, size_t file_hash_len,
                                                uint8_t *file_table, size_t file_table_len,
-                                               uint32_t *opens, size_t opens_len, uint32_t parent,
+                                               uint32_t *opens, size_t opens_len, size_t *opened, uint32_t parent,
                                                const uint8_t name[16], const uint8_t carried[20]);
 
 /* Gives a directory that a writer holds another parent and name. Answers 10 (subject), 16, 13, 2 (name), 10 (parent), 15, 11.
- * Requires: sound tables, open records for every directory. */
+ * Requires: sound tables, open records in order. */
 mukthiban_plain mukthiban_tested_tree_rename_dir(uint8_t *dir_hash, size_t dir_hash_len,
                                                  uint8_t *dir_table, size_t dir_table_len,
                                                  const uint8_t *file_hash, size_t file_hash_len,
                                                  const uint8_t *file_table, size_t file_table_len,
-                                                 const uint32_t *opens, size_t opens_len, uint32_t inode,
+                                                 const uint32_t *opens, size_t opens_len, const size_t *opened, uint32_t inode,
                                                  uint32_t parent, const uint8_t name[16]);
 
 /* Gives a file that a writer holds another parent and name. Answers 10 (subject), 16, 2 (name), 10 (parent), 11.
- * Requires: sound tables, open records for every file. */
+ * Requires: sound tables, open records in order. */
 mukthiban_plain mukthiban_tested_tree_rename_file(const uint8_t *dir_hash, size_t dir_hash_len,
                                                   uint8_t *dir_table, size_t dir_table_len,
                                                   uint8_t *file_hash, size_t file_hash_len,
                                                   uint8_t *file_table, size_t file_table_len,
-                                                  const uint32_t *opens, size_t opens_len, uint32_t inode,
+                                                  const uint32_t *opens, size_t opens_len, const size_t *opened, uint32_t inode,
                                                   uint32_t parent, const uint8_t name[16]);
 
 /* Deletes a directory without children, held by its writer and no reader. Answers 10, 16, 12, 13, 14.
- * Requires: sound tables, open records for every directory. */
+ * Requires: sound tables, open records in order. */
 mukthiban_plain mukthiban_tested_tree_delete_dir(uint8_t *dir_hash, size_t dir_hash_len,
                                                  uint8_t *dir_table, size_t dir_table_len,
                                                  const uint8_t *file_hash, size_t file_hash_len,
                                                  const uint8_t *file_table, size_t file_table_len,
-                                                 uint32_t *opens, size_t opens_len, uint32_t inode);
+                                                 uint32_t *opens, size_t opens_len, size_t *opened, uint32_t inode);
 
 /* Deletes a file entry, held by its writer and no reader. Answers 10, 16, 12.
- * Requires: sound tables, open records for every file. */
+ * Requires: sound tables, open records in order. */
 mukthiban_plain mukthiban_tested_tree_delete_file(const uint8_t *dir_hash, size_t dir_hash_len,
                                                   uint8_t *dir_table, size_t dir_table_len,
                                                   uint8_t *file_hash, size_t file_hash_len,
                                                   uint8_t *file_table, size_t file_table_len,
-                                                  uint32_t *opens, size_t opens_len, uint32_t inode);
+                                                  uint32_t *opens, size_t opens_len, size_t *opened, uint32_t inode);
 
 /* Writes the inodes of the directories in a directory to list. Answers 10, 8.
  * Requires: sound tables. */
@@ -334,39 +335,39 @@ mukthiban_plain mukthiban_tested_tree_set_carried_file(const uint8_t *dir_hash, 
                                                        uint32_t inode, const uint8_t carried[20]);
 
 /* Opens a directory once more, for a reader or for the writer. Answers 10, 17, 12.
- * Requires: sound tables, open records for every directory, and MUKTHIBAN_READER or MUKTHIBAN_WRITER as the kind. */
+ * Requires: sound tables, open records in order, and MUKTHIBAN_READER or MUKTHIBAN_WRITER as the kind. */
 mukthiban_plain mukthiban_tested_tree_open_dir(const uint8_t *dir_hash, size_t dir_hash_len,
                                                const uint8_t *dir_table, size_t dir_table_len,
                                                const uint8_t *file_hash, size_t file_hash_len,
                                                const uint8_t *file_table, size_t file_table_len,
-                                               uint32_t *opens, size_t opens_len, uint32_t inode,
+                                               uint32_t *opens, size_t opens_len, size_t *opened, uint32_t inode,
                                                uint32_t kind);
 
 /* Opens a file once more, for a reader or for the writer. Answers 10, 17, 12.
- * Requires: sound tables, open records for every file, and MUKTHIBAN_READER or MUKTHIBAN_WRITER as the kind. */
+ * Requires: sound tables, open records in order, and MUKTHIBAN_READER or MUKTHIBAN_WRITER as the kind. */
 mukthiban_plain mukthiban_tested_tree_open_file(const uint8_t *dir_hash, size_t dir_hash_len,
                                                 const uint8_t *dir_table, size_t dir_table_len,
                                                 const uint8_t *file_hash, size_t file_hash_len,
                                                 const uint8_t *file_table, size_t file_table_len,
-                                                uint32_t *opens, size_t opens_len, uint32_t inode,
+                                                uint32_t *opens, size_t opens_len, size_t *opened, uint32_t inode,
                                                 uint32_t kind);
 
 /* Gives back an open of a directory, a reader's or the writer's. Answers 10, 16.
- * Requires: sound tables, open records for every directory, and MUKTHIBAN_READER or MUKTHIBAN_WRITER as the kind. */
+ * Requires: sound tables, open records in order, and MUKTHIBAN_READER or MUKTHIBAN_WRITER as the kind. */
 mukthiban_plain mukthiban_tested_tree_close_dir(const uint8_t *dir_hash, size_t dir_hash_len,
                                                 const uint8_t *dir_table, size_t dir_table_len,
                                                 const uint8_t *file_hash, size_t file_hash_len,
                                                 const uint8_t *file_table, size_t file_table_len,
-                                                uint32_t *opens, size_t opens_len, uint32_t inode,
+                                                uint32_t *opens, size_t opens_len, size_t *opened, uint32_t inode,
                                                 uint32_t kind);
 
 /* Gives back an open of a file, a reader's or the writer's. Answers 10, 16.
- * Requires: sound tables, open records for every file, and MUKTHIBAN_READER or MUKTHIBAN_WRITER as the kind. */
+ * Requires: sound tables, open records in order, and MUKTHIBAN_READER or MUKTHIBAN_WRITER as the kind. */
 mukthiban_plain mukthiban_tested_tree_close_file(const uint8_t *dir_hash, size_t dir_hash_len,
                                                  const uint8_t *dir_table, size_t dir_table_len,
                                                  const uint8_t *file_hash, size_t file_hash_len,
                                                  const uint8_t *file_table, size_t file_table_len,
-                                                 uint32_t *opens, size_t opens_len, uint32_t inode,
+                                                 uint32_t *opens, size_t opens_len, size_t *opened, uint32_t inode,
                                                  uint32_t kind);
 
 #ifdef __cplusplus

@@ -46,7 +46,7 @@ enum {
     MUKTHIBAN_NOT_EMPTY = 14,     /* delete of a directory with children */
     MUKTHIBAN_INTO_ITSELF = 15,   /* a directory moved to itself or below itself */
     MUKTHIBAN_NOT_OPEN = 16,      /* close of what is not held; delete or rename without the writer */
-    MUKTHIBAN_TOO_MANY_OPENS = 17, /* open at 65,535 opens or more */
+    MUKTHIBAN_TOO_MANY_OPENS = 17, /* open at 65,535 opens or more; open or make where the list of open records is full */
     MUKTHIBAN_READ_ONLY_VOLUME = 20 /* a change with a block length other than 512 and 4,096 */
 };
 

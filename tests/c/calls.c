@@ -20,14 +20,15 @@ enum { LENGTH = 512 };
 static uint8_t table[8 * 5], data[LENGTH * 4];
 static uint8_t dir_hash[4 * 5], dir_table[40 * 4], file_hash[4 * 5], file_table[48 * 4];
 static uint32_t work[8], dir_opens[4], file_opens[4], list[4];
+static size_t dirs_opened, files_opened;
 
 #define FAT table, sizeof table
 #define DATA data, sizeof data, (size_t)LENGTH
 #define FOUR \
     dir_hash, sizeof dir_hash, dir_table, sizeof dir_table, file_hash, sizeof file_hash, file_table, sizeof file_table
 #define WORK work, (size_t)8
-#define DIR_OPENS dir_opens, (size_t)4
-#define FILE_OPENS file_opens, (size_t)4
+#define DIR_OPENS dir_opens, (size_t)4, &dirs_opened
+#define FILE_OPENS file_opens, (size_t)4, &files_opened
 #define LIST list, (size_t)4
 
 static const uint8_t zero_name[16];
@@ -256,42 +257,68 @@ static void broken(void)
     EXPECT(mukthiban_fat_test(table, 16, WORK).rule == MUKTHIBAN_NO_SECOND);
 }
 
+/* A packed list that is not in order is refused with the sizes, and a full one by open; directory 1 is there, and nothing is open. */
+static void packed(void)
+{
+    size_t opened = 2;
+    uint32_t places[3] = {1, 1, 9};
+
+    work[0] = 7;
+    EXPECT(mukthiban_tree_open_dir(FOUR, WORK, places, 3, &opened, 1, 0).answer == MUKTHIBAN_INVALID_VALUE);
+    opened = 1;
+    places[0] = 0;
+    EXPECT(mukthiban_tree_open_dir(FOUR, WORK, places, 3, &opened, 1, 0).answer == MUKTHIBAN_INVALID_VALUE);
+    places[0] = 1;
+    places[1] = 0;
+    EXPECT(mukthiban_tree_open_dir(FOUR, WORK, places, 3, &opened, 1, 0).answer == MUKTHIBAN_INVALID_VALUE);
+    EXPECT(work[0] == 7 && opened == 1 && places[2] == 9);
+    places[0] = 2;
+    places[1] = 5;
+    EXPECT(mukthiban_tree_open_dir(FOUR, WORK, places, 3, &opened, 1, 0).answer == MUKTHIBAN_TOO_MANY_OPENS);
+    places[0] = 1;
+    EXPECT(mukthiban_tree_open_dir(FOUR, WORK, places, 3, &opened, 1, 0).answer == MUKTHIBAN_DONE);
+    EXPECT(opened == 1 && places[0] == 1 && places[1] == 6 && places[2] == 9);
+}
+
 /* Readers and one writer, of directory 2 and file 1, which were made and have nothing else open. */
 static void opened(void)
 {
     EXPECT(mukthiban_tree_open_dir(FOUR, WORK, DIR_OPENS, 2, MUKTHIBAN_READER).answer == MUKTHIBAN_DONE);
-    EXPECT(dir_opens[2] == MUKTHIBAN_HELD + 1);
+    EXPECT(dirs_opened == 1 && dir_opens[0] == 2 && dir_opens[1] == MUKTHIBAN_HELD + 1);
     EXPECT(mukthiban_tree_open_dir(FOUR, WORK, DIR_OPENS, 2, MUKTHIBAN_WRITER).answer == MUKTHIBAN_BUSY);
     EXPECT(mukthiban_tree_rename_dir(FOUR, WORK, DIR_OPENS, 2, 1, a).answer == MUKTHIBAN_DONE);
     EXPECT(mukthiban_tree_delete_dir(FOUR, WORK, DIR_OPENS, 2).answer == MUKTHIBAN_BUSY);
     EXPECT(mukthiban_tree_close_dir(FOUR, WORK, DIR_OPENS, 2, MUKTHIBAN_WRITER).answer == MUKTHIBAN_DONE);
-    EXPECT(dir_opens[2] == 1);
+    EXPECT(dir_opens[0] == 2 && dir_opens[1] == 1);
     EXPECT(mukthiban_tree_delete_dir(FOUR, WORK, DIR_OPENS, 2).answer == MUKTHIBAN_NOT_OPEN);
     EXPECT(mukthiban_tree_rename_dir(FOUR, WORK, DIR_OPENS, 2, 1, b).answer == MUKTHIBAN_NOT_OPEN);
     EXPECT(mukthiban_tree_open_dir(FOUR, WORK, DIR_OPENS, 2, MUKTHIBAN_WRITER).answer == MUKTHIBAN_DONE);
     EXPECT(mukthiban_tree_close_dir(FOUR, WORK, DIR_OPENS, 2, MUKTHIBAN_READER).answer == MUKTHIBAN_DONE);
-    EXPECT(mukthiban_tree_delete_dir(FOUR, WORK, DIR_OPENS, 2).answer == MUKTHIBAN_DONE && dir_opens[2] == 0);
+    EXPECT(mukthiban_tree_delete_dir(FOUR, WORK, DIR_OPENS, 2).answer == MUKTHIBAN_DONE && dirs_opened == 0);
     EXPECT(mukthiban_tree_delete_dir(FOUR, WORK, DIR_OPENS, 1).answer == MUKTHIBAN_NOT_OPEN);
 
     EXPECT(mukthiban_tree_close_file(FOUR, WORK, FILE_OPENS, 1, MUKTHIBAN_READER).answer == MUKTHIBAN_NOT_OPEN);
     EXPECT(mukthiban_tree_close_file(FOUR, WORK, FILE_OPENS, 1, MUKTHIBAN_WRITER).answer == MUKTHIBAN_DONE);
-    EXPECT(file_opens[1] == 0);
+    EXPECT(files_opened == 0);
     EXPECT(mukthiban_tree_close_file(FOUR, WORK, FILE_OPENS, 1, MUKTHIBAN_WRITER).answer == MUKTHIBAN_NOT_OPEN);
+    file_opens[0] = 1;
     file_opens[1] = MUKTHIBAN_HELD + MUKTHIBAN_MAX_OPENS - 1;
+    files_opened = 1;
     EXPECT(mukthiban_tree_open_file(FOUR, WORK, FILE_OPENS, 1, MUKTHIBAN_READER).answer == MUKTHIBAN_TOO_MANY_OPENS);
     EXPECT(mukthiban_tree_open_file(FOUR, WORK, FILE_OPENS, 1, MUKTHIBAN_WRITER).answer == MUKTHIBAN_TOO_MANY_OPENS);
-    file_opens[1] = 0;
+    files_opened = 0;
     work[0] = 7;
     EXPECT(mukthiban_tree_open_file(FOUR, WORK, FILE_OPENS, 1, 2).answer == MUKTHIBAN_INVALID_VALUE);
     EXPECT(mukthiban_tree_close_file(FOUR, WORK, FILE_OPENS, 1, 2).answer == MUKTHIBAN_INVALID_VALUE);
-    EXPECT(mukthiban_tree_open_dir(FOUR, WORK, dir_opens, 0, 1, 2).answer == MUKTHIBAN_INVALID_VALUE);
+    EXPECT(mukthiban_tree_open_dir(FOUR, WORK, dir_opens, 0, &dirs_opened, 1, 2).answer == MUKTHIBAN_INVALID_VALUE);
     EXPECT(mukthiban_tree_close_dir(dir_hash, 3, dir_table, sizeof dir_table, file_hash, sizeof file_hash, file_table,
                                     sizeof file_table, WORK, DIR_OPENS, 1, 2)
                .answer == MUKTHIBAN_SIZE_MISMATCH);
-    EXPECT(work[0] == 7 && file_opens[1] == 0);
+    EXPECT(work[0] == 7 && files_opened == 0);
     EXPECT(mukthiban_tree_open_file(FOUR, WORK, FILE_OPENS, 1, MUKTHIBAN_WRITER).answer == MUKTHIBAN_DONE);
-    EXPECT(file_opens[1] == MUKTHIBAN_HELD);
-    EXPECT(mukthiban_tree_delete_file(FOUR, WORK, FILE_OPENS, 1).answer == MUKTHIBAN_DONE && file_opens[1] == 0);
+    EXPECT(files_opened == 1 && file_opens[0] == 1 && file_opens[1] == MUKTHIBAN_HELD);
+    EXPECT(mukthiban_tree_delete_file(FOUR, WORK, FILE_OPENS, 1).answer == MUKTHIBAN_DONE && files_opened == 0);
+    packed();
 }
 
 static void tree(void)
@@ -309,9 +336,9 @@ static void tree(void)
     EXPECT(mukthiban_tree_test(FOUR, WORK).answer == MUKTHIBAN_DONE);
 
     made = mukthiban_tree_make_dir(FOUR, WORK, DIR_OPENS, 1, a, four);
-    EXPECT(made.answer == MUKTHIBAN_DONE && made.inode == 2 && dir_opens[2] == MUKTHIBAN_HELD);
+    EXPECT(made.answer == MUKTHIBAN_DONE && made.inode == 2 && dirs_opened == 1 && dir_opens[0] == 2 && dir_opens[1] == MUKTHIBAN_HELD);
     made = mukthiban_tree_make_file(FOUR, WORK, FILE_OPENS, 2, b, twenty);
-    EXPECT(made.answer == MUKTHIBAN_DONE && made.inode == 1 && file_opens[1] == MUKTHIBAN_HELD);
+    EXPECT(made.answer == MUKTHIBAN_DONE && made.inode == 1 && files_opened == 1 && file_opens[0] == 1 && file_opens[1] == MUKTHIBAN_HELD);
     EXPECT(mukthiban_tree_make_file(FOUR, WORK, FILE_OPENS, 2, b, twenty).answer == MUKTHIBAN_ALREADY_EXIST);
     EXPECT(mukthiban_tree_make_file(FOUR, WORK, FILE_OPENS, 3, b, twenty).answer == MUKTHIBAN_NOT_FOUND);
 
@@ -376,14 +403,15 @@ static uint32_t places[PLACES], found[10];
 
 static void make(uint8_t letter, uint8_t block, uint32_t size)
 {
-    uint32_t opens[5] = {0};
+    uint32_t opens[2] = {0};
+    size_t opened = 0;
     uint8_t name[16] = {0}, carried[20] = {0};
 
     name[0] = letter;
     carried[4] = block;
     carried[8] = (uint8_t)size;
     carried[9] = (uint8_t)(size >> 8);
-    EXPECT(mukthiban_tree_make_file(TABLES, places, PLACES, opens, 5, 1, name, carried).answer == MUKTHIBAN_DONE);
+    EXPECT(mukthiban_tree_make_file(TABLES, places, PLACES, opens, 2, &opened, 1, name, carried).answer == MUKTHIBAN_DONE);
 }
 
 static void disagreeing(void)

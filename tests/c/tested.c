@@ -21,7 +21,8 @@ enum { BLOCKS = 6, LENGTH = 512, ENTRIES = 4, BUCKETS = 3 };
 typedef struct {
     uint8_t table[8 * (BLOCKS + 1)], data[BLOCKS * LENGTH];
     uint8_t dir_hash[4 * BUCKETS], dir_table[40 * ENTRIES], file_hash[4 * BUCKETS], file_table[48 * ENTRIES];
-    uint32_t dir_opens[ENTRIES], file_opens[ENTRIES], list[BLOCKS];
+    uint32_t dir_opens[2 * ENTRIES], file_opens[2 * ENTRIES], list[BLOCKS];
+    size_t dirs_opened, files_opened;
     uint8_t buf[2 * LENGTH], four[4], twenty[20];
 } volume;
 
@@ -35,8 +36,8 @@ static uint32_t work[2 * ENTRIES];
     (v).dir_hash, sizeof (v).dir_hash, (v).dir_table, sizeof (v).dir_table, (v).file_hash, sizeof (v).file_hash, \
         (v).file_table, sizeof (v).file_table
 #define WORK work, (size_t)(2 * ENTRIES)
-#define DIR_OPENS(v) (v).dir_opens, (size_t)ENTRIES
-#define FILE_OPENS(v) (v).file_opens, (size_t)ENTRIES
+#define DIR_OPENS(v) (v).dir_opens, (size_t)(2 * ENTRIES), &(v).dirs_opened
+#define FILE_OPENS(v) (v).file_opens, (size_t)(2 * ENTRIES), &(v).files_opened
 #define LIST(v) (v).list, (size_t)BLOCKS
 
 static const uint8_t one[16] = "one", two[16] = "two", three[16] = "three";

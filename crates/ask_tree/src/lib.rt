@@ -43,7 +43,7 @@ fn changes(
     carried: [u8; 20],
 ) -> Said {
     match kind {
-        Kind::Directory => change::dirs(
+        Kind::Directory => change::on_dirs(
             which,
             dh,
             d,
@@ -56,7 +56,7 @@ fn changes(
             name,
             carried,
         ),
-        Kind::File => change::files(
+        Kind::File => change::on_files(
             which,
             dh,
             d,
@@ -115,7 +115,7 @@ fn call(
     }
 }
 
-// How much of each buffer a call is lent: bytes of the tables, places of the lists.
+// How much of each buffer a call is lent: bytes of the tables, places of the lists. In the last place of a list of open records is the number of records.
 pub struct Lent {
     pub dir_hash: usize,
     pub dir_table: usize,

@@ -267,21 +267,6 @@ pub export-tree-set-carried : (kind : Kind) (s : Tables) (work : List ℕ) (x : 
 export-tree-set-carried kind s work x carried =
     one-beside (λ (a : Answer) (x : Tables). tree.carryGives a x) (λ g. g .answer) (λ g. g .tables) (promised.SetCarriedPromise kind s work x carried) (λ a x. refl) (λ a x. refl) (tree-one.one-set-carried kind s work x carried)
 
-pub export-tree-make : (kind : Kind) (s : Tables) (opens work : List ℕ) (p : ℕ) (name carried : List ℕ)
-    → OneExport {X = (ℕ × (Tables × List ℕ)) × List ℕ} (λ a x. beside (tree.makeGives a (x .0 .0) (x .0 .1 .0) (x .0 .1 .1)) (x .1)) (promised.MakePromise kind s opens work p name carried)
-export-tree-make kind s opens work p name carried =
-    one-beside (λ (a : Answer) (x : ℕ × (Tables × List ℕ)). tree.makeGives a (x .0) (x .1 .0) (x .1 .1)) (λ g. g .answer) (λ g. (g .inode, (g .tables, g .opens))) (promised.MakePromise kind s opens work p name carried) (λ a x. refl) (λ a x. refl) (tree-one.one-make kind s work opens p name carried)
-
-pub export-tree-rename : (kind : Kind) (s : Tables) (opens work : List ℕ) (x p : ℕ) (name : List ℕ)
-    → OneExport {X = (Tables × List ℕ) × List ℕ} (λ a x. beside (tree.changeGives a (x .0 .0) (x .0 .1)) (x .1)) (promised.RenamePromise kind s opens work x p name)
-export-tree-rename kind s opens work x p name =
-    one-beside (λ (a : Answer) (x : Tables × List ℕ). tree.changeGives a (x .0) (x .1)) (λ g. g .answer) (λ g. (g .tables, g .opens)) (promised.RenamePromise kind s opens work x p name) (λ a x. refl) (λ a x. refl) (tree-one.one-rename kind s work opens x p name)
-
-pub export-tree-delete : (kind : Kind) (s : Tables) (opens work : List ℕ) (x : ℕ)
-    → OneExport {X = (Tables × List ℕ) × List ℕ} (λ a x. beside (tree.changeGives a (x .0 .0) (x .0 .1)) (x .1)) (promised.DeletePromise kind s opens work x)
-export-tree-delete kind s opens work x =
-    one-beside (λ (a : Answer) (x : Tables × List ℕ). tree.changeGives a (x .0) (x .1)) (λ g. g .answer) (λ g. (g .tables, g .opens)) (promised.DeletePromise kind s opens work x) (λ a x. refl) (λ a x. refl) (tree-one.one-delete kind s work opens x)
-
 -- ---- the name, whose field is the place in the table that the kind selects
 
 pub one-name : (s : Tables) (work : List ℕ) (kind x : ℕ) → One (NamePromise s work kind x)

@@ -8,7 +8,9 @@ use Rattle.order.proofs.One.{one}
 use Rattle.fat_node.specs.Entry.{Bytes}
 use Rattle.fat_promises.specs.Calls as fat
 use Rattle.tree_sound.specs.Tables.{Tables}
+use Rattle.tree_packed.specs.Opens.{Opens}
 use Rattle.tree_promises.specs.Calls as tree
+use Rattle.tree_promises.specs.inner.Opening.{OpeningIn, openingIn}
 use Rattle.mukthiban.specs.Name.{Naming, namedGives}
 use Rattle.mukthiban.proofs.One.{OneExport, one-export, OneLocated, one-located}
 
@@ -48,17 +50,9 @@ inner-carried rs d = one-export (λ (a : Answer) (x : List ℕ). tree.shownGives
 pub inner-set-carried : (rs : List (Row tree.Carry)) (d : tree.Carry) → OneExport {X = Tables} (λ a x. tree.carryGives a x) (First rs d)
 inner-set-carried rs d = one-export (λ (a : Answer) (x : Tables). tree.carryGives a x) (λ g. g .answer) (λ g. g .tables) (First rs d) (λ a x. refl) (λ a x. refl) (one rs d)
 
--- make
-pub inner-make : (rs : List (Row tree.Make)) (d : tree.Make) → OneExport {X = ℕ × (Tables × List ℕ)} (λ a x. tree.makeGives a (x .0) (x .1 .0) (x .1 .1)) (First rs d)
-inner-make rs d = one-export (λ (a : Answer) (x : ℕ × (Tables × List ℕ)). tree.makeGives a (x .0) (x .1 .0) (x .1 .1)) (λ g. g .answer) (λ g. (g .inode, (g .tables, g .opens))) (First rs d) (λ a x. refl) (λ a x. refl) (one rs d)
-
--- rename and delete
-pub inner-tree-change : (rs : List (Row tree.Change)) (d : tree.Change) → OneExport {X = Tables × List ℕ} (λ a x. tree.changeGives a (x .0) (x .1)) (First rs d)
-inner-tree-change rs d = one-export (λ (a : Answer) (x : Tables × List ℕ). tree.changeGives a (x .0) (x .1)) (λ g. g .answer) (λ g. (g .tables, g .opens)) (First rs d) (λ a x. refl) (λ a x. refl) (one rs d)
-
--- open and close
-pub inner-opens : (rs : List (Row tree.Opening)) (d : tree.Opening) → OneExport {X = List ℕ} (λ a x. tree.openingGives a x) (First rs d)
-inner-opens rs d = one-export (λ (a : Answer) (x : List ℕ). tree.openingGives a x) (λ g. g .answer) (λ g. g .opens) (First rs d) (λ a x. refl) (λ a x. refl) (one rs d)
+-- open and close of one table by itself; make, rename and delete are in OneOpens.antt
+pub inner-opens : (rs : List (Row OpeningIn)) (d : OpeningIn) → OneExport {X = Opens} (λ a x. openingIn a x) (First rs d)
+inner-opens rs d = one-export (λ (a : Answer) (x : Opens). openingIn a x) (λ g. g .answer) (λ g. g .opens) (First rs d) (λ a x. refl) (λ a x. refl) (one rs d)
 
 -- name
 pub inner-name : (rs : List (Row Naming)) (d : Naming) → OneExport {X = ℕ} (λ a x. namedGives a x) (First rs d)

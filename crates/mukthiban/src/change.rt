@@ -1,8 +1,9 @@
 // The calls that change the entry tables: make, rename and delete.
 ghost use Rattle.order.specs.Beside.{beside};
 ghost use Rattle.tree_sound.specs.Tables.{tables};
-ghost use Rattle.tree_promises.specs.Calls.{makeGives, changeGives};
-ghost use Rattle.tree_promises.specs.Public.{MakeDirPromise, MakeFilePromise, RenameDirPromise, RenameFilePromise, DeleteDirPromise, DeleteFilePromise};
+ghost use Rattle.tree_packed.specs.Opens as packed;
+ghost use Rattle.tree_promises.specs.declared.Kind.the-variants.{Directory, File};
+ghost use Rattle.tree_promises.specs.Packed.{gives, PackedMake, PackedRename, PackedDelete};
 ghost use Rattle.mukthiban.specs.Export.{Exported};
 use crate::Made;
 use crate::Plain;
@@ -15,11 +16,12 @@ pub extern "C" fn mukthiban_tree_make_dir(
     file_table: &[u8],
     work: &mut [u32],
     opens: &mut [u32],
+    opened: &mut usize,
     parent: u32,
     name: &[u8; 16],
     carried: &[u8; 4],
 ) -> Made
-    ensures { λ p. ⌜ Exported (p .answer) (λ a. MakeDirPromise (tables (now («dir_hash» .entry)) (now («dir_table» .entry)) (now («file_hash» .entry)) (now («file_table» .entry))) (now (opens .entry)) (now (work .entry)) parent (now (name .entry)) (now (carried .entry)) (beside (makeGives a (p .inode) (tables (now («dir_hash» .exit)) (now («dir_table» .exit)) (now («file_hash» .entry)) (now («file_table» .entry))) (now (opens .exit))) (now (work .exit)))) ⌝ }
+    ensures { λ p. ⌜ Exported (p .answer) (λ a. PackedMake Directory (tables (now («dir_hash» .entry)) (now («dir_table» .entry)) (now («file_hash» .entry)) (now («file_table» .entry))) (packed.opens (now (opened .entry)) (now (opens .entry))) (now (work .entry)) parent (now (name .entry)) (now (carried .entry)) (beside (gives a (p .inode) (tables (now («dir_hash» .exit)) (now («dir_table» .exit)) (now («file_hash» .entry)) (now («file_table» .entry))) (packed.opens (now (opened .exit)) (now (opens .exit)))) (now (work .exit)))) ⌝ }
 {
     let r = tree::change::make_dir(
         dir_hash,
@@ -28,6 +30,7 @@ pub extern "C" fn mukthiban_tree_make_dir(
         file_table,
         work,
         opens,
+        opened,
         parent,
         name,
         carried,
@@ -47,11 +50,12 @@ pub extern "C" fn mukthiban_tree_make_file(
     file_table: &mut [u8],
     work: &mut [u32],
     opens: &mut [u32],
+    opened: &mut usize,
     parent: u32,
     name: &[u8; 16],
     carried: &[u8; 20],
 ) -> Made
-    ensures { λ p. ⌜ Exported (p .answer) (λ a. MakeFilePromise (tables (now («dir_hash» .entry)) (now («dir_table» .entry)) (now («file_hash» .entry)) (now («file_table» .entry))) (now (opens .entry)) (now (work .entry)) parent (now (name .entry)) (now (carried .entry)) (beside (makeGives a (p .inode) (tables (now («dir_hash» .entry)) (now («dir_table» .exit)) (now («file_hash» .exit)) (now («file_table» .exit))) (now (opens .exit))) (now (work .exit)))) ⌝ }
+    ensures { λ p. ⌜ Exported (p .answer) (λ a. PackedMake File (tables (now («dir_hash» .entry)) (now («dir_table» .entry)) (now («file_hash» .entry)) (now («file_table» .entry))) (packed.opens (now (opened .entry)) (now (opens .entry))) (now (work .entry)) parent (now (name .entry)) (now (carried .entry)) (beside (gives a (p .inode) (tables (now («dir_hash» .entry)) (now («dir_table» .exit)) (now («file_hash» .exit)) (now («file_table» .exit))) (packed.opens (now (opened .exit)) (now (opens .exit)))) (now (work .exit)))) ⌝ }
 {
     let r = tree::change::make_file(
         dir_hash,
@@ -60,6 +64,7 @@ pub extern "C" fn mukthiban_tree_make_file(
         file_table,
         work,
         opens,
+        opened,
         parent,
         name,
         carried,
@@ -79,12 +84,14 @@ pub extern "C" fn mukthiban_tree_rename_dir(
     file_table: &[u8],
     work: &mut [u32],
     opens: &[u32],
+    opened: &usize,
     inode: u32,
     parent: u32,
     name: &[u8; 16],
 ) -> Plain
-    ensures { λ p. ⌜ Exported (p .answer) (λ a. RenameDirPromise (tables (now («dir_hash» .entry)) (now («dir_table» .entry)) (now («file_hash» .entry)) (now («file_table» .entry))) (now (opens .entry)) (now (work .entry)) inode parent (now (name .entry)) (beside (changeGives a (tables (now («dir_hash» .exit)) (now («dir_table» .exit)) (now («file_hash» .entry)) (now («file_table» .entry))) (now (opens .entry))) (now (work .exit)))) ⌝ }
+    ensures { λ p. ⌜ Exported (p .answer) (λ a. PackedRename Directory (tables (now («dir_hash» .entry)) (now («dir_table» .entry)) (now («file_hash» .entry)) (now («file_table» .entry))) (packed.opens (now (opened .entry)) (now (opens .entry))) (now (work .entry)) inode parent (now (name .entry)) (beside (gives a 0 (tables (now («dir_hash» .exit)) (now («dir_table» .exit)) (now («file_hash» .entry)) (now («file_table» .entry))) (packed.opens (now (opened .entry)) (now (opens .entry)))) (now (work .exit)))) ⌝ }
 {
+    let k = *opened;
     let answer = tree::change::rename_dir(
         dir_hash,
         dir_table,
@@ -92,6 +99,7 @@ pub extern "C" fn mukthiban_tree_rename_dir(
         file_table,
         work,
         opens,
+        k,
         inode,
         parent,
         name,
@@ -109,12 +117,14 @@ pub extern "C" fn mukthiban_tree_rename_file(
     file_table: &mut [u8],
     work: &mut [u32],
     opens: &[u32],
+    opened: &usize,
     inode: u32,
     parent: u32,
     name: &[u8; 16],
 ) -> Plain
-    ensures { λ p. ⌜ Exported (p .answer) (λ a. RenameFilePromise (tables (now («dir_hash» .entry)) (now («dir_table» .entry)) (now («file_hash» .entry)) (now («file_table» .entry))) (now (opens .entry)) (now (work .entry)) inode parent (now (name .entry)) (beside (changeGives a (tables (now («dir_hash» .entry)) (now («dir_table» .exit)) (now («file_hash» .exit)) (now («file_table» .exit))) (now (opens .entry))) (now (work .exit)))) ⌝ }
+    ensures { λ p. ⌜ Exported (p .answer) (λ a. PackedRename File (tables (now («dir_hash» .entry)) (now («dir_table» .entry)) (now («file_hash» .entry)) (now («file_table» .entry))) (packed.opens (now (opened .entry)) (now (opens .entry))) (now (work .entry)) inode parent (now (name .entry)) (beside (gives a 0 (tables (now («dir_hash» .entry)) (now («dir_table» .exit)) (now («file_hash» .exit)) (now («file_table» .exit))) (packed.opens (now (opened .entry)) (now (opens .entry)))) (now (work .exit)))) ⌝ }
 {
+    let k = *opened;
     let answer = tree::change::rename_file(
         dir_hash,
         dir_table,
@@ -122,6 +132,7 @@ pub extern "C" fn mukthiban_tree_rename_file(
         file_table,
         work,
         opens,
+        k,
         inode,
         parent,
         name,
@@ -139,9 +150,10 @@ pub extern "C" fn mukthiban_tree_delete_dir(
     file_table: &[u8],
     work: &mut [u32],
     opens: &mut [u32],
+    opened: &mut usize,
     inode: u32,
 ) -> Plain
-    ensures { λ p. ⌜ Exported (p .answer) (λ a. DeleteDirPromise (tables (now («dir_hash» .entry)) (now («dir_table» .entry)) (now («file_hash» .entry)) (now («file_table» .entry))) (now (opens .entry)) (now (work .entry)) inode (beside (changeGives a (tables (now («dir_hash» .exit)) (now («dir_table» .exit)) (now («file_hash» .entry)) (now («file_table» .entry))) (now (opens .exit))) (now (work .exit)))) ⌝ }
+    ensures { λ p. ⌜ Exported (p .answer) (λ a. PackedDelete Directory (tables (now («dir_hash» .entry)) (now («dir_table» .entry)) (now («file_hash» .entry)) (now («file_table» .entry))) (packed.opens (now (opened .entry)) (now (opens .entry))) (now (work .entry)) inode (beside (gives a 0 (tables (now («dir_hash» .exit)) (now («dir_table» .exit)) (now («file_hash» .entry)) (now («file_table» .entry))) (packed.opens (now (opened .exit)) (now (opens .exit)))) (now (work .exit)))) ⌝ }
 {
     let answer = tree::change::delete_dir(
         dir_hash,
@@ -150,6 +162,7 @@ pub extern "C" fn mukthiban_tree_delete_dir(
         file_table,
         work,
         opens,
+        opened,
         inode,
     );
     Plain {
@@ -165,9 +178,10 @@ pub extern "C" fn mukthiban_tree_delete_file(
     file_table: &mut [u8],
     work: &mut [u32],
     opens: &mut [u32],
+    opened: &mut usize,
     inode: u32,
 ) -> Plain
-    ensures { λ p. ⌜ Exported (p .answer) (λ a. DeleteFilePromise (tables (now («dir_hash» .entry)) (now («dir_table» .entry)) (now («file_hash» .entry)) (now («file_table» .entry))) (now (opens .entry)) (now (work .entry)) inode (beside (changeGives a (tables (now («dir_hash» .entry)) (now («dir_table» .exit)) (now («file_hash» .exit)) (now («file_table» .exit))) (now (opens .exit))) (now (work .exit)))) ⌝ }
+    ensures { λ p. ⌜ Exported (p .answer) (λ a. PackedDelete File (tables (now («dir_hash» .entry)) (now («dir_table» .entry)) (now («file_hash» .entry)) (now («file_table» .entry))) (packed.opens (now (opened .entry)) (now (opens .entry))) (now (work .entry)) inode (beside (gives a 0 (tables (now («dir_hash» .entry)) (now («dir_table» .exit)) (now («file_hash» .exit)) (now («file_table» .exit))) (packed.opens (now (opened .exit)) (now (opens .exit)))) (now (work .exit)))) ⌝ }
 {
     let answer = tree::change::delete_file(
         dir_hash,
@@ -176,6 +190,7 @@ pub extern "C" fn mukthiban_tree_delete_file(
         file_table,
         work,
         opens,
+        opened,
         inode,
     );
     Plain {

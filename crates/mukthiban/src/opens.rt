@@ -3,7 +3,8 @@ ghost use mathlib.Core.Path.{_≡_};
 ghost use Rattle.order.specs.Beside.{beside};
 ghost use Rattle.tree_sound.specs.Tables.{tables};
 ghost use Rattle.tree_promises.specs.declared.Kind.the-variants.{Directory, File};
-ghost use Rattle.tree_promises.specs.Calls.{openingGives};
+ghost use Rattle.tree_packed.specs.Opens as packed;
+ghost use Rattle.tree_promises.specs.Packed.{gives};
 ghost use Rattle.mukthiban.specs.Opening.{wantOf, OpenKindPromise, CloseKindPromise};
 ghost use Rattle.mukthiban.specs.Export.{Exported};
 use crate::Plain;
@@ -28,10 +29,11 @@ pub extern "C" fn mukthiban_tree_open_dir(
     file_table: &[u8],
     work: &mut [u32],
     opens: &mut [u32],
+    opened: &mut usize,
     inode: u32,
     kind: u32,
 ) -> Plain
-    ensures { λ p. ⌜ Exported (p .answer) (λ a. OpenKindPromise Directory (tables (now («dir_hash» .entry)) (now («dir_table» .entry)) (now («file_hash» .entry)) (now («file_table» .entry))) (now (opens .entry)) (now (work .entry)) inode kind (beside (openingGives a (now (opens .exit))) (now (work .exit)))) ⌝ }
+    ensures { λ p. ⌜ Exported (p .answer) (λ a. OpenKindPromise Directory (tables (now («dir_hash» .entry)) (now («dir_table» .entry)) (now («file_hash» .entry)) (now («file_table» .entry))) (packed.opens (now (opened .entry)) (now (opens .entry))) (now (work .entry)) inode kind (beside (gives a 0 (tables (now («dir_hash» .entry)) (now («dir_table» .entry)) (now («file_hash» .entry)) (now («file_table» .entry))) (packed.opens (now (opened .exit)) (now (opens .exit)))) (now (work .exit)))) ⌝ }
 {
     if kind > 1 {
         let other = other_kind(dir_hash, dir_table, file_hash, file_table);
@@ -47,6 +49,7 @@ pub extern "C" fn mukthiban_tree_open_dir(
         file_table,
         work,
         opens,
+        opened,
         inode,
         want,
     );
@@ -63,10 +66,11 @@ pub extern "C" fn mukthiban_tree_open_file(
     file_table: &[u8],
     work: &mut [u32],
     opens: &mut [u32],
+    opened: &mut usize,
     inode: u32,
     kind: u32,
 ) -> Plain
-    ensures { λ p. ⌜ Exported (p .answer) (λ a. OpenKindPromise File (tables (now («dir_hash» .entry)) (now («dir_table» .entry)) (now («file_hash» .entry)) (now («file_table» .entry))) (now (opens .entry)) (now (work .entry)) inode kind (beside (openingGives a (now (opens .exit))) (now (work .exit)))) ⌝ }
+    ensures { λ p. ⌜ Exported (p .answer) (λ a. OpenKindPromise File (tables (now («dir_hash» .entry)) (now («dir_table» .entry)) (now («file_hash» .entry)) (now («file_table» .entry))) (packed.opens (now (opened .entry)) (now (opens .entry))) (now (work .entry)) inode kind (beside (gives a 0 (tables (now («dir_hash» .entry)) (now («dir_table» .entry)) (now («file_hash» .entry)) (now («file_table» .entry))) (packed.opens (now (opened .exit)) (now (opens .exit)))) (now (work .exit)))) ⌝ }
 {
     if kind > 1 {
         let other = other_kind(dir_hash, dir_table, file_hash, file_table);
@@ -82,6 +86,7 @@ pub extern "C" fn mukthiban_tree_open_file(
         file_table,
         work,
         opens,
+        opened,
         inode,
         want,
     );
@@ -98,10 +103,11 @@ pub extern "C" fn mukthiban_tree_close_dir(
     file_table: &[u8],
     work: &mut [u32],
     opens: &mut [u32],
+    opened: &mut usize,
     inode: u32,
     kind: u32,
 ) -> Plain
-    ensures { λ p. ⌜ Exported (p .answer) (λ a. CloseKindPromise Directory (tables (now («dir_hash» .entry)) (now («dir_table» .entry)) (now («file_hash» .entry)) (now («file_table» .entry))) (now (opens .entry)) (now (work .entry)) inode kind (beside (openingGives a (now (opens .exit))) (now (work .exit)))) ⌝ }
+    ensures { λ p. ⌜ Exported (p .answer) (λ a. CloseKindPromise Directory (tables (now («dir_hash» .entry)) (now («dir_table» .entry)) (now («file_hash» .entry)) (now («file_table» .entry))) (packed.opens (now (opened .entry)) (now (opens .entry))) (now (work .entry)) inode kind (beside (gives a 0 (tables (now («dir_hash» .entry)) (now («dir_table» .entry)) (now («file_hash» .entry)) (now («file_table» .entry))) (packed.opens (now (opened .exit)) (now (opens .exit)))) (now (work .exit)))) ⌝ }
 {
     if kind > 1 {
         let other = other_kind(dir_hash, dir_table, file_hash, file_table);
@@ -117,6 +123,7 @@ pub extern "C" fn mukthiban_tree_close_dir(
         file_table,
         work,
         opens,
+        opened,
         inode,
         want,
     );
@@ -133,10 +140,11 @@ pub extern "C" fn mukthiban_tree_close_file(
     file_table: &[u8],
     work: &mut [u32],
     opens: &mut [u32],
+    opened: &mut usize,
     inode: u32,
     kind: u32,
 ) -> Plain
-    ensures { λ p. ⌜ Exported (p .answer) (λ a. CloseKindPromise File (tables (now («dir_hash» .entry)) (now («dir_table» .entry)) (now («file_hash» .entry)) (now («file_table» .entry))) (now (opens .entry)) (now (work .entry)) inode kind (beside (openingGives a (now (opens .exit))) (now (work .exit)))) ⌝ }
+    ensures { λ p. ⌜ Exported (p .answer) (λ a. CloseKindPromise File (tables (now («dir_hash» .entry)) (now («dir_table» .entry)) (now («file_hash» .entry)) (now («file_table» .entry))) (packed.opens (now (opened .entry)) (now (opens .entry))) (now (work .entry)) inode kind (beside (gives a 0 (tables (now («dir_hash» .entry)) (now («dir_table» .entry)) (now («file_hash» .entry)) (now («file_table» .entry))) (packed.opens (now (opened .exit)) (now (opens .exit)))) (now (work .exit)))) ⌝ }
 {
     if kind > 1 {
         let other = other_kind(dir_hash, dir_table, file_hash, file_table);
@@ -152,6 +160,7 @@ pub extern "C" fn mukthiban_tree_close_file(
         file_table,
         work,
         opens,
+        opened,
         inode,
         want,
     );

@@ -1,10 +1,10 @@
 // The inner calls that change the entry tables, for a side that has tested its tables once and keeps them sound. Each requires what the test tells, and
 // tests nothing.
-ghost use Rattle.order.specs.First.{First};
 ghost use Rattle.tree_promises.specs.declared.Kind.the-variants.{Directory, File};
 ghost use Rattle.tree_promises.specs.inner.Ready.{ReadyOpens};
-ghost use Rattle.tree_sound.specs.Tables.{tables, dirs, files};
-ghost use Rattle.tree_promises.specs.Calls.{makeRows, makeDone, makeGives, changeGives, deleteRows, deleteDone, renameRows, renameDone};
+ghost use Rattle.tree_sound.specs.Tables.{tables};
+ghost use Rattle.tree_promises.specs.Packed.{gives, Inside, makeTests, makeDone, deleteTests, deleteDone, renameTests, renameDone};
+ghost use Rattle.tree_packed.specs.Opens as packed;
 ghost use Rattle.mukthiban.specs.Export.{Exported};
 use crate::Made;
 use crate::Plain;
@@ -16,12 +16,13 @@ pub extern "C" fn mukthiban_tested_tree_make_dir(
     file_hash: &[u8],
     file_table: &[u8],
     opens: &mut [u32],
+    opened: &mut usize,
     parent: u32,
     name: &[u8; 16],
     carried: &[u8; 4],
 ) -> Made
-    requires { ⌜ ReadyOpens Directory (tables (now «dir_hash») (now «dir_table») (now «file_hash») (now «file_table»)) (now opens) ⌝ }
-    ensures { λ p. ⌜ Exported (p .answer) (λ a. First (makeRows (tables (now («dir_hash» .entry)) (now («dir_table» .entry)) (now («file_hash» .entry)) (now («file_table» .entry))) (dirs (tables (now («dir_hash» .entry)) (now («dir_table» .entry)) (now («file_hash» .entry)) (now («file_table» .entry)))) (now (opens .entry)) parent (now (name .entry))) (makeDone Directory (tables (now («dir_hash» .entry)) (now («dir_table» .entry)) (now («file_hash» .entry)) (now («file_table» .entry))) (now (opens .entry)) parent (now (name .entry)) (now (carried .entry))) (makeGives a (p .inode) (tables (now («dir_hash» .exit)) (now («dir_table» .exit)) (now («file_hash» .entry)) (now («file_table» .entry))) (now (opens .exit)))) ⌝ }
+    requires { ⌜ ReadyOpens (tables (now «dir_hash») (now «dir_table») (now «file_hash») (now «file_table»)) (packed.opens (now opened) (now opens)) ⌝ }
+    ensures { λ p. ⌜ Exported (p .answer) (λ a. Inside (tables (now («dir_hash» .entry)) (now («dir_table» .entry)) (now («file_hash» .entry)) (now («file_table» .entry))) (packed.opens (now (opened .entry)) (now (opens .entry))) (makeTests Directory (tables (now («dir_hash» .entry)) (now («dir_table» .entry)) (now («file_hash» .entry)) (now («file_table» .entry))) (packed.opens (now (opened .entry)) (now (opens .entry))) parent (now (name .entry))) (makeDone Directory (tables (now («dir_hash» .entry)) (now («dir_table» .entry)) (now («file_hash» .entry)) (now («file_table» .entry))) (packed.opens (now (opened .entry)) (now (opens .entry))) parent (now (name .entry)) (now (carried .entry))) (gives a (p .inode) (tables (now («dir_hash» .exit)) (now («dir_table» .exit)) (now («file_hash» .entry)) (now («file_table» .entry))) (packed.opens (now (opened .exit)) (now (opens .exit))))) ⌝ }
 {
     let r = tree_inner::make::make_dir(
         dir_hash,
@@ -29,6 +30,7 @@ pub extern "C" fn mukthiban_tested_tree_make_dir(
         file_hash,
         file_table,
         opens,
+        opened,
         parent,
         name,
         carried,
@@ -47,12 +49,13 @@ pub extern "C" fn mukthiban_tested_tree_make_file(
     file_hash: &mut [u8],
     file_table: &mut [u8],
     opens: &mut [u32],
+    opened: &mut usize,
     parent: u32,
     name: &[u8; 16],
     carried: &[u8; 20],
 ) -> Made
-    requires { ⌜ ReadyOpens File (tables (now «dir_hash») (now «dir_table») (now «file_hash») (now «file_table»)) (now opens) ⌝ }
-    ensures { λ p. ⌜ Exported (p .answer) (λ a. First (makeRows (tables (now («dir_hash» .entry)) (now («dir_table» .entry)) (now («file_hash» .entry)) (now («file_table» .entry))) (files (tables (now («dir_hash» .entry)) (now («dir_table» .entry)) (now («file_hash» .entry)) (now («file_table» .entry)))) (now (opens .entry)) parent (now (name .entry))) (makeDone File (tables (now («dir_hash» .entry)) (now («dir_table» .entry)) (now («file_hash» .entry)) (now («file_table» .entry))) (now (opens .entry)) parent (now (name .entry)) (now (carried .entry))) (makeGives a (p .inode) (tables (now («dir_hash» .entry)) (now («dir_table» .exit)) (now («file_hash» .exit)) (now («file_table» .exit))) (now (opens .exit)))) ⌝ }
+    requires { ⌜ ReadyOpens (tables (now «dir_hash») (now «dir_table») (now «file_hash») (now «file_table»)) (packed.opens (now opened) (now opens)) ⌝ }
+    ensures { λ p. ⌜ Exported (p .answer) (λ a. Inside (tables (now («dir_hash» .entry)) (now («dir_table» .entry)) (now («file_hash» .entry)) (now («file_table» .entry))) (packed.opens (now (opened .entry)) (now (opens .entry))) (makeTests File (tables (now («dir_hash» .entry)) (now («dir_table» .entry)) (now («file_hash» .entry)) (now («file_table» .entry))) (packed.opens (now (opened .entry)) (now (opens .entry))) parent (now (name .entry))) (makeDone File (tables (now («dir_hash» .entry)) (now («dir_table» .entry)) (now («file_hash» .entry)) (now («file_table» .entry))) (packed.opens (now (opened .entry)) (now (opens .entry))) parent (now (name .entry)) (now (carried .entry))) (gives a (p .inode) (tables (now («dir_hash» .entry)) (now («dir_table» .exit)) (now («file_hash» .exit)) (now («file_table» .exit))) (packed.opens (now (opened .exit)) (now (opens .exit))))) ⌝ }
 {
     let r = tree_inner::make::make_file(
         dir_hash,
@@ -60,6 +63,7 @@ pub extern "C" fn mukthiban_tested_tree_make_file(
         file_hash,
         file_table,
         opens,
+        opened,
         parent,
         name,
         carried,
@@ -78,19 +82,22 @@ pub extern "C" fn mukthiban_tested_tree_rename_dir(
     file_hash: &[u8],
     file_table: &[u8],
     opens: &[u32],
+    opened: &usize,
     inode: u32,
     parent: u32,
     name: &[u8; 16],
 ) -> Plain
-    requires { ⌜ ReadyOpens Directory (tables (now «dir_hash») (now «dir_table») (now «file_hash») (now «file_table»)) (now opens) ⌝ }
-    ensures { λ p. ⌜ Exported (p .answer) (λ a. First (renameRows Directory (tables (now («dir_hash» .entry)) (now («dir_table» .entry)) (now («file_hash» .entry)) (now («file_table» .entry))) (now (opens .entry)) inode parent (now (name .entry))) (renameDone Directory (tables (now («dir_hash» .entry)) (now («dir_table» .entry)) (now («file_hash» .entry)) (now («file_table» .entry))) (now (opens .entry)) inode parent (now (name .entry))) (changeGives a (tables (now («dir_hash» .exit)) (now («dir_table» .exit)) (now («file_hash» .entry)) (now («file_table» .entry))) (now (opens .entry)))) ⌝ }
+    requires { ⌜ ReadyOpens (tables (now «dir_hash») (now «dir_table») (now «file_hash») (now «file_table»)) (packed.opens (now opened) (now opens)) ⌝ }
+    ensures { λ p. ⌜ Exported (p .answer) (λ a. Inside (tables (now («dir_hash» .entry)) (now («dir_table» .entry)) (now («file_hash» .entry)) (now («file_table» .entry))) (packed.opens (now (opened .entry)) (now (opens .entry))) (renameTests Directory (tables (now («dir_hash» .entry)) (now («dir_table» .entry)) (now («file_hash» .entry)) (now («file_table» .entry))) (packed.opens (now (opened .entry)) (now (opens .entry))) inode parent (now (name .entry))) (renameDone Directory (tables (now («dir_hash» .entry)) (now («dir_table» .entry)) (now («file_hash» .entry)) (now («file_table» .entry))) (packed.opens (now (opened .entry)) (now (opens .entry))) inode parent (now (name .entry))) (gives a 0 (tables (now («dir_hash» .exit)) (now («dir_table» .exit)) (now («file_hash» .entry)) (now («file_table» .entry))) (packed.opens (now (opened .entry)) (now (opens .entry))))) ⌝ }
 {
+    let k = *opened;
     let answer = tree_inner::change::rename_dir(
         dir_hash,
         dir_table,
         file_hash,
         file_table,
         opens,
+        k,
         inode,
         parent,
         name,
@@ -107,19 +114,22 @@ pub extern "C" fn mukthiban_tested_tree_rename_file(
     file_hash: &mut [u8],
     file_table: &mut [u8],
     opens: &[u32],
+    opened: &usize,
     inode: u32,
     parent: u32,
     name: &[u8; 16],
 ) -> Plain
-    requires { ⌜ ReadyOpens File (tables (now «dir_hash») (now «dir_table») (now «file_hash») (now «file_table»)) (now opens) ⌝ }
-    ensures { λ p. ⌜ Exported (p .answer) (λ a. First (renameRows File (tables (now («dir_hash» .entry)) (now («dir_table» .entry)) (now («file_hash» .entry)) (now («file_table» .entry))) (now (opens .entry)) inode parent (now (name .entry))) (renameDone File (tables (now («dir_hash» .entry)) (now («dir_table» .entry)) (now («file_hash» .entry)) (now («file_table» .entry))) (now (opens .entry)) inode parent (now (name .entry))) (changeGives a (tables (now («dir_hash» .entry)) (now («dir_table» .exit)) (now («file_hash» .exit)) (now («file_table» .exit))) (now (opens .entry)))) ⌝ }
+    requires { ⌜ ReadyOpens (tables (now «dir_hash») (now «dir_table») (now «file_hash») (now «file_table»)) (packed.opens (now opened) (now opens)) ⌝ }
+    ensures { λ p. ⌜ Exported (p .answer) (λ a. Inside (tables (now («dir_hash» .entry)) (now («dir_table» .entry)) (now («file_hash» .entry)) (now («file_table» .entry))) (packed.opens (now (opened .entry)) (now (opens .entry))) (renameTests File (tables (now («dir_hash» .entry)) (now («dir_table» .entry)) (now («file_hash» .entry)) (now («file_table» .entry))) (packed.opens (now (opened .entry)) (now (opens .entry))) inode parent (now (name .entry))) (renameDone File (tables (now («dir_hash» .entry)) (now («dir_table» .entry)) (now («file_hash» .entry)) (now («file_table» .entry))) (packed.opens (now (opened .entry)) (now (opens .entry))) inode parent (now (name .entry))) (gives a 0 (tables (now («dir_hash» .entry)) (now («dir_table» .exit)) (now («file_hash» .exit)) (now («file_table» .exit))) (packed.opens (now (opened .entry)) (now (opens .entry))))) ⌝ }
 {
+    let k = *opened;
     let answer = tree_inner::change::rename_file(
         dir_hash,
         dir_table,
         file_hash,
         file_table,
         opens,
+        k,
         inode,
         parent,
         name,
@@ -136,10 +146,11 @@ pub extern "C" fn mukthiban_tested_tree_delete_dir(
     file_hash: &[u8],
     file_table: &[u8],
     opens: &mut [u32],
+    opened: &mut usize,
     inode: u32,
 ) -> Plain
-    requires { ⌜ ReadyOpens Directory (tables (now «dir_hash») (now «dir_table») (now «file_hash») (now «file_table»)) (now opens) ⌝ }
-    ensures { λ p. ⌜ Exported (p .answer) (λ a. First (deleteRows Directory (tables (now («dir_hash» .entry)) (now («dir_table» .entry)) (now («file_hash» .entry)) (now («file_table» .entry))) (now (opens .entry)) inode) (deleteDone Directory (tables (now («dir_hash» .entry)) (now («dir_table» .entry)) (now («file_hash» .entry)) (now («file_table» .entry))) (now (opens .entry)) inode) (changeGives a (tables (now («dir_hash» .exit)) (now («dir_table» .exit)) (now («file_hash» .entry)) (now («file_table» .entry))) (now (opens .exit)))) ⌝ }
+    requires { ⌜ ReadyOpens (tables (now «dir_hash») (now «dir_table») (now «file_hash») (now «file_table»)) (packed.opens (now opened) (now opens)) ⌝ }
+    ensures { λ p. ⌜ Exported (p .answer) (λ a. Inside (tables (now («dir_hash» .entry)) (now («dir_table» .entry)) (now («file_hash» .entry)) (now («file_table» .entry))) (packed.opens (now (opened .entry)) (now (opens .entry))) (deleteTests Directory (tables (now («dir_hash» .entry)) (now («dir_table» .entry)) (now («file_hash» .entry)) (now («file_table» .entry))) (packed.opens (now (opened .entry)) (now (opens .entry))) inode) (deleteDone Directory (tables (now («dir_hash» .entry)) (now («dir_table» .entry)) (now («file_hash» .entry)) (now («file_table» .entry))) (packed.opens (now (opened .entry)) (now (opens .entry))) inode) (gives a 0 (tables (now («dir_hash» .exit)) (now («dir_table» .exit)) (now («file_hash» .entry)) (now («file_table» .entry))) (packed.opens (now (opened .exit)) (now (opens .exit))))) ⌝ }
 {
     let answer = tree_inner::change::delete_dir(
         dir_hash,
@@ -147,6 +158,7 @@ pub extern "C" fn mukthiban_tested_tree_delete_dir(
         file_hash,
         file_table,
         opens,
+        opened,
         inode,
     );
     Plain {
@@ -161,10 +173,11 @@ pub extern "C" fn mukthiban_tested_tree_delete_file(
     file_hash: &mut [u8],
     file_table: &mut [u8],
     opens: &mut [u32],
+    opened: &mut usize,
     inode: u32,
 ) -> Plain
-    requires { ⌜ ReadyOpens File (tables (now «dir_hash») (now «dir_table») (now «file_hash») (now «file_table»)) (now opens) ⌝ }
-    ensures { λ p. ⌜ Exported (p .answer) (λ a. First (deleteRows File (tables (now («dir_hash» .entry)) (now («dir_table» .entry)) (now («file_hash» .entry)) (now («file_table» .entry))) (now (opens .entry)) inode) (deleteDone File (tables (now («dir_hash» .entry)) (now («dir_table» .entry)) (now («file_hash» .entry)) (now («file_table» .entry))) (now (opens .entry)) inode) (changeGives a (tables (now («dir_hash» .entry)) (now («dir_table» .exit)) (now («file_hash» .exit)) (now («file_table» .exit))) (now (opens .exit)))) ⌝ }
+    requires { ⌜ ReadyOpens (tables (now «dir_hash») (now «dir_table») (now «file_hash») (now «file_table»)) (packed.opens (now opened) (now opens)) ⌝ }
+    ensures { λ p. ⌜ Exported (p .answer) (λ a. Inside (tables (now («dir_hash» .entry)) (now («dir_table» .entry)) (now («file_hash» .entry)) (now («file_table» .entry))) (packed.opens (now (opened .entry)) (now (opens .entry))) (deleteTests File (tables (now («dir_hash» .entry)) (now («dir_table» .entry)) (now («file_hash» .entry)) (now («file_table» .entry))) (packed.opens (now (opened .entry)) (now (opens .entry))) inode) (deleteDone File (tables (now («dir_hash» .entry)) (now («dir_table» .entry)) (now («file_hash» .entry)) (now («file_table» .entry))) (packed.opens (now (opened .entry)) (now (opens .entry))) inode) (gives a 0 (tables (now («dir_hash» .entry)) (now («dir_table» .exit)) (now («file_hash» .exit)) (now («file_table» .exit))) (packed.opens (now (opened .exit)) (now (opens .exit))))) ⌝ }
 {
     let answer = tree_inner::change::delete_file(
         dir_hash,
@@ -172,6 +185,7 @@ pub extern "C" fn mukthiban_tested_tree_delete_file(
         file_hash,
         file_table,
         opens,
+        opened,
         inode,
     );
     Plain {

@@ -1,9 +1,8 @@
 // The inner calls on the entry tables that touch open records, for a side that has tested its tables once and keeps them sound.
-ghost use Rattle.order.specs.First.{First};
-ghost use Rattle.tree_promises.specs.declared.Kind.the-variants.{Directory, File};
 ghost use Rattle.tree_promises.specs.inner.Ready.{ReadyOpens};
 ghost use Rattle.tree_sound.specs.Tables.{tables, dirs, files};
-ghost use Rattle.tree_promises.specs.Calls.{openRows, openDone, closeRows, closeDone, openingGives};
+ghost use Rattle.tree_packed.specs.Opens as packed;
+ghost use Rattle.tree_promises.specs.inner.Opening.{openingIn, OpenIn, CloseIn};
 ghost use Rattle.mukthiban.specs.Export.{Exported};
 ghost use Rattle.mukthiban.specs.Opening.{wantOf};
 ghost use Prim.Native.Nat.{_≤_};
@@ -19,11 +18,12 @@ pub extern "C" fn mukthiban_tested_tree_open_dir(
     file_hash: &[u8],
     file_table: &[u8],
     opens: &mut [u32],
+    opened: &mut usize,
     inode: u32,
     kind: u32,
 ) -> Plain
-    requires { ⌜ ReadyOpens Directory (tables (now «dir_hash») (now «dir_table») (now «file_hash») (now «file_table»)) (now opens) × (kind ≤ 1) ⌝ }
-    ensures { λ p. ⌜ Exported (p .answer) (λ a. First (openRows (dirs (tables (now («dir_hash» .entry)) (now («dir_table» .entry)) (now («file_hash» .entry)) (now («file_table» .entry)))) (now (opens .entry)) inode (wantOf kind)) (openDone (now (opens .entry)) inode (wantOf kind)) (openingGives a (now (opens .exit)))) ⌝ }
+    requires { ⌜ ReadyOpens (tables (now «dir_hash») (now «dir_table») (now «file_hash») (now «file_table»)) (packed.opens (now opened) (now opens)) × (kind ≤ 1) ⌝ }
+    ensures { λ p. ⌜ Exported (p .answer) (λ a. OpenIn (dirs (tables (now («dir_hash» .entry)) (now («dir_table» .entry)) (now («file_hash» .entry)) (now («file_table» .entry)))) (packed.opens (now (opened .entry)) (now (opens .entry))) inode (wantOf kind) (openingIn a (packed.opens (now (opened .exit)) (now (opens .exit))))) ⌝ }
 {
     let want = want_of(kind);
     let answer = tree_inner::look::open(
@@ -31,6 +31,7 @@ pub extern "C" fn mukthiban_tested_tree_open_dir(
         dir_table,
         SaveExtDirEntry::WIDTH,
         opens,
+        opened,
         inode,
         want,
     );
@@ -46,11 +47,12 @@ pub extern "C" fn mukthiban_tested_tree_open_file(
     file_hash: &[u8],
     file_table: &[u8],
     opens: &mut [u32],
+    opened: &mut usize,
     inode: u32,
     kind: u32,
 ) -> Plain
-    requires { ⌜ ReadyOpens File (tables (now «dir_hash») (now «dir_table») (now «file_hash») (now «file_table»)) (now opens) × (kind ≤ 1) ⌝ }
-    ensures { λ p. ⌜ Exported (p .answer) (λ a. First (openRows (files (tables (now («dir_hash» .entry)) (now («dir_table» .entry)) (now («file_hash» .entry)) (now («file_table» .entry)))) (now (opens .entry)) inode (wantOf kind)) (openDone (now (opens .entry)) inode (wantOf kind)) (openingGives a (now (opens .exit)))) ⌝ }
+    requires { ⌜ ReadyOpens (tables (now «dir_hash») (now «dir_table») (now «file_hash») (now «file_table»)) (packed.opens (now opened) (now opens)) × (kind ≤ 1) ⌝ }
+    ensures { λ p. ⌜ Exported (p .answer) (λ a. OpenIn (files (tables (now («dir_hash» .entry)) (now («dir_table» .entry)) (now («file_hash» .entry)) (now («file_table» .entry)))) (packed.opens (now (opened .entry)) (now (opens .entry))) inode (wantOf kind) (openingIn a (packed.opens (now (opened .exit)) (now (opens .exit))))) ⌝ }
 {
     let want = want_of(kind);
     let answer = tree_inner::look::open(
@@ -58,6 +60,7 @@ pub extern "C" fn mukthiban_tested_tree_open_file(
         file_table,
         SaveExtFileEntry::WIDTH,
         opens,
+        opened,
         inode,
         want,
     );
@@ -73,11 +76,12 @@ pub extern "C" fn mukthiban_tested_tree_close_dir(
     file_hash: &[u8],
     file_table: &[u8],
     opens: &mut [u32],
+    opened: &mut usize,
     inode: u32,
     kind: u32,
 ) -> Plain
-    requires { ⌜ ReadyOpens Directory (tables (now «dir_hash») (now «dir_table») (now «file_hash») (now «file_table»)) (now opens) × (kind ≤ 1) ⌝ }
-    ensures { λ p. ⌜ Exported (p .answer) (λ a. First (closeRows (dirs (tables (now («dir_hash» .entry)) (now («dir_table» .entry)) (now («file_hash» .entry)) (now («file_table» .entry)))) (now (opens .entry)) inode (wantOf kind)) (closeDone (now (opens .entry)) inode (wantOf kind)) (openingGives a (now (opens .exit)))) ⌝ }
+    requires { ⌜ ReadyOpens (tables (now «dir_hash») (now «dir_table») (now «file_hash») (now «file_table»)) (packed.opens (now opened) (now opens)) × (kind ≤ 1) ⌝ }
+    ensures { λ p. ⌜ Exported (p .answer) (λ a. CloseIn (dirs (tables (now («dir_hash» .entry)) (now («dir_table» .entry)) (now («file_hash» .entry)) (now («file_table» .entry)))) (packed.opens (now (opened .entry)) (now (opens .entry))) inode (wantOf kind) (openingIn a (packed.opens (now (opened .exit)) (now (opens .exit))))) ⌝ }
 {
     let want = want_of(kind);
     let answer = tree_inner::look::close(
@@ -85,6 +89,7 @@ pub extern "C" fn mukthiban_tested_tree_close_dir(
         dir_table,
         SaveExtDirEntry::WIDTH,
         opens,
+        opened,
         inode,
         want,
     );
@@ -100,11 +105,12 @@ pub extern "C" fn mukthiban_tested_tree_close_file(
     file_hash: &[u8],
     file_table: &[u8],
     opens: &mut [u32],
+    opened: &mut usize,
     inode: u32,
     kind: u32,
 ) -> Plain
-    requires { ⌜ ReadyOpens File (tables (now «dir_hash») (now «dir_table») (now «file_hash») (now «file_table»)) (now opens) × (kind ≤ 1) ⌝ }
-    ensures { λ p. ⌜ Exported (p .answer) (λ a. First (closeRows (files (tables (now («dir_hash» .entry)) (now («dir_table» .entry)) (now («file_hash» .entry)) (now («file_table» .entry)))) (now (opens .entry)) inode (wantOf kind)) (closeDone (now (opens .entry)) inode (wantOf kind)) (openingGives a (now (opens .exit)))) ⌝ }
+    requires { ⌜ ReadyOpens (tables (now «dir_hash») (now «dir_table») (now «file_hash») (now «file_table»)) (packed.opens (now opened) (now opens)) × (kind ≤ 1) ⌝ }
+    ensures { λ p. ⌜ Exported (p .answer) (λ a. CloseIn (files (tables (now («dir_hash» .entry)) (now («dir_table» .entry)) (now («file_hash» .entry)) (now («file_table» .entry)))) (packed.opens (now (opened .entry)) (now (opens .entry))) inode (wantOf kind) (openingIn a (packed.opens (now (opened .exit)) (now (opens .exit))))) ⌝ }
 {
     let want = want_of(kind);
     let answer = tree_inner::look::close(
@@ -112,6 +118,7 @@ pub extern "C" fn mukthiban_tested_tree_close_file(
         file_table,
         SaveExtFileEntry::WIDTH,
         opens,
+        opened,
         inode,
         want,
     );

@@ -8,7 +8,8 @@ use tree_promises::Kind;
 ghost use Prim.Native.Nat.{_≤_};
 ghost use lib.ListN.{length};
 
-// What a line lends from there on: bytes of hashes and tables, places of the work list and of each list of open counts.
+// What a line lends from there on: bytes of hashes and tables, places of the work list and of each list of open records, the last of which is the number of
+// records.
 struct Tree {
     dir_hash: usize,
     dir_table: usize,
@@ -39,11 +40,23 @@ fn byte(table: &mut [u8], i: usize, x: usize) {
     }
 }
 
-// Every open count.
-fn opens(dir_opens: &mut [u32], file_opens: &mut [u32], x: usize) {
-    let count = tell::word(x);
-    tell::fill(dir_opens, count);
-    tell::fill(file_opens, count);
+// Nothing open.
+fn none(dir_opens: &mut [u32], file_opens: &mut [u32]) {
+    tell::fill(dir_opens, 0);
+    tell::fill(file_opens, 0);
+}
+
+// Writes a place of a list.
+fn place(list: &mut [u32], i: usize, x: usize) {
+    if i < list.len() {
+        list[i] = tell::word(x);
+    }
+}
+
+// A place of both lists of open records.
+fn opens(dir_opens: &mut [u32], file_opens: &mut [u32], i: usize, x: usize) {
+    place(dir_opens, i, x);
+    place(file_opens, i, x);
 }
 
 // A name of one letter; a number from 65,536 on has another one behind a zero byte, and 0 has none.
@@ -199,10 +212,10 @@ fn run(
 ) {
     let which = l.which;
     match which {
-        0 => opens(dir_opens, file_opens, 0),
+        0 => none(dir_opens, file_opens),
         1 => byte(d, l.a, l.b),
         2 => tell::zero(dh),
-        3 => opens(dir_opens, file_opens, l.a),
+        3 => opens(dir_opens, file_opens, l.a, l.b),
         4 => every(names, l, tree, dh, d, fh, f, dir_opens, file_opens),
         255 => tell::title(text),
         _ => one(text, l, tree, dh, d, fh, f, dir_opens, file_opens),
@@ -245,8 +258,8 @@ pub fn all(names: &[u8], script: &[u8]) {
     let mut d = [0u8; 160];
     let mut fh = [0u8; 12];
     let mut f = [0u8; 144];
-    let mut dir_opens = [0u32; 4];
-    let mut file_opens = [0u32; 4];
+    let mut dir_opens = [0u32; 9];
+    let mut file_opens = [0u32; 9];
     lines(
         names,
         script,

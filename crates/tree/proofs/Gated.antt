@@ -9,18 +9,21 @@ use Rattle.order.specs.Beside.{beside}
 use Rattle.order.specs.declared.Answer.{Answer}
 use Rattle.order.specs.declared.Answer.the-variants.{Done}
 use Rattle.tree_sound.specs.Tables.{Tables, tables, dirs, files}
-use Rattle.tree_test.specs.Promise.{TreeGateOf, OpenGateOf}
+use Rattle.tree_test.specs.Promise.{TreeGateOf, PackedGateOf}
 use Rattle.tree_test.specs.declared.Gated.{Gated}
 use Rattle.tree_test.specs.declared.Gated.the-variants.{Open}
 use Rattle.tree_promises.specs.declared.Kind.the-variants.{Directory, File}
-use Rattle.tree_promises.specs.Kinds.{kindRoom}
-use Rattle.tree_promises.specs.inner.Ready.{Single, SingleOpens, setGives, setRows}
+use Rattle.tree_packed.specs.Opens.{Opens, opens}
+use Rattle.tree_opens.specs.declared.Want.{Want}
+use Rattle.tree_promises.specs.inner.Ready.{Single, SingleOpens, alone, setGives, setRows}
+use Rattle.tree_promises.specs.inner.Opening.{OpeningIn, openingIn, OpenIn, CloseIn}
+use Rattle.tree_promises.specs.Packed.{Outcome, gives, openTests, openDone, closeTests, closeDone, PackedOpen, PackedClose}
 use Rattle.tree_promises.specs.Steps.{withCarried}
 use Rattle.tree_promises.specs.Calls.{carryGives, carryRows, carryDone}
 use Rattle.tree_promises.specs.Public.{SetCarriedDirPromise, SetCarriedFilePromise}
-use Rattle.tree_inner.proofs.Opens.{set-dir, set-file}
+use Rattle.tree_inner.proofs.Opens.{seen, set-dir, set-file}
 use Rattle.tree_promises.specs.declared.Kind.{Kind}
-use Rattle.tree_promises.proofs.Gated.{tree-passed, tree-ready, opens-ready}
+use Rattle.tree_promises.proofs.Gated.{tree-passed, tree-ready, packed-passed, packed-ready}
 use Rattle.tree_inner.proofs.Lists.{dir-single, file-single}
 use Rattle.tree.specs.Name.{kindName, nameTests, NameAnswerPromise, NamePromise}
 
@@ -34,13 +37,45 @@ module _ (dh d fh f work work′ : List ℕ) (g : Gated) (e : g ≡ Open) where
   pub tree-files : TreeGateOf s work work′ g → Single fh f 48
   tree-files says = file-single s (tree-ready s work work′ g says e)
 
-  pub opens-dirs : (opens : List ℕ) → OpenGateOf s (length opens) (kindRoom Directory s) work work′ g → SingleOpens dh d 40 opens
-  opens-dirs opens says =
-      let r = opens-ready Directory s opens work work′ g says e in record { single = dir-single s (r .ready); counted = r .counted }
+  module _ (k : ℕ) (l : List ℕ) (says : PackedGateOf (tables dh d fh f) (opens k l) work work′ g) where
+    pub opens-dirs : SingleOpens dh d 40 (opens k l)
+    opens-dirs = let r = packed-ready s (opens k l) work work′ g says e in record { single = dir-single s (r .ready); ordered = r .ordered }
 
-  pub opens-files : (opens : List ℕ) → OpenGateOf s (length opens) (kindRoom File s) work work′ g → SingleOpens fh f 48 opens
-  opens-files opens says =
-      let r = opens-ready File s opens work work′ g says e in record { single = file-single s (r .ready); counted = r .counted }
+    pub opens-files : SingleOpens fh f 48 (opens k l)
+    opens-files = let r = packed-ready s (opens k l) work work′ g says e in record { single = file-single s (r .ready); ordered = r .ordered }
+
+    -- open and close of one table, as calls on the four
+    module _ (x : ℕ) (want : Want) (a : Answer) (k′ : ℕ) (l′ : List ℕ) where
+      abbrev all : OpeningIn → Outcome
+      all z = gives (z .answer) 0 s (z .opens)
+
+      pub dir-opened : OpenIn (alone 40 d) (opens k l) x want (openingIn a (opens k′ l′))
+          → PackedOpen Directory (tables dh d fh f) (opens k l) work x want (beside (gives a 0 (tables dh d fh f) (opens k′ l′)) work′)
+      unfolding OpenIn
+      dir-opened p =
+          packed-passed s (opens k l) work work′ (openTests Directory s (opens k l) x want) (openDone Directory s (opens k l) x want) g (gives a 0 s (opens k′ l′)) says e
+          (seen all (λ a. openingIn a (opens k l)) (openTests Directory s (opens k l) x want) _ _ p)
+
+      pub file-opened : OpenIn (alone 48 f) (opens k l) x want (openingIn a (opens k′ l′))
+          → PackedOpen File (tables dh d fh f) (opens k l) work x want (beside (gives a 0 (tables dh d fh f) (opens k′ l′)) work′)
+      unfolding OpenIn
+      file-opened p =
+          packed-passed s (opens k l) work work′ (openTests File s (opens k l) x want) (openDone File s (opens k l) x want) g (gives a 0 s (opens k′ l′)) says e
+          (seen all (λ a. openingIn a (opens k l)) (openTests File s (opens k l) x want) _ _ p)
+
+      pub dir-closed : CloseIn (alone 40 d) (opens k l) x want (openingIn a (opens k′ l′))
+          → PackedClose Directory (tables dh d fh f) (opens k l) work x want (beside (gives a 0 (tables dh d fh f) (opens k′ l′)) work′)
+      unfolding CloseIn
+      dir-closed p =
+          packed-passed s (opens k l) work work′ (closeTests Directory s (opens k l) x want) (closeDone Directory s (opens k l) x want) g (gives a 0 s (opens k′ l′)) says e
+          (seen all (λ a. openingIn a (opens k l)) (closeTests Directory s (opens k l) x want) _ _ p)
+
+      pub file-closed : CloseIn (alone 48 f) (opens k l) x want (openingIn a (opens k′ l′))
+          → PackedClose File (tables dh d fh f) (opens k l) work x want (beside (gives a 0 (tables dh d fh f) (opens k′ l′)) work′)
+      unfolding CloseIn
+      file-closed p =
+          packed-passed s (opens k l) work work′ (closeTests File s (opens k l) x want) (closeDone File s (opens k l) x want) g (gives a 0 s (opens k′ l′)) says e
+          (seen all (λ a. openingIn a (opens k l)) (closeTests File s (opens k l) x want) _ _ p)
 
 -- carried bytes set in one table, as a change of the four
 module _ (dh d fh f work work′ : List ℕ) (x : ℕ) (bytes t : List ℕ) (a : Answer) (g : Gated) where

@@ -1,14 +1,13 @@
-// The public calls that change the entry tables: make, rename and delete. Every call takes all four tables, a work list and the open records of its own table;
-// it tests sizes and soundness, and then does its work by the call of tree_inner that requires soundness. What each promises on all inputs stands in tree_promises's
-// specs/Public.antt. A refusal gives its number and changes nothing but the work list.
+// The public calls that change the entry tables: make, rename and delete. Every call takes all four tables, a work list and the packed list of its own table's
+// open records with the number of records in it; it tests sizes and soundness, and then does its work by the call of tree_inner that requires soundness. What
+// each promises on all inputs stands in tree_promises's specs/Packed.antt. A refusal gives its number and changes nothing but the work list.
 ghost use Rattle.order.specs.Beside.{beside};
 ghost use Rattle.tree_sound.specs.Tables.{Tables, tables};
-ghost use Rattle.tree_promises.specs.Calls.{makeGives, changeGives};
-ghost use Rattle.tree_promises.specs.Public.{MakeDirPromise, MakeFilePromise, RenameDirPromise, RenameFilePromise, DeleteDirPromise, DeleteFilePromise};
+ghost use Rattle.tree_packed.specs.Opens.{opens};
+ghost use Rattle.tree_promises.specs.declared.Kind.the-variants.{Directory, File};
+ghost use Rattle.tree_promises.specs.Packed.{gives, PackedMake, PackedRename, PackedDelete};
 use order::Answer;
 use tree_inner::make::Made;
-use tree_key::SaveExtDirEntry;
-use tree_key::SaveExtFileEntry;
 use tree_test::Gated;
 
 // Makes a directory in a parent. Done: its inode; it is the first of its parent and of its bucket, has no children, carries the padding, and is held by its writer.
@@ -18,24 +17,18 @@ pub fn make_dir(
     file_hash: &[u8],
     file_table: &[u8],
     work: &mut [u32],
-    opens: &mut [u32],
+    list: &mut [u32],
+    opened: &mut usize,
     parent: u32,
     name: &[u8; 16],
     padding: &[u8; 4],
 ) -> Made
     ensures { λ r. ⌜ (let s : Tables = tables (now («dir_hash» .entry)) (now («dir_table» .entry)) (now («file_hash» .entry)) (now («file_table» .entry)) in
-        MakeDirPromise s (now (opens .entry)) (now (work .entry)) parent (now (name .entry)) (now (padding .entry))
-        (beside (makeGives (r .answer) (r .inode) (tables (now («dir_hash» .exit)) (now («dir_table» .exit)) (now («file_hash» .entry)) (now («file_table» .entry))) (now (opens .exit))) (now (work .exit)))) ⌝ }
+        PackedMake Directory s (opens (now (opened .entry)) (now (list .entry))) (now (work .entry)) parent (now (name .entry)) (now (padding .entry))
+        (beside (gives (r .answer) (r .inode) (tables (now («dir_hash» .exit)) (now («dir_table» .exit)) (now («file_hash» .entry)) (now («file_table» .entry))) (opens (now (opened .exit)) (now (list .exit)))) (now (work .exit)))) ⌝ }
 {
-    let gated = tree_test::open_gate(
-        dir_hash,
-        dir_table,
-        file_hash,
-        file_table,
-        opens.len(),
-        dir_table.len() / SaveExtDirEntry::WIDTH,
-        work,
-    );
+    let k = *opened;
+    let gated = tree_test::open_gate(dir_hash, dir_table, file_hash, file_table, list, k, work);
     match gated {
         Gated::Refused { answer } => Made { answer, inode: 0 },
         Gated::Open => tree_inner::make::make_dir(
@@ -43,7 +36,8 @@ pub fn make_dir(
             dir_table,
             file_hash,
             file_table,
-            opens,
+            list,
+            opened,
             parent,
             name,
             padding,
@@ -58,24 +52,18 @@ pub fn make_file(
     file_hash: &mut [u8],
     file_table: &mut [u8],
     work: &mut [u32],
-    opens: &mut [u32],
+    list: &mut [u32],
+    opened: &mut usize,
     parent: u32,
     name: &[u8; 16],
     carried: &[u8; 20],
 ) -> Made
     ensures { λ r. ⌜ (let s : Tables = tables (now («dir_hash» .entry)) (now («dir_table» .entry)) (now («file_hash» .entry)) (now («file_table» .entry)) in
-        MakeFilePromise s (now (opens .entry)) (now (work .entry)) parent (now (name .entry)) (now (carried .entry))
-        (beside (makeGives (r .answer) (r .inode) (tables (now («dir_hash» .entry)) (now («dir_table» .exit)) (now («file_hash» .exit)) (now («file_table» .exit))) (now (opens .exit))) (now (work .exit)))) ⌝ }
+        PackedMake File s (opens (now (opened .entry)) (now (list .entry))) (now (work .entry)) parent (now (name .entry)) (now (carried .entry))
+        (beside (gives (r .answer) (r .inode) (tables (now («dir_hash» .entry)) (now («dir_table» .exit)) (now («file_hash» .exit)) (now («file_table» .exit))) (opens (now (opened .exit)) (now (list .exit)))) (now (work .exit)))) ⌝ }
 {
-    let gated = tree_test::open_gate(
-        dir_hash,
-        dir_table,
-        file_hash,
-        file_table,
-        opens.len(),
-        file_table.len() / SaveExtFileEntry::WIDTH,
-        work,
-    );
+    let k = *opened;
+    let gated = tree_test::open_gate(dir_hash, dir_table, file_hash, file_table, list, k, work);
     match gated {
         Gated::Refused { answer } => Made { answer, inode: 0 },
         Gated::Open => tree_inner::make::make_file(
@@ -83,7 +71,8 @@ pub fn make_file(
             dir_table,
             file_hash,
             file_table,
-            opens,
+            list,
+            opened,
             parent,
             name,
             carried,
@@ -98,22 +87,23 @@ pub fn rename_dir(
     file_hash: &[u8],
     file_table: &[u8],
     work: &mut [u32],
-    opens: &[u32],
+    list: &[u32],
+    opened: usize,
     inode: u32,
     parent: u32,
     name: &[u8; 16],
 ) -> Answer
     ensures { λ r. ⌜ (let s : Tables = tables (now («dir_hash» .entry)) (now («dir_table» .entry)) (now («file_hash» .entry)) (now («file_table» .entry)) in
-        RenameDirPromise s (now (opens .entry)) (now (work .entry)) inode parent (now (name .entry))
-        (beside (changeGives r (tables (now («dir_hash» .exit)) (now («dir_table» .exit)) (now («file_hash» .entry)) (now («file_table» .entry))) (now (opens .entry))) (now (work .exit)))) ⌝ }
+        PackedRename Directory s (opens opened (now (list .entry))) (now (work .entry)) inode parent (now (name .entry))
+        (beside (gives r 0 (tables (now («dir_hash» .exit)) (now («dir_table» .exit)) (now («file_hash» .entry)) (now («file_table» .entry))) (opens opened (now (list .entry)))) (now (work .exit)))) ⌝ }
 {
     let gated = tree_test::open_gate(
         dir_hash,
         dir_table,
         file_hash,
         file_table,
-        opens.len(),
-        dir_table.len() / SaveExtDirEntry::WIDTH,
+        list,
+        opened,
         work,
     );
     match gated {
@@ -123,7 +113,8 @@ pub fn rename_dir(
             dir_table,
             file_hash,
             file_table,
-            opens,
+            list,
+            opened,
             inode,
             parent,
             name,
@@ -138,22 +129,23 @@ pub fn rename_file(
     file_hash: &mut [u8],
     file_table: &mut [u8],
     work: &mut [u32],
-    opens: &[u32],
+    list: &[u32],
+    opened: usize,
     inode: u32,
     parent: u32,
     name: &[u8; 16],
 ) -> Answer
     ensures { λ r. ⌜ (let s : Tables = tables (now («dir_hash» .entry)) (now («dir_table» .entry)) (now («file_hash» .entry)) (now («file_table» .entry)) in
-        RenameFilePromise s (now (opens .entry)) (now (work .entry)) inode parent (now (name .entry))
-        (beside (changeGives r (tables (now («dir_hash» .entry)) (now («dir_table» .exit)) (now («file_hash» .exit)) (now («file_table» .exit))) (now (opens .entry))) (now (work .exit)))) ⌝ }
+        PackedRename File s (opens opened (now (list .entry))) (now (work .entry)) inode parent (now (name .entry))
+        (beside (gives r 0 (tables (now («dir_hash» .entry)) (now («dir_table» .exit)) (now («file_hash» .exit)) (now («file_table» .exit))) (opens opened (now (list .entry)))) (now (work .exit)))) ⌝ }
 {
     let gated = tree_test::open_gate(
         dir_hash,
         dir_table,
         file_hash,
         file_table,
-        opens.len(),
-        file_table.len() / SaveExtFileEntry::WIDTH,
+        list,
+        opened,
         work,
     );
     match gated {
@@ -163,7 +155,8 @@ pub fn rename_file(
             dir_table,
             file_hash,
             file_table,
-            opens,
+            list,
+            opened,
             inode,
             parent,
             name,
@@ -178,22 +171,16 @@ pub fn delete_dir(
     file_hash: &[u8],
     file_table: &[u8],
     work: &mut [u32],
-    opens: &mut [u32],
+    list: &mut [u32],
+    opened: &mut usize,
     inode: u32,
 ) -> Answer
     ensures { λ r. ⌜ (let s : Tables = tables (now («dir_hash» .entry)) (now («dir_table» .entry)) (now («file_hash» .entry)) (now («file_table» .entry)) in
-        DeleteDirPromise s (now (opens .entry)) (now (work .entry)) inode
-        (beside (changeGives r (tables (now («dir_hash» .exit)) (now («dir_table» .exit)) (now («file_hash» .entry)) (now («file_table» .entry))) (now (opens .exit))) (now (work .exit)))) ⌝ }
+        PackedDelete Directory s (opens (now (opened .entry)) (now (list .entry))) (now (work .entry)) inode
+        (beside (gives r 0 (tables (now («dir_hash» .exit)) (now («dir_table» .exit)) (now («file_hash» .entry)) (now («file_table» .entry))) (opens (now (opened .exit)) (now (list .exit)))) (now (work .exit)))) ⌝ }
 {
-    let gated = tree_test::open_gate(
-        dir_hash,
-        dir_table,
-        file_hash,
-        file_table,
-        opens.len(),
-        dir_table.len() / SaveExtDirEntry::WIDTH,
-        work,
-    );
+    let k = *opened;
+    let gated = tree_test::open_gate(dir_hash, dir_table, file_hash, file_table, list, k, work);
     match gated {
         Gated::Refused { answer } => answer,
         Gated::Open => tree_inner::change::delete_dir(
@@ -201,7 +188,8 @@ pub fn delete_dir(
             dir_table,
             file_hash,
             file_table,
-            opens,
+            list,
+            opened,
             inode,
         ),
     }
@@ -214,22 +202,16 @@ pub fn delete_file(
     file_hash: &mut [u8],
     file_table: &mut [u8],
     work: &mut [u32],
-    opens: &mut [u32],
+    list: &mut [u32],
+    opened: &mut usize,
     inode: u32,
 ) -> Answer
     ensures { λ r. ⌜ (let s : Tables = tables (now («dir_hash» .entry)) (now («dir_table» .entry)) (now («file_hash» .entry)) (now («file_table» .entry)) in
-        DeleteFilePromise s (now (opens .entry)) (now (work .entry)) inode
-        (beside (changeGives r (tables (now («dir_hash» .entry)) (now («dir_table» .exit)) (now («file_hash» .exit)) (now («file_table» .exit))) (now (opens .exit))) (now (work .exit)))) ⌝ }
+        PackedDelete File s (opens (now (opened .entry)) (now (list .entry))) (now (work .entry)) inode
+        (beside (gives r 0 (tables (now («dir_hash» .entry)) (now («dir_table» .exit)) (now («file_hash» .exit)) (now («file_table» .exit))) (opens (now (opened .exit)) (now (list .exit)))) (now (work .exit)))) ⌝ }
 {
-    let gated = tree_test::open_gate(
-        dir_hash,
-        dir_table,
-        file_hash,
-        file_table,
-        opens.len(),
-        file_table.len() / SaveExtFileEntry::WIDTH,
-        work,
-    );
+    let k = *opened;
+    let gated = tree_test::open_gate(dir_hash, dir_table, file_hash, file_table, list, k, work);
     match gated {
         Gated::Refused { answer } => answer,
         Gated::Open => tree_inner::change::delete_file(
@@ -237,7 +219,8 @@ pub fn delete_file(
             dir_table,
             file_hash,
             file_table,
-            opens,
+            list,
+            opened,
             inode,
         ),
     }

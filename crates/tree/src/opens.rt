@@ -1,8 +1,9 @@
-// The public calls on open records: open and close. Opening says which it wants, a reader's open or the writer's; closing says which it gives back.
+// The public calls on open records: open and close, over a packed list of them and the number of records in it. Opening says which it wants, a reader's open or the writer's; closing says which it gives back.
 ghost use Rattle.order.specs.Beside.{beside};
 ghost use Rattle.tree_sound.specs.Tables.{Tables, tables};
-ghost use Rattle.tree_promises.specs.Calls.{openingGives};
-ghost use Rattle.tree_promises.specs.Public.{OpenDirPromise, OpenFilePromise, CloseDirPromise, CloseFilePromise};
+ghost use Rattle.tree_packed.specs.Opens.{opens};
+ghost use Rattle.tree_promises.specs.declared.Kind.the-variants.{Directory, File};
+ghost use Rattle.tree_promises.specs.Packed.{gives, PackedOpen, PackedClose};
 use order::Answer;
 use tree_key::SaveExtDirEntry;
 use tree_key::SaveExtFileEntry;
@@ -16,29 +17,25 @@ pub fn open_dir(
     file_hash: &[u8],
     file_table: &[u8],
     work: &mut [u32],
-    opens: &mut [u32],
+    list: &mut [u32],
+    opened: &mut usize,
     inode: u32,
     want: Want,
 ) -> Answer
     ensures { λ r. ⌜ (let s : Tables = tables (now («dir_hash» .entry)) (now («dir_table» .entry)) (now («file_hash» .entry)) (now («file_table» .entry)) in
-        OpenDirPromise s (now (opens .entry)) (now (work .entry)) inode want (beside (openingGives r (now (opens .exit))) (now (work .exit)))) ⌝ }
+        PackedOpen Directory s (opens (now (opened .entry)) (now (list .entry))) (now (work .entry)) inode want
+        (beside (gives r 0 s (opens (now (opened .exit)) (now (list .exit)))) (now (work .exit)))) ⌝ }
 {
-    let gated = tree_test::open_gate(
-        dir_hash,
-        dir_table,
-        file_hash,
-        file_table,
-        opens.len(),
-        dir_table.len() / SaveExtDirEntry::WIDTH,
-        work,
-    );
+    let k = *opened;
+    let gated = tree_test::open_gate(dir_hash, dir_table, file_hash, file_table, list, k, work);
     match gated {
         Gated::Refused { answer } => answer,
         Gated::Open => tree_inner::look::open(
             dir_hash,
             dir_table,
             SaveExtDirEntry::WIDTH,
-            opens,
+            list,
+            opened,
             inode,
             want,
         ),
@@ -52,29 +49,25 @@ pub fn open_file(
     file_hash: &[u8],
     file_table: &[u8],
     work: &mut [u32],
-    opens: &mut [u32],
+    list: &mut [u32],
+    opened: &mut usize,
     inode: u32,
     want: Want,
 ) -> Answer
     ensures { λ r. ⌜ (let s : Tables = tables (now («dir_hash» .entry)) (now («dir_table» .entry)) (now («file_hash» .entry)) (now («file_table» .entry)) in
-        OpenFilePromise s (now (opens .entry)) (now (work .entry)) inode want (beside (openingGives r (now (opens .exit))) (now (work .exit)))) ⌝ }
+        PackedOpen File s (opens (now (opened .entry)) (now (list .entry))) (now (work .entry)) inode want
+        (beside (gives r 0 s (opens (now (opened .exit)) (now (list .exit)))) (now (work .exit)))) ⌝ }
 {
-    let gated = tree_test::open_gate(
-        dir_hash,
-        dir_table,
-        file_hash,
-        file_table,
-        opens.len(),
-        file_table.len() / SaveExtFileEntry::WIDTH,
-        work,
-    );
+    let k = *opened;
+    let gated = tree_test::open_gate(dir_hash, dir_table, file_hash, file_table, list, k, work);
     match gated {
         Gated::Refused { answer } => answer,
         Gated::Open => tree_inner::look::open(
             file_hash,
             file_table,
             SaveExtFileEntry::WIDTH,
-            opens,
+            list,
+            opened,
             inode,
             want,
         ),
@@ -88,29 +81,25 @@ pub fn close_dir(
     file_hash: &[u8],
     file_table: &[u8],
     work: &mut [u32],
-    opens: &mut [u32],
+    list: &mut [u32],
+    opened: &mut usize,
     inode: u32,
     want: Want,
 ) -> Answer
     ensures { λ r. ⌜ (let s : Tables = tables (now («dir_hash» .entry)) (now («dir_table» .entry)) (now («file_hash» .entry)) (now («file_table» .entry)) in
-        CloseDirPromise s (now (opens .entry)) (now (work .entry)) inode want (beside (openingGives r (now (opens .exit))) (now (work .exit)))) ⌝ }
+        PackedClose Directory s (opens (now (opened .entry)) (now (list .entry))) (now (work .entry)) inode want
+        (beside (gives r 0 s (opens (now (opened .exit)) (now (list .exit)))) (now (work .exit)))) ⌝ }
 {
-    let gated = tree_test::open_gate(
-        dir_hash,
-        dir_table,
-        file_hash,
-        file_table,
-        opens.len(),
-        dir_table.len() / SaveExtDirEntry::WIDTH,
-        work,
-    );
+    let k = *opened;
+    let gated = tree_test::open_gate(dir_hash, dir_table, file_hash, file_table, list, k, work);
     match gated {
         Gated::Refused { answer } => answer,
         Gated::Open => tree_inner::look::close(
             dir_hash,
             dir_table,
             SaveExtDirEntry::WIDTH,
-            opens,
+            list,
+            opened,
             inode,
             want,
         ),
@@ -124,29 +113,25 @@ pub fn close_file(
     file_hash: &[u8],
     file_table: &[u8],
     work: &mut [u32],
-    opens: &mut [u32],
+    list: &mut [u32],
+    opened: &mut usize,
     inode: u32,
     want: Want,
 ) -> Answer
     ensures { λ r. ⌜ (let s : Tables = tables (now («dir_hash» .entry)) (now («dir_table» .entry)) (now («file_hash» .entry)) (now («file_table» .entry)) in
-        CloseFilePromise s (now (opens .entry)) (now (work .entry)) inode want (beside (openingGives r (now (opens .exit))) (now (work .exit)))) ⌝ }
+        PackedClose File s (opens (now (opened .entry)) (now (list .entry))) (now (work .entry)) inode want
+        (beside (gives r 0 s (opens (now (opened .exit)) (now (list .exit)))) (now (work .exit)))) ⌝ }
 {
-    let gated = tree_test::open_gate(
-        dir_hash,
-        dir_table,
-        file_hash,
-        file_table,
-        opens.len(),
-        file_table.len() / SaveExtFileEntry::WIDTH,
-        work,
-    );
+    let k = *opened;
+    let gated = tree_test::open_gate(dir_hash, dir_table, file_hash, file_table, list, k, work);
     match gated {
         Gated::Refused { answer } => answer,
         Gated::Open => tree_inner::look::close(
             file_hash,
             file_table,
             SaveExtFileEntry::WIDTH,
-            opens,
+            list,
+            opened,
             inode,
             want,
         ),

@@ -23,15 +23,15 @@ use Rattle.tree_table.proofs.Chain.{member-in, not-member}
 use Rattle.tree_table.proofs.Field.{length-wrote}
 use Rattle.tree_table.proofs.Table.{not-zero}
 use Rattle.tree_sound.specs.Sound.{up}
-use Rattle.tree_opens.specs.Opens.{withOpen, Counted, AllCounted}
-use Rattle.tree_promises.specs.Kinds.{kindRoom}
+use Rattle.tree_packed.specs.Opens.{Opens, opens, recordOf, withRecord}
 use Rattle.tree_sound.specs.Tables.{Tables, tables, dirs, files}
 use Rattle.tree_promises.specs.declared.Kind.the-variants.{Directory, File}
 use Rattle.tree_promises.specs.Legal.{legal}
 use Rattle.tree_promises.specs.Has.{above, Has, HasOther}
 use Rattle.tree_promises.specs.Steps.{unlinkedFrom, linkedTo}
 use Rattle.order.specs.Giving.{giving}
-use Rattle.tree_promises.specs.Calls.{heldTests, aloneTests, deleteTests, renameTests, makeTests, changeGives, deleteRows, deleteDone, renameDone}
+use Rattle.tree_promises.specs.Calls.{heldTestsOf, aloneTestsOf, deleteTestsOf, renameTestsOf, makeTests}
+use Rattle.tree_promises.specs.Packed.{gives, refuse, Inside, deleteTests, deleteDone, renameDone}
 use Rattle.tree_promises.specs.inner.Ready.{Ready, ReadyOpens, LiveAt, Single, alone}
 use Rattle.tree_inner.specs.inner.Seat.{InParent}
 use Rattle.tree_inner.specs.inner.Judge.{JudgedBy}
@@ -140,46 +140,46 @@ bad-name name {r} e h = sym e ∙ not-true r h
 pub good-name : (name : List ℕ) {r : Bool} → r ≡ legal name → not r ≡ false → legal name ≡ false → ⊥
 good-name name {r} e h z = false≢true (sym z ∙ sym e ∙ not-false r h)
 
-module _ (s : Tables) (opens : List ℕ) (x p : ℕ) (name : List ℕ) where
-  module _ (held : None (heldTests (files s) opens x)) where
-    pub file-named : legal name ≡ false → Given (renameTests File s opens x p name) InvalidValue
+module _ (s : Tables) (held-by x p : ℕ) (name : List ℕ) where
+  module _ (held : None (heldTestsOf (files s) held-by x)) where
+    pub file-named : legal name ≡ false → Given (renameTestsOf File s held-by x p name) InvalidValue
     file-named e = inr (held .0, inr (held .1 .0, inl (e, refl)))
 
     module _ (ok : legal name ≡ false → ⊥) {r : Bool} (T : Tells (LiveIn (dirs s) p) r) where
-      pub file-parent : r ≡ false → Given (renameTests File s opens x p name) NotFound
+      pub file-parent : r ≡ false → Given (renameTestsOf File s held-by x p name) NotFound
       file-parent e = inr (held .0, inr (held .1 .0, inr (ok, inl (tells-not T e, refl))))
 
-      pub file-exists : {q : Bool} → r ≡ true → Tells (HasOther (files s) x (nameKey p name)) q → q ≡ true → Given (renameTests File s opens x p name) AlreadyExist
+      pub file-exists : {q : Bool} → r ≡ true → Tells (HasOther (files s) x (nameKey p name)) q → q ≡ true → Given (renameTestsOf File s held-by x p name) AlreadyExist
       file-exists e O f = inr (held .0, inr (held .1 .0, inr (ok, inr (λ n. n (T .yes e), inl (O .yes f, refl)))))
 
-      pub file-go : {q : Bool} → r ≡ true → Tells (HasOther (files s) x (nameKey p name)) q → q ≡ false → None (renameTests File s opens x p name)
+      pub file-go : {q : Bool} → r ≡ true → Tells (HasOther (files s) x (nameKey p name)) q → q ≡ false → None (renameTestsOf File s held-by x p name)
       file-go e O f = (held .0, (held .1 .0, (ok, (λ n. n (T .yes e), (tells-not O f, tt)))))
 
-  module _ (held : None (heldTests (dirs s) opens x)) where
-    pub dir-first : x ≡ 1 → Given (renameTests Directory s opens x p name) DeletingRoot
+  module _ (held : None (heldTestsOf (dirs s) held-by x)) where
+    pub dir-first : x ≡ 1 → Given (renameTestsOf Directory s held-by x p name) DeletingRoot
     dir-first e = inr (held .0, inr (held .1 .0, inl (e, refl)))
 
-    pub dir-named : (x ≡ 1 → ⊥) → legal name ≡ false → Given (renameTests Directory s opens x p name) InvalidValue
+    pub dir-named : (x ≡ 1 → ⊥) → legal name ≡ false → Given (renameTestsOf Directory s held-by x p name) InvalidValue
     dir-named n1 e = inr (held .0, inr (held .1 .0, inr (n1, inl (e, refl))))
 
     module _ (n1 : x ≡ 1 → ⊥) (ok : legal name ≡ false → ⊥) {r : Bool} (T : Tells (LiveIn (dirs s) p) r) where
-      pub dir-parent : r ≡ false → Given (renameTests Directory s opens x p name) NotFound
+      pub dir-parent : r ≡ false → Given (renameTestsOf Directory s held-by x p name) NotFound
       dir-parent e = inr (held .0, inr (held .1 .0, inr (n1, inr (ok, inl (tells-not T e, refl)))))
 
       module _ (e : r ≡ true) {m : Bool} (em : m ≡ member x (listAt (s .dirTable) 40 0 p)) (R : Ready s) where
         into : m ≡ true → x ∈ above (dirs s) p
         into f = subst (λ z. x ∈ z) (above-list s R p (T .yes e)) (member-in x (listAt (s .dirTable) 40 0 p) (sym em ∙ f))
 
-        pub dir-into : m ≡ true → Given (renameTests Directory s opens x p name) IntoItself
+        pub dir-into : m ≡ true → Given (renameTestsOf Directory s held-by x p name) IntoItself
         dir-into f = inr (held .0, inr (held .1 .0, inr (n1, inr (ok, inr (λ n. n (T .yes e), inl (into f, refl))))))
 
         apart : m ≡ false → x ∈ above (dirs s) p → ⊥
         apart f i = not-member x (listAt (s .dirTable) 40 0 p) (sym em ∙ f) (subst (λ z. x ∈ z) (sym (above-list s R p (T .yes e))) i)
 
-        pub dir-exists : {q : Bool} → m ≡ false → Tells (HasOther (dirs s) x (nameKey p name)) q → q ≡ true → Given (renameTests Directory s opens x p name) AlreadyExist
+        pub dir-exists : {q : Bool} → m ≡ false → Tells (HasOther (dirs s) x (nameKey p name)) q → q ≡ true → Given (renameTestsOf Directory s held-by x p name) AlreadyExist
         dir-exists f O g = inr (held .0, inr (held .1 .0, inr (n1, inr (ok, inr (λ n. n (T .yes e), inr (apart f, inl (O .yes g, refl)))))))
 
-        pub dir-free : {q : Bool} → m ≡ false → Tells (HasOther (dirs s) x (nameKey p name)) q → q ≡ false → None (renameTests Directory s opens x p name)
+        pub dir-free : {q : Bool} → m ≡ false → Tells (HasOther (dirs s) x (nameKey p name)) q → q ≡ false → None (renameTestsOf Directory s held-by x p name)
         dir-free f O g = (held .0, (held .1 .0, (n1, (ok, (λ n. n (T .yes e), (apart f, (tells-not O g, tt)))))))
 
 pub make-named : (s : Tables) (v : View) (p : ℕ) (name : List ℕ) → legal name ≡ false → Given (makeTests s v p name) InvalidValue
@@ -212,38 +212,38 @@ call-refused g d tests j a J e = given-first g d tests a (subst (JudgedBy tests)
 pub call-done : {A : Type 0} (g : Answer → A) (d o : A) (tests : List (Row Answer)) → None tests → o ≡ d → First (giving g tests) d o
 call-done g d o tests n e = subst (λ z. First (giving g tests) d z) (sym e) (none-first g d tests n)
 
-pub deleted-file : (dh d h f d′ h′ f1 f2 opens opens′ : List ℕ) (x : ℕ) → d′ ≡ unlinkedFrom File (tables [] d h f) x .dirTable → h′ ≡ unlinkedFrom File (tables [] d h f) x .fileHash
-    → f1 ≡ unlinkedFrom File (tables [] d h f) x .fileTable → f2 ≡ wrote 48 f1 (giveWrites 48 (field 48 f1) x) → opens′ ≡ withOpen opens x 0
-    → changeGives Done (tables dh d′ h′ f2) opens′ ≡ deleteDone File (tables dh d h f) opens x
-deleted-file dh d h f d′ h′ f1 f2 opens opens′ x ed eh e1 e2 eo =
-    ap (λ z. changeGives Done (tables dh d′ h′ f2) z) eo
-    ∙ ap (λ z. changeGives Done (tables dh z h′ f2) (withOpen opens x 0)) ed
-    ∙ ap₂ (λ y z. changeGives Done (tables dh (unlinkedFrom File (tables [] d h f) x .dirTable) y z) (withOpen opens x 0)) eh
+pub deleted-file : (dh d h f d′ h′ f1 f2 : List ℕ) (o o′ : Opens) (x : ℕ) → d′ ≡ unlinkedFrom File (tables [] d h f) x .dirTable → h′ ≡ unlinkedFrom File (tables [] d h f) x .fileHash
+    → f1 ≡ unlinkedFrom File (tables [] d h f) x .fileTable → f2 ≡ wrote 48 f1 (giveWrites 48 (field 48 f1) x) → o′ ≡ withRecord o x 0
+    → gives Done 0 (tables dh d′ h′ f2) o′ ≡ deleteDone File (tables dh d h f) o x
+deleted-file dh d h f d′ h′ f1 f2 o o′ x ed eh e1 e2 eo =
+    ap (λ (z : Opens). gives Done 0 (tables dh d′ h′ f2) z) eo
+    ∙ ap (λ z. gives Done 0 (tables dh z h′ f2) (withRecord o x 0)) ed
+    ∙ ap₂ (λ y z. gives Done 0 (tables dh (unlinkedFrom File (tables [] d h f) x .dirTable) y z) (withRecord o x 0)) eh
     (e2 ∙ ap (λ z. wrote 48 z (giveWrites 48 (field 48 z) x)) e1)
 
-pub deleted-dir : (h d fh f h′ d1 d2 opens opens′ : List ℕ) (x : ℕ) → h′ ≡ unlinkedFrom Directory (tables h d [] []) x .dirHash → d1 ≡ unlinkedFrom Directory (tables h d [] []) x .dirTable
-    → d2 ≡ wrote 40 d1 (giveWrites 40 (field 40 d1) x) → opens′ ≡ withOpen opens x 0
-    → changeGives Done (tables h′ d2 fh f) opens′ ≡ deleteDone Directory (tables h d fh f) opens x
-deleted-dir h d fh f h′ d1 d2 opens opens′ x eh e1 e2 eo =
-    ap (λ z. changeGives Done (tables h′ d2 fh f) z) eo
-    ∙ ap₂ (λ y z. changeGives Done (tables y z fh f) (withOpen opens x 0)) eh (e2 ∙ ap (λ z. wrote 40 z (giveWrites 40 (field 40 z) x)) e1)
+pub deleted-dir : (h d fh f h′ d1 d2 : List ℕ) (o o′ : Opens) (x : ℕ) → h′ ≡ unlinkedFrom Directory (tables h d [] []) x .dirHash → d1 ≡ unlinkedFrom Directory (tables h d [] []) x .dirTable
+    → d2 ≡ wrote 40 d1 (giveWrites 40 (field 40 d1) x) → o′ ≡ withRecord o x 0
+    → gives Done 0 (tables h′ d2 fh f) o′ ≡ deleteDone Directory (tables h d fh f) o x
+deleted-dir h d fh f h′ d1 d2 o o′ x eh e1 e2 eo =
+    ap (λ (z : Opens). gives Done 0 (tables h′ d2 fh f) z) eo
+    ∙ ap₂ (λ y z. gives Done 0 (tables y z fh f) (withRecord o x 0)) eh (e2 ∙ ap (λ z. wrote 40 z (giveWrites 40 (field 40 z) x)) e1)
 
-pub renamed-file : (dh d h f d1 h1 f1 d2 h2 f2 opens : List ℕ) (x p : ℕ) (name : List ℕ)
+pub renamed-file : (dh d h f d1 h1 f1 d2 h2 f2 : List ℕ) (o : Opens) (x p : ℕ) (name : List ℕ)
     → d1 ≡ unlinkedFrom File (tables [] d h f) x .dirTable → h1 ≡ unlinkedFrom File (tables [] d h f) x .fileHash → f1 ≡ unlinkedFrom File (tables [] d h f) x .fileTable
     → d2 ≡ linkedTo File (tables [] d1 h1 f1) x p name .dirTable → h2 ≡ linkedTo File (tables [] d1 h1 f1) x p name .fileHash → f2 ≡ linkedTo File (tables [] d1 h1 f1) x p name .fileTable
-    → changeGives Done (tables dh d2 h2 f2) opens ≡ renameDone File (tables dh d h f) opens x p name
-renamed-file dh d h f d1 h1 f1 d2 h2 f2 opens x p name ed eh ef ed2 eh2 ef2 =
-    ap (λ z. changeGives Done (tables dh z h2 f2) opens) ed2
-    ∙ ap₂ (λ y z. changeGives Done (tables dh (linkedTo File (tables [] d1 h1 f1) x p name .dirTable) y z) opens) eh2 ef2
-    ∙ ap (λ z. changeGives Done (linkedTo File (tables dh z h1 f1) x p name) opens) ed
-    ∙ ap₂ (λ y z. changeGives Done (linkedTo File (tables dh (unlinkedFrom File (tables [] d h f) x .dirTable) y z) x p name) opens) eh ef
+    → gives Done 0 (tables dh d2 h2 f2) o ≡ renameDone File (tables dh d h f) o x p name
+renamed-file dh d h f d1 h1 f1 d2 h2 f2 o x p name ed eh ef ed2 eh2 ef2 =
+    ap (λ z. gives Done 0 (tables dh z h2 f2) o) ed2
+    ∙ ap₂ (λ y z. gives Done 0 (tables dh (linkedTo File (tables [] d1 h1 f1) x p name .dirTable) y z) o) eh2 ef2
+    ∙ ap (λ z. gives Done 0 (linkedTo File (tables dh z h1 f1) x p name) o) ed
+    ∙ ap₂ (λ y z. gives Done 0 (linkedTo File (tables dh (unlinkedFrom File (tables [] d h f) x .dirTable) y z) x p name) o) eh ef
 
-pub renamed-dir : (h d fh f h1 d1 h2 d2 opens : List ℕ) (x p : ℕ) (name : List ℕ) → h1 ≡ unlinkedFrom Directory (tables h d [] []) x .dirHash → d1 ≡ unlinkedFrom Directory (tables h d [] []) x .dirTable
+pub renamed-dir : (h d fh f h1 d1 h2 d2 : List ℕ) (o : Opens) (x p : ℕ) (name : List ℕ) → h1 ≡ unlinkedFrom Directory (tables h d [] []) x .dirHash → d1 ≡ unlinkedFrom Directory (tables h d [] []) x .dirTable
     → h2 ≡ linkedTo Directory (tables h1 d1 [] []) x p name .dirHash → d2 ≡ linkedTo Directory (tables h1 d1 [] []) x p name .dirTable
-    → changeGives Done (tables h2 d2 fh f) opens ≡ renameDone Directory (tables h d fh f) opens x p name
-renamed-dir h d fh f h1 d1 h2 d2 opens x p name eh ed eh2 ed2 =
-    ap₂ (λ y z. changeGives Done (tables y z fh f) opens) eh2 ed2
-    ∙ ap₂ (λ y z. changeGives Done (linkedTo Directory (tables y z fh f) x p name) opens) eh ed
+    → gives Done 0 (tables h2 d2 fh f) o ≡ renameDone Directory (tables h d fh f) o x p name
+renamed-dir h d fh f h1 d1 h2 d2 o x p name eh ed eh2 ed2 =
+    ap₂ (λ y z. gives Done 0 (tables y z fh f) o) eh2 ed2
+    ∙ ap₂ (λ y z. gives Done 0 (linkedTo Directory (tables y z fh f) x p name) o) eh ed
 
 -- the steps keep every length
 pub same-dirs : (h d : List ℕ) (x : ℕ) (d1 : List ℕ) → d1 ≡ unlinkedFrom Directory (tables h d [] []) x .dirTable → length d1 ≡ length d
@@ -265,8 +265,8 @@ pub other-key : (v : View) (x : ℕ) {k k′ : List ℕ} {r : Bool} → k ≡ k�
 other-key v x {k} {k′} {r} e T = subst (λ z. Tells (HasOther v x z) r) e T
 
 -- what the tests that passed say
-module _ (s : Tables) (R : Ready s) (opens : List ℕ) (x : ℕ) where
-  module _ (n : None (aloneTests (files s) opens x)) where
+module _ (s : Tables) (R : Ready s) (r x : ℕ) where
+  module _ (n : None (aloneTestsOf (files s) r x)) where
     gone-file : LiveIn (files s) x
     gone-file = live-sure 48 (s .fileTable) x (n .0)
 
@@ -277,10 +277,7 @@ module _ (s : Tables) (R : Ready s) (opens : List ℕ) (x : ℕ) where
     give-file-asks {f1} e =
         (omega (arith, file-listed s R x gone-file .inside, same-files (s .dirTable) (s .fileHash) (s .fileTable) x f1 e), omega arith, gone-file .0)
 
-    pub file-counted : AllCounted opens (kindRoom File s) → Counted opens x
-    file-counted room = let l : x < field 48 (s .fileTable) 0 1 = gone-file .1 in omega (arith, R .sound .files .table .count-max, R .sound .files .table .max-room)
-
-  module _ (n : None (deleteTests Directory s opens x)) where
+  module _ (n : None (deleteTestsOf Directory s r x)) where
     gone-dir : LiveIn (dirs s) x
     gone-dir = live-sure 40 (s .dirTable) x (n .0)
 
@@ -294,11 +291,8 @@ module _ (s : Tables) (R : Ready s) (opens : List ℕ) (x : ℕ) where
     give-dir-asks {d1} e =
         (omega (arith, dir-listed s R x gone-dir not-root .inside, same-dirs (s .dirHash) (s .dirTable) x d1 e), omega arith, gone-dir .0)
 
-    pub dir-counted : AllCounted opens (kindRoom Directory s) → Counted opens x
-    dir-counted room = let l : x < field 40 (s .dirTable) 0 1 = gone-dir .1 in omega (arith, R .sound .dirs .below .table .count-max, R .sound .dirs .below .table .max-room)
-
   module _ (p : ℕ) (name : List ℕ) where
-    module _ (n : None (renameTests File s opens x p name)) where
+    module _ (n : None (renameTestsOf File s r x p name)) where
       moved-file : LiveIn (files s) x
       moved-file = live-sure 48 (s .fileTable) x (n .0)
 
@@ -322,7 +316,7 @@ module _ (s : Tables) (R : Ready s) (opens : List ℕ) (x : ℕ) where
             subst (λ z. 0 < z / 4) (sym eh) (R .file-buckets),
           )
 
-    module _ (n : None (renameTests Directory s opens x p name)) where
+    module _ (n : None (renameTestsOf Directory s r x p name)) where
       moved-dir : LiveIn (dirs s) x
       moved-dir = live-sure 40 (s .dirTable) x (n .0)
 
@@ -345,33 +339,60 @@ module _ (s : Tables) (R : Ready s) (opens : List ℕ) (x : ℕ) where
             subst (λ z. 0 < z / 4) (sym eh) (R .dir-buckets),
           )
 
--- ---- the ends of delete, for `search`: what the tests that passed, the steps and the open records give together
+-- ---- the ends of delete, for `search`: what the tests that passed, the steps and the open records give together. r is the record that was found
 
-module _ (dh d h f opens : List ℕ) (x : ℕ) (j : Judged) where
-  pub delete-file-counted : ReadyOpens File (tables dh d h f) opens → JudgedBy (aloneTests (alone 48 f) opens x) j → j ≡ Go → Counted opens x
-  delete-file-counted R J go = file-counted (tables dh d h f) (R .ready) opens x (passed (aloneTests (alone 48 f) opens x) j J go) (R .counted)
-
-  pub delete-dir-counted : ReadyOpens Directory (tables dh d h f) opens → JudgedBy (deleteTests Directory (tables dh d [] []) opens x) j → j ≡ Go → Counted opens x
-  delete-dir-counted R J go = dir-counted (tables dh d h f) (R .ready) opens x (passed (deleteTests Directory (tables dh d [] []) opens x) j J go) (R .counted)
-
-module _ (dh d h f opens : List ℕ) (x : ℕ) (j : Judged) (go : j ≡ Go) where
+module _ (dh d h f l : List ℕ) (k r x : ℕ) (j : Judged) (er : r ≡ recordOf (opens k l) x) where
   abbrev here : Tables
   here = tables dh d h f
 
-  module _ (J : JudgedBy (aloneTests (files here) opens x) j) where
-    pub delete-file-done : (d′ h′ f1 f2 opens′ : List ℕ)
-        → (d′ ≡ unlinkedFrom File (tables [] d h f) x .dirTable) × (h′ ≡ unlinkedFrom File (tables [] d h f) x .fileHash) × (f1 ≡ unlinkedFrom File (tables [] d h f) x .fileTable)
-        → f2 ≡ wrote 48 f1 (giveWrites 48 (field 48 f1) x) → opens′ ≡ withOpen opens x 0
-        → First (deleteRows File here opens x) (deleteDone File here opens x) (changeGives Done (tables dh d′ h′ f2) opens′)
-    delete-file-done d′ h′ f1 f2 opens′ u e eo =
-        call-done (λ a. changeGives a here opens) (deleteDone File here opens x) (changeGives Done (tables dh d′ h′ f2) opens′) (aloneTests (files here) opens x)
-        (passed (aloneTests (files here) opens x) j J go) (deleted-file dh d h f d′ h′ f1 f2 opens opens′ x (u .0) (u .1) (u .2) e eo)
+  abbrev o : Opens
+  o = opens k l
 
-  module _ (J : JudgedBy (deleteTests Directory here opens x) j) where
-    pub delete-dir-done : (h′ d1 d2 opens′ : List ℕ)
+  pub delete-file-no : (a : Answer) → JudgedBy (aloneTestsOf (alone 48 f) r x) j → j ≡ Refused a
+      → Inside (tables dh d h f) (opens k l) (deleteTests File (tables dh d h f) (opens k l) x) (deleteDone File (tables dh d h f) (opens k l) x) (gives a 0 (tables dh d h f) (opens k l))
+  delete-file-no a J e =
+      call-refused (refuse here o) (deleteDone File here o x) (deleteTests File here o x) j a (subst (λ z. JudgedBy (aloneTestsOf (files here) z x) j) er J) e
+
+  pub delete-dir-no : (a : Answer) → JudgedBy (deleteTestsOf Directory (tables dh d [] []) r x) j → j ≡ Refused a
+      → Inside (tables dh d h f) (opens k l) (deleteTests Directory (tables dh d h f) (opens k l) x) (deleteDone Directory (tables dh d h f) (opens k l) x) (gives a 0 (tables dh d h f) (opens k l))
+  delete-dir-no a J e =
+      call-refused (refuse here o) (deleteDone Directory here o x) (deleteTests Directory here o x) j a (subst (λ z. JudgedBy (deleteTestsOf Directory here z x) j) er J) e
+
+  module _ (go : j ≡ Go) (k′ : ℕ) (l′ : List ℕ) where
+    pub delete-file-done : (d′ h′ f1 f2 : List ℕ) → JudgedBy (aloneTestsOf (alone 48 f) r x) j
+        → (d′ ≡ unlinkedFrom File (tables [] d h f) x .dirTable) × (h′ ≡ unlinkedFrom File (tables [] d h f) x .fileHash) × (f1 ≡ unlinkedFrom File (tables [] d h f) x .fileTable)
+        → f2 ≡ wrote 48 f1 (giveWrites 48 (field 48 f1) x) → opens k′ l′ ≡ withRecord (opens k l) x 0
+        → Inside (tables dh d h f) (opens k l) (deleteTests File (tables dh d h f) (opens k l) x) (deleteDone File (tables dh d h f) (opens k l) x) (gives Done 0 (tables dh d′ h′ f2) (opens k′ l′))
+    delete-file-done d′ h′ f1 f2 J u e eo =
+        call-done (refuse here o) (deleteDone File here o x) (gives Done 0 (tables dh d′ h′ f2) (opens k′ l′)) (deleteTests File here o x)
+        (passed (deleteTests File here o x) j (subst (λ z. JudgedBy (aloneTestsOf (files here) z x) j) er J) go)
+        (deleted-file dh d h f d′ h′ f1 f2 o (opens k′ l′) x (u .0) (u .1) (u .2) e eo)
+
+    pub delete-dir-done : (h′ d1 d2 : List ℕ) → JudgedBy (deleteTestsOf Directory (tables dh d [] []) r x) j
         → (h′ ≡ unlinkedFrom Directory (tables dh d [] []) x .dirHash) × (d1 ≡ unlinkedFrom Directory (tables dh d [] []) x .dirTable)
-        → d2 ≡ wrote 40 d1 (giveWrites 40 (field 40 d1) x) → opens′ ≡ withOpen opens x 0
-        → First (deleteRows Directory here opens x) (deleteDone Directory here opens x) (changeGives Done (tables h′ d2 h f) opens′)
-    delete-dir-done h′ d1 d2 opens′ u e eo =
-        call-done (λ a. changeGives a here opens) (deleteDone Directory here opens x) (changeGives Done (tables h′ d2 h f) opens′) (deleteTests Directory here opens x)
-        (passed (deleteTests Directory here opens x) j J go) (deleted-dir dh d h f h′ d1 d2 opens opens′ x (u .0) (u .1) e eo)
+        → d2 ≡ wrote 40 d1 (giveWrites 40 (field 40 d1) x) → opens k′ l′ ≡ withRecord (opens k l) x 0
+        → Inside (tables dh d h f) (opens k l) (deleteTests Directory (tables dh d h f) (opens k l) x) (deleteDone Directory (tables dh d h f) (opens k l) x) (gives Done 0 (tables h′ d2 h f) (opens k′ l′))
+    delete-dir-done h′ d1 d2 J u e eo =
+        call-done (refuse here o) (deleteDone Directory here o x) (gives Done 0 (tables h′ d2 h f) (opens k′ l′)) (deleteTests Directory here o x)
+        (passed (deleteTests Directory here o x) j (subst (λ z. JudgedBy (deleteTestsOf Directory here z x) j) er J) go)
+        (deleted-dir dh d h f h′ d1 d2 o (opens k′ l′) x (u .0) (u .1) e eo)
+
+-- ---- what the steps of delete and rename ask for, by the tests that passed, for `search`
+
+module _ (dh d h f l : List ℕ) (k r x : ℕ) (j : Judged) (R : ReadyOpens (tables dh d h f) (opens k l)) (go : j ≡ Go) where
+  module _ (J : JudgedBy (aloneTestsOf (alone 48 f) r x) j) where
+    pub unlink-file-may : Single h f 48 × LiveAt 48 f x × InParent d 28 f 48 x
+    unlink-file-may = delete-file-asks (tables dh d h f) (R .ready) r x (passed (aloneTestsOf (alone 48 f) r x) j J go)
+
+    pub give-file-may : {d′ h′ f1 : List ℕ}
+        → (d′ ≡ unlinkedFrom File (tables [] d h f) x .dirTable) × (h′ ≡ unlinkedFrom File (tables [] d h f) x .fileHash) × (f1 ≡ unlinkedFrom File (tables [] d h f) x .fileTable)
+        → (x * 48 + 48 ≤ length f1) × (4 ≤ 48) × (0 < x)
+    give-file-may u = give-file-asks (tables dh d h f) (R .ready) r x (passed (aloneTestsOf (alone 48 f) r x) j J go) (u .2)
+
+  module _ (J : JudgedBy (deleteTestsOf Directory (tables dh d [] []) r x) j) where
+    pub unlink-dir-may : Single dh d 40 × LiveAt 40 d x × InParent d 24 d 40 x
+    unlink-dir-may = delete-dir-asks (tables dh d h f) (R .ready) r x (passed (deleteTestsOf Directory (tables dh d h f) r x) j J go)
+
+    pub give-dir-may : {h′ d1 : List ℕ} → (h′ ≡ unlinkedFrom Directory (tables dh d [] []) x .dirHash) × (d1 ≡ unlinkedFrom Directory (tables dh d [] []) x .dirTable)
+        → (x * 40 + 40 ≤ length d1) × (4 ≤ 40) × (0 < x)
+    give-dir-may u = give-dir-asks (tables dh d h f) (R .ready) r x (passed (deleteTestsOf Directory (tables dh d h f) r x) j J go) (u .1)

@@ -26,10 +26,9 @@ use Rattle.tree_sound.specs.Tables.{Tables, tables}
 use Rattle.tree_promises.specs.declared.Kind.the-variants.{Directory}
 use Rattle.tree_promises.specs.Has.{HasOther}
 use Rattle.order.specs.Giving.{giving}
-use Rattle.tree_promises.specs.Calls.{heldTests, aloneTests, deleteTests}
-use Rattle.tree_opens.specs.Opens.{opened, Counted}
+use Rattle.tree_promises.specs.Calls.{heldTestsOf, aloneTestsOf, deleteTestsOf}
 use Rattle.tree_opens.specs.Record.{readers, writer}
-use Rattle.tree_promises.specs.inner.Ready.{LiveAt, Single, SingleOpens, alone, hashed}
+use Rattle.tree_promises.specs.inner.Ready.{LiveAt, Single, alone, hashed}
 use Rattle.tree_inner.specs.inner.Judge.{JudgedBy}
 use Rattle.tree_inner.specs.declared.judge.Judged.{Judged}
 use Rattle.tree_inner.specs.declared.judge.Judged.the-variants.{Go, Refused}
@@ -75,52 +74,48 @@ pub live-sure : (w : ℕ) (t : List ℕ) (x : ℕ) → ((LiveAt w t x → ⊥) �
 live-sure w t x n =
     (less-sure 0 x (λ k. n (λ l. k (l .0))), less-sure x (field w t 0 1) (λ k. n (λ l. k (l .1))), λ m. n (λ l. l .2 m))
 
-module _ (t : List ℕ) (w x : ℕ) (opens : List ℕ) (r : Bool) (T : Tells (LiveAt w t x) r) where
-  pub held-none : not r ≡ true → Given (heldTests (alone w t) opens x) NotFound
+module _ (t : List ℕ) (w x : ℕ) (opens : ℕ) (r : Bool) (T : Tells (LiveAt w t x) r) where
+  pub held-none : not r ≡ true → Given (heldTestsOf (alone w t) opens x) NotFound
   held-none e = inl (tells-not T (not-true r e), refl)
 
-  module _ (n : ℕ) (e : not r ≡ false) (count : n ≡ writer (opened opens x)) where
-    pub held-shut : n ≡ 0 → Given (heldTests (alone w t) opens x) NotOpen
+  module _ (n : ℕ) (e : not r ≡ false) (count : n ≡ writer opens) where
+    pub held-shut : n ≡ 0 → Given (heldTestsOf (alone w t) opens x) NotOpen
     held-shut g = inr (λ k. k (T .yes (not-false r e)), inl (sym count ∙ g, refl))
 
-    pub held-go : (n ≡ 0 → ⊥) → None (heldTests (alone w t) opens x)
+    pub held-go : (n ≡ 0 → ⊥) → None (heldTestsOf (alone w t) opens x)
     held-go g = (λ k. k (T .yes (not-false r e)), (λ z. g (count ∙ z), tt))
 
-module _ (t : List ℕ) (w x : ℕ) (opens : List ℕ) (j : Judged) (J : JudgedBy (heldTests (alone w t) opens x) j) (go : j ≡ Go) where
-  held : None (heldTests (alone w t) opens x)
-  held = passed (heldTests (alone w t) opens x) j J go
+module _ (t : List ℕ) (w x : ℕ) (opens : ℕ) (j : Judged) (J : JudgedBy (heldTestsOf (alone w t) opens x) j) (go : j ≡ Go) where
+  held : None (heldTestsOf (alone w t) opens x)
+  held = passed (heldTestsOf (alone w t) opens x) j J go
 
-  pub held-counted : (h : List ℕ) → SingleOpens h t w opens → Counted opens x
-  held-counted h S =
-      let l : x < field w t 0 1 = live-sure w t x (held .0) .1 in omega (arith, S .single .table .count-max, S .single .table .max-room, S .counted)
+  module _ (n : ℕ) (count : n ≡ readers opens) where
+    pub alone-busy : 0 < n → Given (aloneTestsOf (alone w t) opens x) Busy
+    alone-busy g = given-behind (heldTestsOf (alone w t) opens x) (row (0 < readers opens) Busy ∷ []) Busy held (inl (omega arith, refl))
 
-  module _ (n : ℕ) (count : n ≡ readers (opened opens x)) where
-    pub alone-busy : 0 < n → Given (aloneTests (alone w t) opens x) Busy
-    alone-busy g = given-behind (heldTests (alone w t) opens x) (row (0 < readers (opened opens x)) Busy ∷ []) Busy held (inl (omega arith, refl))
-
-    pub alone-go : n ≤ 0 → None (aloneTests (alone w t) opens x)
-    alone-go g = none-both (heldTests (alone w t) opens x) (row (0 < readers (opened opens x)) Busy ∷ []) held (λ (k : 0 < readers (opened opens x)). omega arith, tt)
+    pub alone-go : n ≤ 0 → None (aloneTestsOf (alone w t) opens x)
+    alone-go g = none-both (heldTestsOf (alone w t) opens x) (row (0 < readers opens) Busy ∷ []) held (λ (k : 0 < readers opens). omega arith, tt)
 
 -- the tests of one table by itself are those of the table among the four
-module _ {h d : List ℕ} (S : Single h d 40) (opens : List ℕ) (x : ℕ) (n : None (aloneTests (alone 40 d) opens x)) where
+module _ {h d : List ℕ} (S : Single h d 40) (opens : ℕ) (x : ℕ) (n : None (aloneTestsOf (alone 40 d) opens x)) where
   abbrev s : Tables
   s = tables h d [] []
 
   pub alone-fits : x * 40 + 40 ≤ length d
   alone-fits = let l = live-sure 40 d x (n .0) in inside d 40 x (field 40 d 0 1) (l .1) (all-fit h d 40 S)
 
-  pub dir-root : x ≡ 1 → Given (deleteTests Directory s opens x) DeletingRoot
+  pub dir-root : x ≡ 1 → Given (deleteTestsOf Directory s opens x) DeletingRoot
   dir-root e = inr (n .0, inr (n .1 .0, inr (n .1 .1 .0, inl (e, refl))))
 
-  pub dir-dirs : (u : ℕ) → (x ≡ 1 → ⊥) → u ≡ linkAt d 40 24 x → (u ≡ 0 → ⊥) → Given (deleteTests Directory s opens x) NotEmpty
+  pub dir-dirs : (u : ℕ) → (x ≡ 1 → ⊥) → u ≡ linkAt d 40 24 x → (u ≡ 0 → ⊥) → Given (deleteTestsOf Directory s opens x) NotEmpty
   unfolding field
   dir-dirs u r e z = inr (n .0, inr (n .1 .0, inr (n .1 .1 .0, inr (r, inl (inl (omega arith), refl)))))
 
-  pub dir-files : (u : ℕ) → (x ≡ 1 → ⊥) → u ≡ linkAt d 40 28 x → (u ≡ 0 → ⊥) → Given (deleteTests Directory s opens x) NotEmpty
+  pub dir-files : (u : ℕ) → (x ≡ 1 → ⊥) → u ≡ linkAt d 40 28 x → (u ≡ 0 → ⊥) → Given (deleteTestsOf Directory s opens x) NotEmpty
   unfolding field
   dir-files u r e z = inr (n .0, inr (n .1 .0, inr (n .1 .1 .0, inr (r, inl (inr (omega arith), refl)))))
 
-  pub dir-go : (u v : ℕ) → (x ≡ 1 → ⊥) → u ≡ linkAt d 40 24 x → u ≡ 0 → v ≡ linkAt d 40 28 x → v ≡ 0 → None (deleteTests Directory s opens x)
+  pub dir-go : (u v : ℕ) → (x ≡ 1 → ⊥) → u ≡ linkAt d 40 24 x → u ≡ 0 → v ≡ linkAt d 40 28 x → v ≡ 0 → None (deleteTestsOf Directory s opens x)
   unfolding field
   dir-go u v r eu zu ev zv =
       (n .0, (n .1 .0, (n .1 .1 .0, (r, (⊎-elim (λ (k : 0 < linkAt d 40 24 x). omega arith) (λ (k : 0 < linkAt d 40 28 x). omega arith), tt)))))

@@ -10,3 +10,4 @@ pub mod Names
 pub mod Judges
 pub mod Changes
 pub mod Makes
+pub mod Renames

@@ -1,15 +1,18 @@
 -- Make on sound tables, by the places of its code.
 use mathlib.Core.Path.{_≡_, refl, sym, ap, ap₂, _∙_, subst}
-use mathlib.Core.List.{List, [], _∷_}
+use mathlib.Core.Bool.{Bool, true, false, false≢true}
+use mathlib.Core.List.{List, [], _∷_, _++_}
 use mathlib.Core.Logic.{inl, _≢_}
 use Prim.Native.Nat.{ℕ, zero, suc, _+_, _-_, _*_, _/_, _≤_, _<_}
 use native.Mathlib.Omega.{arith}
 use native.Mathlib.Nat.{div-mul-le-self}
 use lib.Dec.{eqb}
 use lib.ListN.{length}
-use Rattle.order.specs.First.{First}
+use Rattle.order.specs.First.{Row, row}
 use Rattle.order.specs.Given.{None}
-use Rattle.order.specs.declared.Answer.the-variants.{Done}
+use Rattle.order.specs.declared.Answer.{Answer}
+use Rattle.order.specs.declared.Answer.the-variants.{Done, TooManyOpens}
+use Rattle.tree_table.specs.Chain.{linkAt}
 use Rattle.links.specs.Links.{_∈_, Links}
 use Rattle.links.specs.Change.{pick, walk}
 use Rattle.links.proofs.Laws.{by-eq}
@@ -17,22 +20,23 @@ use Rattle.tree_table.specs.Field.{field, write, wrote}
 use Rattle.tree_table.specs.View.{removedOf, LiveIn}
 use Rattle.tree_table.specs.Steps.{taken, takeWrites, freeOf}
 use Rattle.tree_table.proofs.Field.{length-wrote}
-use Rattle.tree_opens.specs.Opens.{withOpen, Counted, AllCounted}
+use Rattle.tree_packed.specs.Put.{IsFull}
+use Rattle.tree_packed.specs.Opens.{Opens, opens, withRecord, NoPlace}
 use Rattle.tree_opens.specs.Record.{writerAlone}
-use Rattle.tree_promises.specs.Kinds.{kindRoom}
 use Rattle.tree_sound.specs.Tables.{Tables, tables, dirs, files}
 use Rattle.tree_promises.specs.declared.Kind.the-variants.{Directory, File}
 use Rattle.tree_promises.specs.Steps.{linkedTo, withCarried, made}
-use Rattle.tree_promises.specs.Calls.{makeTests, makeRows, makeGives, makeDone}
+use Rattle.tree_promises.specs.Calls.{makeTests}
+use Rattle.tree_promises.specs.Packed.{gives, refuse, Inside, makeTestsIn, makeDone}
 use Rattle.tree_promises.specs.inner.Ready.{Ready, ReadyOpens, Single, alone, hashed}
 use Rattle.tree_inner.specs.inner.Take.{Takes}
 use Rattle.tree_inner.proofs.Lists.{inside, all-fit, dir-single, file-single}
 use Rattle.tree_inner.proofs.Live.{first-fits}
 use Rattle.tree_inner.specs.inner.Judge.{JudgedBy}
 use Rattle.tree_inner.specs.declared.judge.Judged.{Judged}
-use Rattle.tree_inner.specs.declared.judge.Judged.the-variants.{Go}
-use Rattle.tree_inner.proofs.Judges.{live-sure, passed}
-use Rattle.tree_inner.proofs.Changes.{call-done}
+use Rattle.tree_inner.specs.declared.judge.Judged.the-variants.{Go, Refused}
+use Rattle.tree_inner.proofs.Judges.{live-sure, passed, refused-still, given-behind, none-both}
+use Rattle.tree_inner.proofs.Changes.{call-done, call-refused}
 
 -- a list that does not start at 0 holds its first entry
 first-in : (next : ℕ → ℕ) (h : ℕ) (xs : List ℕ) → Links next h xs → h ≢ 0 → h ∈ xs
@@ -95,12 +99,6 @@ module _ (s : Tables) (R : Ready s) (p : ℕ) (name : List ℕ) where
   pub new-dir-asks : None (makeTests s (dirs s) p name) → Takes 40 (s .dirTable) × (p * 40 + 40 ≤ length (s .dirTable)) × (0 < length (s .dirHash) / 4)
   new-dir-asks n = (takes (dir-single s R) (n .1 .1 .1 .0), parent-fits (live-sure 40 (s .dirTable) p (n .1 .0)), R .dir-buckets)
 
-  pub new-file-counted : None (makeTests s (files s) p name) → (opens : List ℕ) → AllCounted opens (kindRoom File s) → (x : ℕ) → x ≡ taken (files s) → Counted opens x
-  new-file-counted n opens room x ex = omega (arith, takes (file-single s R) (n .1 .1 .1 .0) .low)
-
-  pub new-dir-counted : None (makeTests s (dirs s) p name) → (opens : List ℕ) → AllCounted opens (kindRoom Directory s) → (x : ℕ) → x ≡ taken (dirs s) → Counted opens x
-  new-dir-counted n opens room x ex = omega (arith, takes (dir-single s R) (n .1 .1 .1 .0) .low)
-
 -- what the code has made
 
 abbrev took : ℕ → List ℕ → List ℕ
@@ -138,60 +136,106 @@ made-dir h d d1 d2 h3 d3 d4 x p name padding ex e1 e2 eh ed e4 =
     )
 
 -- and what the call gives
-pub gave-file : (dh d h f d′ h′ f′ opens opens′ : List ℕ) (x p : ℕ) (name carried : List ℕ) → x ≡ taken (alone 48 f)
+pub gave-file : (dh d h f d′ h′ f′ : List ℕ) (o o′ : Opens) (x p : ℕ) (name carried : List ℕ) → x ≡ taken (alone 48 f)
     → d′ ≡ made File (tables [] d h f) p name carried .dirTable → h′ ≡ made File (tables [] d h f) p name carried .fileHash → f′ ≡ made File (tables [] d h f) p name carried .fileTable
-    → opens′ ≡ withOpen opens x writerAlone
-    → makeGives Done x (tables dh d′ h′ f′) opens′ ≡ makeDone File (tables dh d h f) opens p name carried
-gave-file dh d h f d′ h′ f′ opens opens′ x p name carried ex ed eh ef eo =
-    ap (λ z. makeGives Done x (tables dh d′ h′ f′) z) eo
-    ∙ ap (λ z. makeGives Done z (tables dh d′ h′ f′) (withOpen opens z writerAlone)) ex
-    ∙ ap (λ z. makeGives Done (taken (alone 48 f)) (tables dh z h′ f′) (withOpen opens (taken (alone 48 f)) writerAlone)) ed
-    ∙ ap₂ (λ y z. makeGives Done (taken (alone 48 f)) (tables dh (made File (tables [] d h f) p name carried .dirTable) y z) (withOpen opens (taken (alone 48 f)) writerAlone)) eh ef
+    → o′ ≡ withRecord o x writerAlone
+    → gives Done x (tables dh d′ h′ f′) o′ ≡ makeDone File (tables dh d h f) o p name carried
+gave-file dh d h f d′ h′ f′ o o′ x p name carried ex ed eh ef eo =
+    ap (λ (z : Opens). gives Done x (tables dh d′ h′ f′) z) eo
+    ∙ ap (λ z. gives Done z (tables dh d′ h′ f′) (withRecord o z writerAlone)) ex
+    ∙ ap (λ z. gives Done (taken (alone 48 f)) (tables dh z h′ f′) (withRecord o (taken (alone 48 f)) writerAlone)) ed
+    ∙ ap₂ (λ y z. gives Done (taken (alone 48 f)) (tables dh (made File (tables [] d h f) p name carried .dirTable) y z) (withRecord o (taken (alone 48 f)) writerAlone)) eh ef
 
-pub gave-dir : (h d fh f h′ d′ opens opens′ : List ℕ) (x p : ℕ) (name padding : List ℕ) → x ≡ taken (alone 40 d)
+pub gave-dir : (h d fh f h′ d′ : List ℕ) (o o′ : Opens) (x p : ℕ) (name padding : List ℕ) → x ≡ taken (alone 40 d)
     → h′ ≡ made Directory (tables h d [] []) p name padding .dirHash → d′ ≡ made Directory (tables h d [] []) p name padding .dirTable
-    → opens′ ≡ withOpen opens x writerAlone
-    → makeGives Done x (tables h′ d′ fh f) opens′ ≡ makeDone Directory (tables h d fh f) opens p name padding
-gave-dir h d fh f h′ d′ opens opens′ x p name padding ex eh ed eo =
-    ap (λ z. makeGives Done x (tables h′ d′ fh f) z) eo
-    ∙ ap (λ z. makeGives Done z (tables h′ d′ fh f) (withOpen opens z writerAlone)) ex
-    ∙ ap₂ (λ y z. makeGives Done (taken (alone 40 d)) (tables y z fh f) (withOpen opens (taken (alone 40 d)) writerAlone)) eh ed
+    → o′ ≡ withRecord o x writerAlone
+    → gives Done x (tables h′ d′ fh f) o′ ≡ makeDone Directory (tables h d fh f) o p name padding
+gave-dir h d fh f h′ d′ o o′ x p name padding ex eh ed eo =
+    ap (λ (z : Opens). gives Done x (tables h′ d′ fh f) z) eo
+    ∙ ap (λ z. gives Done z (tables h′ d′ fh f) (withRecord o z writerAlone)) ex
+    ∙ ap₂ (λ y z. gives Done (taken (alone 40 d)) (tables y z fh f) (withRecord o (taken (alone 40 d)) writerAlone)) eh ed
+
+-- ---- the place of the new record
+
+-- the entry that make uses
+pub next-first : (t : List ℕ) (w first : ℕ) → first ≡ linkAt t w (w - 4) 0 → (first ≡ 0 → ⊥) → first ≡ taken (alone w t)
+unfolding field
+next-first t w first e n = by-eq (field w t 0 0) 0 (λ b. first ≡ pick b (field w t 0 1) (field w t 0 0)) (λ z. absurd (n (e ∙ z))) (λ _. e)
+
+pub next-fresh : (t : List ℕ) (w first count : ℕ) → first ≡ linkAt t w (w - 4) 0 → first ≡ 0 → count ≡ linkAt t w 0 0 → count ≡ taken (alone w t)
+unfolding field
+next-fresh t w first count e z c = by-eq (field w t 0 0) 0 (λ b. count ≡ pick b (field w t 0 1) (field w t 0 0)) (λ _. c) (λ n. absurd (n (sym e ∙ z)))
+
+abbrev placeTests : Opens → ℕ → List (Row Answer)
+placeTests o x = row (NoPlace o x) TooManyOpens ∷ []
+
+module _ (s : Tables) (w : ℕ) (h t : List ℕ) (k : ℕ) (l : List ℕ) (p : ℕ) (name : List ℕ) (j : Judged) (J : JudgedBy (makeTests s (hashed w h t) p name) j) where
+  pub made-refused : (a : Answer) → j ≡ Refused a → JudgedBy (makeTestsIn s (hashed w h t) (opens k l) p name) j
+  made-refused a e = refused-still (makeTests s (hashed w h t) p name) (placeTests (opens k l) (taken (hashed w h t))) j a J e
+
+  module _ (go : j ≡ Go) (x : ℕ) (ex : x ≡ taken (alone w t)) (b : Bool) (F : (b ≡ true → IsFull k l x) × (IsFull k l x → b ≡ true)) where
+    before : None (makeTests s (hashed w h t) p name)
+    before = passed (makeTests s (hashed w h t) p name) j J go
+
+    pub made-full : b ≡ true → JudgedBy (makeTestsIn s (hashed w h t) (opens k l) p name) (Refused TooManyOpens)
+    made-full f =
+        given-behind (makeTests s (hashed w h t) p name) (placeTests (opens k l) (taken (hashed w h t))) TooManyOpens before
+        (inl (subst (λ z. IsFull k l z) ex (F .0 f), refl))
+
+    pub made-go : b ≡ false → JudgedBy (makeTestsIn s (hashed w h t) (opens k l) p name) Go
+    made-go f =
+        none-both (makeTests s (hashed w h t) p name) (placeTests (opens k l) (taken (hashed w h t))) before
+        (λ q. false≢true (sym f ∙ F .1 (subst (λ z. IsFull k l z) (sym ex) q)), tt)
+
+none-front : (rs qs : List (Row Answer)) → None (rs ++ qs) → None rs
+none-front [] qs n = tt
+none-front (r ∷ rs) qs n = (n .0, none-front rs qs (n .1))
 
 -- ---- the ends of make, for `search`
 
-module _ (dh d h f opens : List ℕ) (p : ℕ) (name : List ℕ) (j : Judged) (x : ℕ) where
-  pub make-file-counted : ReadyOpens File (tables dh d h f) opens → JudgedBy (makeTests (tables dh d [] []) (hashed 48 h f) p name) j → j ≡ Go
-      → x ≡ taken (alone 48 f) → Counted opens x
-  make-file-counted R J go e =
-      new-file-counted (tables dh d h f) (R .ready) p name (passed (makeTests (tables dh d [] []) (hashed 48 h f) p name) j J go) opens
-      (R .counted) x e
-
-  pub make-dir-counted : ReadyOpens Directory (tables dh d h f) opens → JudgedBy (makeTests (tables dh d [] []) (hashed 40 dh d) p name) j → j ≡ Go
-      → x ≡ taken (alone 40 d) → Counted opens x
-  make-dir-counted R J go e =
-      new-dir-counted (tables dh d h f) (R .ready) p name (passed (makeTests (tables dh d [] []) (hashed 40 dh d) p name) j J go) opens
-      (R .counted) x e
-
-module _ (dh d h f opens : List ℕ) (p : ℕ) (name : List ℕ) (j : Judged) (go : j ≡ Go) where
+module _ (dh d h f l : List ℕ) (k p : ℕ) (name : List ℕ) (j : Judged) where
   abbrev here : Tables
   here = tables dh d h f
 
-  module _ (J : JudgedBy (makeTests here (files here) p name) j) (d′ h′ f′ : List ℕ) (x : ℕ) (carried : List ℕ)
-      (new : (x ≡ taken (alone 48 f)) × (d′ ≡ made File (tables [] d h f) p name carried .dirTable)
-      × (h′ ≡ made File (tables [] d h f) p name carried .fileHash) × (f′ ≡ made File (tables [] d h f) p name carried .fileTable)) where
-    pub make-file-done : (opens′ : List ℕ) → opens′ ≡ withOpen opens x writerAlone
-        → First (makeRows here (files here) opens p name) (makeDone File here opens p name carried) (makeGives Done x (tables dh d′ h′ f′) opens′)
-    make-file-done opens′ eo =
-        call-done (λ a. makeGives a 0 here opens) (makeDone File here opens p name carried) (makeGives Done x (tables dh d′ h′ f′) opens′)
-        (makeTests here (files here) p name) (passed (makeTests here (files here) p name) j J go)
-        (gave-file dh d h f d′ h′ f′ opens opens′ x p name carried (new .0) (new .1) (new .2) (new .3) eo)
+  abbrev o : Opens
+  o = opens k l
 
-  module _ (J : JudgedBy (makeTests here (dirs here) p name) j) (h′ d′ : List ℕ) (x : ℕ) (padding : List ℕ)
-      (new : (x ≡ taken (alone 40 d)) × (h′ ≡ made Directory (tables dh d [] []) p name padding .dirHash)
-      × (d′ ≡ made Directory (tables dh d [] []) p name padding .dirTable)) where
-    pub make-dir-done : (opens′ : List ℕ) → opens′ ≡ withOpen opens x writerAlone
-        → First (makeRows here (dirs here) opens p name) (makeDone Directory here opens p name padding) (makeGives Done x (tables h′ d′ h f) opens′)
-    make-dir-done opens′ eo =
-        call-done (λ a. makeGives a 0 here opens) (makeDone Directory here opens p name padding) (makeGives Done x (tables h′ d′ h f) opens′)
-        (makeTests here (dirs here) p name) (passed (makeTests here (dirs here) p name) j J go)
-        (gave-dir dh d h f h′ d′ opens opens′ x p name padding (new .0) (new .1) (new .2) eo)
+  module _ (J : JudgedBy (makeTestsIn (tables dh d [] []) (hashed 48 h f) (opens k l) p name) j) where
+    pub make-file-no : (a : Answer) (carried : List ℕ) → j ≡ Refused a
+        → Inside (tables dh d h f) (opens k l) (makeTestsIn (tables dh d h f) (files (tables dh d h f)) (opens k l) p name) (makeDone File (tables dh d h f) (opens k l) p name carried) (gives a 0 (tables dh d h f) (opens k l))
+    make-file-no a carried e = call-refused (refuse here o) (makeDone File here o p name carried) (makeTestsIn here (files here) o p name) j a J e
+
+    pub new-file-may : ReadyOpens (tables dh d h f) (opens k l) → j ≡ Go → Takes 48 f × (p * 40 + 40 ≤ length d) × (0 < length h / 4)
+    new-file-may R go =
+        new-file-asks here (R .ready) p name
+        (none-front (makeTests here (files here) p name) (placeTests o (taken (files here))) (passed (makeTestsIn here (files here) o p name) j J go))
+
+    pub make-file-done : (d′ h′ f′ : List ℕ) (x : ℕ) (carried : List ℕ) → j ≡ Go
+        → (x ≡ taken (alone 48 f)) × (d′ ≡ made File (tables [] d h f) p name carried .dirTable)
+        × (h′ ≡ made File (tables [] d h f) p name carried .fileHash) × (f′ ≡ made File (tables [] d h f) p name carried .fileTable)
+        → (k′ : ℕ) (l′ : List ℕ) → opens k′ l′ ≡ withRecord (opens k l) x writerAlone
+        → Inside (tables dh d h f) (opens k l) (makeTestsIn (tables dh d h f) (files (tables dh d h f)) (opens k l) p name) (makeDone File (tables dh d h f) (opens k l) p name carried) (gives Done x (tables dh d′ h′ f′) (opens k′ l′))
+    make-file-done d′ h′ f′ x carried go new k′ l′ eo =
+        call-done (refuse here o) (makeDone File here o p name carried) (gives Done x (tables dh d′ h′ f′) (opens k′ l′))
+        (makeTestsIn here (files here) o p name) (passed (makeTestsIn here (files here) o p name) j J go)
+        (gave-file dh d h f d′ h′ f′ o (opens k′ l′) x p name carried (new .0) (new .1) (new .2) (new .3) eo)
+
+  module _ (J : JudgedBy (makeTestsIn (tables dh d [] []) (hashed 40 dh d) (opens k l) p name) j) where
+    pub make-dir-no : (a : Answer) (padding : List ℕ) → j ≡ Refused a
+        → Inside (tables dh d h f) (opens k l) (makeTestsIn (tables dh d h f) (dirs (tables dh d h f)) (opens k l) p name) (makeDone Directory (tables dh d h f) (opens k l) p name padding) (gives a 0 (tables dh d h f) (opens k l))
+    make-dir-no a padding e = call-refused (refuse here o) (makeDone Directory here o p name padding) (makeTestsIn here (dirs here) o p name) j a J e
+
+    pub new-dir-may : ReadyOpens (tables dh d h f) (opens k l) → j ≡ Go → Takes 40 d × (p * 40 + 40 ≤ length d) × (0 < length dh / 4)
+    new-dir-may R go =
+        new-dir-asks here (R .ready) p name
+        (none-front (makeTests here (dirs here) p name) (placeTests o (taken (dirs here))) (passed (makeTestsIn here (dirs here) o p name) j J go))
+
+    pub make-dir-done : (h′ d′ : List ℕ) (x : ℕ) (padding : List ℕ) → j ≡ Go
+        → (x ≡ taken (alone 40 d)) × (h′ ≡ made Directory (tables dh d [] []) p name padding .dirHash)
+        × (d′ ≡ made Directory (tables dh d [] []) p name padding .dirTable)
+        → (k′ : ℕ) (l′ : List ℕ) → opens k′ l′ ≡ withRecord (opens k l) x writerAlone
+        → Inside (tables dh d h f) (opens k l) (makeTestsIn (tables dh d h f) (dirs (tables dh d h f)) (opens k l) p name) (makeDone Directory (tables dh d h f) (opens k l) p name padding) (gives Done x (tables h′ d′ h f) (opens k′ l′))
+    make-dir-done h′ d′ x padding go new k′ l′ eo =
+        call-done (refuse here o) (makeDone Directory here o p name padding) (gives Done x (tables h′ d′ h f) (opens k′ l′))
+        (makeTestsIn here (dirs here) o p name) (passed (makeTestsIn here (dirs here) o p name) j J go)
+        (gave-dir dh d h f h′ d′ o (opens k′ l′) x p name padding (new .0) (new .1) (new .2) eo)

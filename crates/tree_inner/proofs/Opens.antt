@@ -1,6 +1,6 @@
 -- The rows of open and close, by the places of their code.
 use mathlib.Core.Path.{_≡_, refl, sym, ap, _∙_, subst, subst⁻¹}
-use mathlib.Core.Bool.{Bool, true, false, not}
+use mathlib.Core.Bool.{Bool, true, false, not, false≢true}
 use mathlib.Core.List.{List, [], _∷_, _++_}
 use mathlib.Core.Logic.{inl, inr}
 use Prim.Native.Nat.{ℕ, _+_, _-_, _*_, _≤_, _<_}
@@ -11,11 +11,13 @@ use Rattle.order.specs.First.{Row, First}
 use Rattle.order.specs.Giving.{giving}
 use Rattle.order.specs.Given.{Given, None}
 use Rattle.order.specs.declared.Answer.{Answer}
-use Rattle.order.specs.declared.Answer.the-variants.{Done, NotFound}
+use Rattle.order.specs.declared.Answer.the-variants.{Done, NotFound, TooManyOpens}
 use Rattle.tree_table.specs.Field.{field}
 use Rattle.order.specs.Tells.{Tells}
 use Rattle.tree_test.proofs.Cases.{tells-not}
-use Rattle.tree_opens.specs.Opens.{opened, withOpen, Counted}
+use Rattle.tree_packed.specs.Packed.{rec}
+use Rattle.tree_packed.specs.Put.{IsFull}
+use Rattle.tree_packed.specs.Opens.{Opens, opens, recordOf, withRecord}
 use Rattle.tree_opens.specs.Step.{more, less, moreTests, lessTests, SteppedBy}
 use Rattle.tree_opens.specs.declared.Want.{Want}
 use Rattle.tree_opens.specs.declared.Stepped.{Stepped}
@@ -23,60 +25,82 @@ use Rattle.tree_opens.specs.declared.Stepped.the-variants.{To, Refused}
 use Rattle.tree_sound.specs.Tables.{Tables, tables, dirs, files}
 use Rattle.tree_promises.specs.declared.Kind.the-variants.{Directory, File}
 use Rattle.tree_promises.specs.Steps.{withCarried}
-use Rattle.tree_promises.specs.inner.Ready.{LiveAt, Single, SingleOpens, alone, SetOne, setGives, setRows}
-use Rattle.tree_promises.specs.Calls.{Opening, liveTests, openRows, openDone, closeRows, closeDone, openingGives, part, shownRows, shownGives, carryRows, carryGives, carryDone}
+use Rattle.tree_promises.specs.inner.Ready.{LiveAt, Single, alone, SetOne, setGives, setRows}
+use Rattle.tree_promises.specs.inner.Opening.{openingIn, OpenIn, CloseIn}
+use Rattle.tree_promises.specs.Calls.{liveTests, part, shownRows, shownGives, carryRows, carryGives, carryDone}
 use Rattle.tree_inner.proofs.Given.{given-first, none-first}
 use Rattle.tree_inner.proofs.Lists.{inside, all-fit}
 
--- a live inode has an open record
-pub live-counted : (h t : List ℕ) (w : ℕ) (opens : List ℕ) (x : ℕ) (r : Bool) → SingleOpens h t w opens → Tells (LiveAt w t x) r → not r ≡ false → Counted opens x
-live-counted h t w opens x r S T e =
-    let l : x < field w t 0 1 = T .yes (not-false r e) .1 in omega (arith, S .single .table .count-max, S .single .table .max-room, S .counted)
+module _ (t : List ℕ) (w x k : ℕ) (l : List ℕ) (want : Want) (r : Bool) (T : Tells (LiveAt w t x) r) where
+  abbrev o : Opens
+  o = opens k l
 
-module _ (t : List ℕ) (w x : ℕ) (opens : List ℕ) (want : Want) (r : Bool) (T : Tells (LiveAt w t x) r) where
-  pub open-none : not r ≡ true → First (openRows (alone w t) opens x want) (openDone opens x want) (openingGives NotFound opens)
+  pub open-none : not r ≡ true → OpenIn (alone w t) (opens k l) x want (openingIn NotFound (opens k l))
+  unfolding OpenIn
   open-none e = inl (tells-not T (not-true r e), refl)
 
-  pub close-none : not r ≡ true → First (closeRows (alone w t) opens x want) (closeDone opens x want) (openingGives NotFound opens)
+  pub close-none : not r ≡ true → CloseIn (alone w t) (opens k l) x want (openingIn NotFound (opens k l))
+  unfolding CloseIn
   close-none e = inl (tells-not T (not-true r e), refl)
 
-  -- what the record's own rows decide, of a live inode
-  module _ (n : ℕ) (e : not r ≡ false) (count : n ≡ opened opens x) (s : Stepped) where
-    stepped : (tests : List (Row Answer)) (a : Answer) (done : Opening) → Given tests a
-        → First (giving (λ a. openingGives a opens) (liveTests (alone w t) x ++ tests)) done (openingGives a opens)
-    stepped tests a done g = inr (λ k. k (T .yes (not-false r e)), given-first (λ a. openingGives a opens) done tests a g)
+  module _ (e : not r ≡ false) where
+    module _ (b : Bool) (F : (b ≡ true → IsFull k l x) × (IsFull k l x → b ≡ true)) where
+      pub open-full : b ≡ true → OpenIn (alone w t) (opens k l) x want (openingIn TooManyOpens (opens k l))
+      unfolding OpenIn
+      open-full f = inr (λ k. k (T .yes (not-false r e)), inl (F .0 f, refl))
 
-    went : (tests : List (Row Answer)) (done : Opening) → None tests
-        → First (giving (λ a. openingGives a opens) (liveTests (alone w t) x ++ tests)) done done
-    went tests done g = inr (λ k. k (T .yes (not-false r e)), none-first (λ a. openingGives a opens) done tests g)
+      module _ (no : b ≡ false) (n : ℕ) (count : n ≡ rec k l x) (s : Stepped) (p : SteppedBy (moreTests n want) (more n want) s) where
+        place : IsFull k l x → ⊥
+        place f = false≢true (sym no ∙ F .1 f)
 
-    pub open-refused : (a : Answer) → SteppedBy (moreTests n want) (more n want) s → s ≡ Refused a
-        → First (openRows (alone w t) opens x want) (openDone opens x want) (openingGives a opens)
-    open-refused a p q =
-        stepped (moreTests (opened opens x) want) a (openDone opens x want)
-        (subst (λ z. Given (moreTests z want) a) count (subst (SteppedBy (moreTests n want) (more n want)) q p))
+        pub open-refused : (a : Answer) → s ≡ Refused a → OpenIn (alone w t) (opens k l) x want (openingIn a (opens k l))
+        unfolding OpenIn
+        open-refused a q =
+            inr (
+              λ k. k (T .yes (not-false r e)),
+              inr (
+                place,
+                given-first (λ a. openingIn a o) (openingIn Done (withRecord o x (more (recordOf o x) want))) (moreTests (recordOf o x) want) a
+                    (subst (λ z. Given (moreTests z want) a) count (subst (SteppedBy (moreTests n want) (more n want)) q p)),
+              ),
+            )
 
-    pub close-refused : (a : Answer) → SteppedBy (lessTests n want) (less n want) s → s ≡ Refused a
-        → First (closeRows (alone w t) opens x want) (closeDone opens x want) (openingGives a opens)
-    close-refused a p q =
-        stepped (lessTests (opened opens x) want) a (closeDone opens x want)
-        (subst (λ z. Given (lessTests z want) a) count (subst (SteppedBy (lessTests n want) (less n want)) q p))
+        pub open-done : (m k′ : ℕ) (l′ : List ℕ) → s ≡ To m → opens k′ l′ ≡ withRecord (opens k l) x m
+            → OpenIn (alone w t) (opens k l) x want (openingIn Done (opens k′ l′))
+        unfolding OpenIn
+        open-done m k′ l′ q f =
+            let g : None (moreTests n want) × (m ≡ more n want) = subst (SteppedBy (moreTests n want) (more n want)) q p in
+            subst⁻¹ (λ (z : Opens). OpenIn (alone w t) o x want (openingIn Done z)) (f ∙ ap (withRecord o x) (g .1 ∙ ap (λ z. more z want) count))
+            (inr (
+              λ k. k (T .yes (not-false r e)),
+              inr (
+                place,
+                none-first (λ a. openingIn a o) (openingIn Done (withRecord o x (more (recordOf o x) want))) (moreTests (recordOf o x) want)
+                    (subst (λ z. None (moreTests z want)) count (g .0)),
+              ),
+            ))
 
-    pub open-done : (m : ℕ) (opens′ : List ℕ) → SteppedBy (moreTests n want) (more n want) s → s ≡ To m → opens′ ≡ withOpen opens x m
-        → First (openRows (alone w t) opens x want) (openDone opens x want) (openingGives Done opens′)
-    open-done m opens′ p q f =
-        let g : None (moreTests n want) × (m ≡ more n want) = subst (SteppedBy (moreTests n want) (more n want)) q p in
-        subst⁻¹ (λ (o : Opening). First (openRows (alone w t) opens x want) (openDone opens x want) o)
-        (ap (openingGives Done) (f ∙ ap (withOpen opens x) (g .1 ∙ ap (λ z. more z want) count)))
-        (went (moreTests (opened opens x) want) (openDone opens x want) (subst (λ z. None (moreTests z want)) count (g .0)))
+    module _ (n : ℕ) (count : n ≡ rec k l x) (s : Stepped) (p : SteppedBy (lessTests n want) (less n want) s) where
+      pub close-refused : (a : Answer) → s ≡ Refused a → CloseIn (alone w t) (opens k l) x want (openingIn a (opens k l))
+      unfolding CloseIn
+      close-refused a q =
+          inr (
+            λ k. k (T .yes (not-false r e)),
+            given-first (λ a. openingIn a o) (openingIn Done (withRecord o x (less (recordOf o x) want))) (lessTests (recordOf o x) want) a
+                (subst (λ z. Given (lessTests z want) a) count (subst (SteppedBy (lessTests n want) (less n want)) q p)),
+          )
 
-    pub close-done : (m : ℕ) (opens′ : List ℕ) → SteppedBy (lessTests n want) (less n want) s → s ≡ To m → opens′ ≡ withOpen opens x m
-        → First (closeRows (alone w t) opens x want) (closeDone opens x want) (openingGives Done opens′)
-    close-done m opens′ p q f =
-        let g : None (lessTests n want) × (m ≡ less n want) = subst (SteppedBy (lessTests n want) (less n want)) q p in
-        subst⁻¹ (λ (o : Opening). First (closeRows (alone w t) opens x want) (closeDone opens x want) o)
-        (ap (openingGives Done) (f ∙ ap (withOpen opens x) (g .1 ∙ ap (λ z. less z want) count)))
-        (went (lessTests (opened opens x) want) (closeDone opens x want) (subst (λ z. None (lessTests z want)) count (g .0)))
+      pub close-done : (m k′ : ℕ) (l′ : List ℕ) → s ≡ To m → opens k′ l′ ≡ withRecord (opens k l) x m
+          → CloseIn (alone w t) (opens k l) x want (openingIn Done (opens k′ l′))
+      unfolding CloseIn
+      close-done m k′ l′ q f =
+          let g : None (lessTests n want) × (m ≡ less n want) = subst (SteppedBy (lessTests n want) (less n want)) q p in
+          subst⁻¹ (λ (z : Opens). CloseIn (alone w t) o x want (openingIn Done z)) (f ∙ ap (withRecord o x) (g .1 ∙ ap (λ z. less z want) count))
+          (inr (
+            λ k. k (T .yes (not-false r e)),
+            none-first (λ a. openingIn a o) (openingIn Done (withRecord o x (less (recordOf o x) want))) (lessTests (recordOf o x) want)
+                (subst (λ z. None (lessTests z want)) count (g .0)),
+          ))
 
 module _ {h t : List ℕ} {w : ℕ} (S : Single h t w) (x i : ℕ) {r : Bool} (T : Tells (LiveAt w t x) r) (yes : r ≡ true) (e : i ≡ x) where
   -- a live entry lies in the table
@@ -90,7 +114,7 @@ module _ {h t : List ℕ} {w : ℕ} (S : Single h t w) (x i : ℕ) {r : Bool} (T
       inr (λ n. n (T .yes yes), ap (shownGives Done) (q ∙ ap (λ z. take many (drop (z * w + at) t)) e))
 
 -- what is given, seen otherwise: the rows stay
-seen : {A B : Type 0} (look : A → B) (g : Answer → A) (tests : List (Row Answer)) (d o : A) → First (giving g tests) d o → First (giving (λ a. look (g a)) tests) (look d) (look o)
+pub seen : {A B : Type 0} (look : A → B) (g : Answer → A) (tests : List (Row Answer)) (d o : A) → First (giving g tests) d o → First (giving (λ a. look (g a)) tests) (look d) (look o)
 seen look g [] d o p = ap look p
 seen look g (r ∷ rs) d o (inl p) = inl (p .0, ap look (p .1))
 seen look g (r ∷ rs) d o (inr p) = inr (p .0, seen look g rs d o (p .1))

@@ -1,8 +1,8 @@
 // The calls inside that change sound entry tables: delete, rename and make. Each judges first and changes nothing where a row applies; none tests soundness.
-ghost use Rattle.order.specs.First.{First};
 ghost use Rattle.tree_sound.specs.Tables.{Tables, tables};
 ghost use Rattle.tree_promises.specs.declared.Kind.the-variants.{Directory, File};
-ghost use Rattle.tree_promises.specs.Calls.{changeGives, deleteRows, deleteDone, renameRows, renameDone};
+ghost use Rattle.tree_promises.specs.Packed.{gives, Inside, deleteTests, deleteDone, renameTests, renameDone};
+ghost use Rattle.tree_packed.specs.Opens.{Opens, opens};
 ghost use Rattle.tree_promises.specs.inner.Ready.{ReadyOpens};
 use crate::judge::Judged;
 use crate::judge::judge_delete;
@@ -24,21 +24,24 @@ pub fn delete_file(
     dirs: &mut [u8],
     hash: &mut [u8],
     files: &mut [u8],
-    opens: &mut [u32],
+    list: &mut [u32],
+    opened: &mut usize,
     x: u32,
 ) -> Answer
-    requires { ⌜ ReadyOpens File (tables (now «dir_hash») (now dirs) (now hash) (now files)) (now opens) ⌝ }
-    ensures { λ r. ⌜ First (deleteRows File (tables (now («dir_hash» .entry)) (now (dirs .entry)) (now (hash .entry)) (now (files .entry))) (now (opens .entry)) x)
-        (deleteDone File (tables (now («dir_hash» .entry)) (now (dirs .entry)) (now (hash .entry)) (now (files .entry))) (now (opens .entry)) x)
-        (changeGives r (tables (now («dir_hash» .entry)) (now (dirs .exit)) (now (hash .exit)) (now (files .exit))) (now (opens .exit))) ⌝ }
+    requires { ⌜ ReadyOpens (tables (now «dir_hash») (now dirs) (now hash) (now files)) (opens (now opened) (now list)) ⌝ }
+    ensures { λ r. ⌜ (let s : Tables = tables (now («dir_hash» .entry)) (now (dirs .entry)) (now (hash .entry)) (now (files .entry)) in let o : Opens = opens (now (opened .entry)) (now (list .entry)) in
+        Inside s o (deleteTests File s o x) (deleteDone File s o x)
+        (gives r 0 (tables (now («dir_hash» .entry)) (now (dirs .exit)) (now (hash .exit)) (now (files .exit))) (opens (now (opened .exit)) (now (list .exit))))) ⌝ }
 {
+    let k = *opened;
+    let opens = tree_packed::record_of(list, k, x);
     let judged = judge_delete(hash, files, SaveExtFileEntry::WIDTH, opens, x);
     match judged {
         Judged::Refused { answer } => answer,
         Judged::Go => {
             unlink_file(dirs, hash, files, x);
             tree_table::give(files, SaveExtFileEntry::WIDTH, x);
-            tree_opens::put_record(opens, x, 0);
+            tree_packed::put_record(list, opened, x, 0);
             Answer::Done
         }
     }
@@ -50,21 +53,24 @@ pub fn delete_dir(
     dirs: &mut [u8],
     file_hash: &[u8],
     files: &[u8],
-    opens: &mut [u32],
+    list: &mut [u32],
+    opened: &mut usize,
     x: u32,
 ) -> Answer
-    requires { ⌜ ReadyOpens Directory (tables (now hash) (now dirs) (now «file_hash») (now files)) (now opens) ⌝ }
-    ensures { λ r. ⌜ First (deleteRows Directory (tables (now (hash .entry)) (now (dirs .entry)) (now («file_hash» .entry)) (now (files .entry))) (now (opens .entry)) x)
-        (deleteDone Directory (tables (now (hash .entry)) (now (dirs .entry)) (now («file_hash» .entry)) (now (files .entry))) (now (opens .entry)) x)
-        (changeGives r (tables (now (hash .exit)) (now (dirs .exit)) (now («file_hash» .entry)) (now (files .entry))) (now (opens .exit))) ⌝ }
+    requires { ⌜ ReadyOpens (tables (now hash) (now dirs) (now «file_hash») (now files)) (opens (now opened) (now list)) ⌝ }
+    ensures { λ r. ⌜ (let s : Tables = tables (now (hash .entry)) (now (dirs .entry)) (now («file_hash» .entry)) (now (files .entry)) in let o : Opens = opens (now (opened .entry)) (now (list .entry)) in
+        Inside s o (deleteTests Directory s o x) (deleteDone Directory s o x)
+        (gives r 0 (tables (now (hash .exit)) (now (dirs .exit)) (now («file_hash» .entry)) (now (files .entry))) (opens (now (opened .exit)) (now (list .exit))))) ⌝ }
 {
+    let k = *opened;
+    let opens = tree_packed::record_of(list, k, x);
     let judged = judge_delete_dir(hash, dirs, opens, x);
     match judged {
         Judged::Refused { answer } => answer,
         Judged::Go => {
             unlink_dir(hash, dirs, x);
             tree_table::give(dirs, SaveExtDirEntry::WIDTH, x);
-            tree_opens::put_record(opens, x, 0);
+            tree_packed::put_record(list, opened, x, 0);
             Answer::Done
         }
     }
@@ -76,17 +82,18 @@ pub fn rename_file(
     dirs: &mut [u8],
     hash: &mut [u8],
     files: &mut [u8],
-    opens: &[u32],
+    list: &[u32],
+    opened: usize,
     x: u32,
     parent: u32,
     name: &[u8; 16],
 ) -> Answer
-    requires { ⌜ ReadyOpens File (tables (now «dir_hash») (now dirs) (now hash) (now files)) (now opens) ⌝ }
-    ensures { λ r. ⌜ (let s : Tables = tables (now («dir_hash» .entry)) (now (dirs .entry)) (now (hash .entry)) (now (files .entry)) in
-        First (renameRows File s (now (opens .entry)) x parent (now (name .entry)))
-        (renameDone File s (now (opens .entry)) x parent (now (name .entry)))
-        (changeGives r (tables (now («dir_hash» .entry)) (now (dirs .exit)) (now (hash .exit)) (now (files .exit))) (now (opens .entry)))) ⌝ }
+    requires { ⌜ ReadyOpens (tables (now «dir_hash») (now dirs) (now hash) (now files)) (opens opened (now list)) ⌝ }
+    ensures { λ r. ⌜ (let s : Tables = tables (now («dir_hash» .entry)) (now (dirs .entry)) (now (hash .entry)) (now (files .entry)) in let o : Opens = opens opened (now (list .entry)) in
+        Inside s o (renameTests File s o x parent (now (name .entry))) (renameDone File s o x parent (now (name .entry)))
+        (gives r 0 (tables (now («dir_hash» .entry)) (now (dirs .exit)) (now (hash .exit)) (now (files .exit))) (opens opened (now (list .entry))))) ⌝ }
 {
+    let opens = tree_packed::record_of(list, opened, x);
     let key = SaveExtKey::new(parent, name);
     let judged = judge_rename_file(dir_hash, dirs, hash, files, opens, x, parent, name, key);
     match judged {
@@ -105,17 +112,18 @@ pub fn rename_dir(
     dirs: &mut [u8],
     file_hash: &[u8],
     files: &[u8],
-    opens: &[u32],
+    list: &[u32],
+    opened: usize,
     x: u32,
     parent: u32,
     name: &[u8; 16],
 ) -> Answer
-    requires { ⌜ ReadyOpens Directory (tables (now hash) (now dirs) (now «file_hash») (now files)) (now opens) ⌝ }
-    ensures { λ r. ⌜ (let s : Tables = tables (now (hash .entry)) (now (dirs .entry)) (now («file_hash» .entry)) (now (files .entry)) in
-        First (renameRows Directory s (now (opens .entry)) x parent (now (name .entry)))
-        (renameDone Directory s (now (opens .entry)) x parent (now (name .entry)))
-        (changeGives r (tables (now (hash .exit)) (now (dirs .exit)) (now («file_hash» .entry)) (now (files .entry))) (now (opens .entry)))) ⌝ }
+    requires { ⌜ ReadyOpens (tables (now hash) (now dirs) (now «file_hash») (now files)) (opens opened (now list)) ⌝ }
+    ensures { λ r. ⌜ (let s : Tables = tables (now (hash .entry)) (now (dirs .entry)) (now («file_hash» .entry)) (now (files .entry)) in let o : Opens = opens opened (now (list .entry)) in
+        Inside s o (renameTests Directory s o x parent (now (name .entry))) (renameDone Directory s o x parent (now (name .entry)))
+        (gives r 0 (tables (now (hash .exit)) (now (dirs .exit)) (now («file_hash» .entry)) (now (files .entry))) (opens opened (now (list .entry))))) ⌝ }
 {
+    let opens = tree_packed::record_of(list, opened, x);
     let key = SaveExtKey::new(parent, name);
     let judged = judge_rename_dir(hash, dirs, file_hash, files, opens, x, parent, name, key);
     match judged {

@@ -1,4 +1,5 @@
-// What the tests before a step decide on sound tables: that no row applies, or the answer of the first that does. Nothing is changed here.
+// What the tests before a step decide on sound tables: that no row applies, or the answer of the first that does. Nothing is changed here. `opens` is the
+// open record of inode x.
 ghost use mathlib.Core.Path.{_≡_};
 ghost use mathlib.Core.List.{[]};
 ghost use Prim.Native.Nat.{_/_, _≤_, _<_};
@@ -6,12 +7,14 @@ ghost use lib.ListN.{length};
 ghost use Rattle.tree_key.specs.Key.{keyWords, nameKey};
 ghost use Rattle.order.specs.Tells.{Tells};
 ghost use Rattle.tree_table.specs.Field.{field};
-ghost use Rattle.tree_table.specs.Steps.{freeOf};
+ghost use Rattle.tree_table.specs.Steps.{freeOf, taken};
 ghost use Rattle.tree_sound.specs.Tables.{Tables, tables, dirs, files};
 ghost use Rattle.tree_promises.specs.declared.Kind.the-variants.{Directory, File};
 ghost use Rattle.tree_promises.specs.Has.{HasOther};
-ghost use Rattle.tree_promises.specs.Calls.{heldTests, aloneTests, deleteTests, renameTests, makeTests};
-ghost use Rattle.tree_promises.specs.inner.Ready.{ReadyOpens, Single, SingleOpens, alone, hashed};
+ghost use Rattle.tree_promises.specs.Calls.{heldTestsOf, aloneTestsOf, deleteTestsOf, renameTestsOf, makeTests};
+ghost use Rattle.tree_promises.specs.Packed.{makeTestsIn};
+ghost use Rattle.tree_packed.specs.Opens as packed;
+ghost use Rattle.tree_promises.specs.inner.Ready.{Ready, Single, alone, hashed};
 ghost use Rattle.tree_inner.specs.inner.Judge.{JudgedBy};
 use crate::look::live;
 use crate::name::is_legal;
@@ -26,17 +29,17 @@ pub enum Judged {
     Refused { answer: Answer },
 }
 
-// Whether inode x is live and a writer holds it: NotFound, NotOpen.
-pub fn judge_held(hash: &[u8], table: &[u8], w: usize, opens: &[u32], x: u32) -> Judged
-    requires { ⌜ SingleOpens (now hash) (now table) w (now opens) ⌝ }
-    ensures { λ r. ⌜ JudgedBy (heldTests (alone w (now (table .entry))) (now (opens .entry)) x) r ⌝ }
+// Whether inode x is live and a writer holds it, where `opens` is its record: NotFound, NotOpen.
+pub fn judge_held(hash: &[u8], table: &[u8], w: usize, opens: u32, x: u32) -> Judged
+    requires { ⌜ Single (now hash) (now table) w ⌝ }
+    ensures { λ r. ⌜ JudgedBy (heldTestsOf (alone w (now (table .entry))) opens x) r ⌝ }
 {
     if !live(hash, table, w, x) {
         return Judged::Refused {
             answer: Answer::NotFound,
         };
     }
-    if tree_opens::writer_of(opens, x) == 0 {
+    if tree_opens::writer_in(opens) == 0 {
         return Judged::Refused {
             answer: Answer::NotOpen,
         };
@@ -45,15 +48,15 @@ pub fn judge_held(hash: &[u8], table: &[u8], w: usize, opens: &[u32], x: u32) ->
 }
 
 // Whether inode x is live and a writer holds it alone: NotFound, NotOpen, Busy.
-pub fn judge_delete(hash: &[u8], table: &[u8], w: usize, opens: &[u32], x: u32) -> Judged
-    requires { ⌜ SingleOpens (now hash) (now table) w (now opens) ⌝ }
-    ensures { λ r. ⌜ JudgedBy (aloneTests (alone w (now (table .entry))) (now (opens .entry)) x) r ⌝ }
+pub fn judge_delete(hash: &[u8], table: &[u8], w: usize, opens: u32, x: u32) -> Judged
+    requires { ⌜ Single (now hash) (now table) w ⌝ }
+    ensures { λ r. ⌜ JudgedBy (aloneTestsOf (alone w (now (table .entry))) opens x) r ⌝ }
 {
     let held = judge_held(hash, table, w, opens, x);
     let Judged::Go = held else {
         return held;
     };
-    if tree_opens::readers_of(opens, x) > 0 {
+    if tree_opens::readers_in(opens) > 0 {
         return Judged::Refused {
             answer: Answer::Busy,
         };
@@ -62,9 +65,9 @@ pub fn judge_delete(hash: &[u8], table: &[u8], w: usize, opens: &[u32], x: u32) 
 }
 
 // Whether directory x can be deleted: as judge_delete, then DeletingRoot, NotEmpty.
-pub fn judge_delete_dir(hash: &[u8], dirs: &[u8], opens: &[u32], x: u32) -> Judged
-    requires { ⌜ SingleOpens (now hash) (now dirs) 40 (now opens) ⌝ }
-    ensures { λ r. ⌜ JudgedBy (deleteTests Directory (tables (now (hash .entry)) (now (dirs .entry)) [] []) (now (opens .entry)) x) r ⌝ }
+pub fn judge_delete_dir(hash: &[u8], dirs: &[u8], opens: u32, x: u32) -> Judged
+    requires { ⌜ Single (now hash) (now dirs) 40 ⌝ }
+    ensures { λ r. ⌜ JudgedBy (deleteTestsOf Directory (tables (now (hash .entry)) (now (dirs .entry)) [] []) opens x) r ⌝ }
 {
     let once = judge_delete(hash, dirs, SaveExtDirEntry::WIDTH, opens, x);
     let Judged::Go = once else {
@@ -120,15 +123,15 @@ pub fn judge_rename_file(
     dirs: &[u8],
     hash: &[u8],
     files: &[u8],
-    opens: &[u32],
+    opens: u32,
     x: u32,
     parent: u32,
     name: &[u8; 16],
     key: SaveExtKey,
 ) -> Judged
-    requires { ⌜ ReadyOpens File (tables (now «dir_hash») (now dirs) (now hash) (now files)) (now opens) × (keyWords key ≡ nameKey parent (now name)) ⌝ }
+    requires { ⌜ Ready (tables (now «dir_hash») (now dirs) (now hash) (now files)) × (keyWords key ≡ nameKey parent (now name)) ⌝ }
     ensures { λ r. ⌜ (let s : Tables = tables (now («dir_hash» .entry)) (now (dirs .entry)) (now (hash .entry)) (now (files .entry)) in
-        JudgedBy (renameTests File s (now (opens .entry)) x parent (now (name .entry))) r) ⌝ }
+        JudgedBy (renameTestsOf File s opens x parent (now (name .entry))) r) ⌝ }
 {
     let held = judge_held(hash, files, SaveExtFileEntry::WIDTH, opens, x);
     let Judged::Go = held else {
@@ -159,15 +162,15 @@ pub fn judge_rename_dir(
     dirs: &[u8],
     file_hash: &[u8],
     files: &[u8],
-    opens: &[u32],
+    opens: u32,
     x: u32,
     parent: u32,
     name: &[u8; 16],
     key: SaveExtKey,
 ) -> Judged
-    requires { ⌜ ReadyOpens Directory (tables (now hash) (now dirs) (now «file_hash») (now files)) (now opens) × (keyWords key ≡ nameKey parent (now name)) ⌝ }
+    requires { ⌜ Ready (tables (now hash) (now dirs) (now «file_hash») (now files)) × (keyWords key ≡ nameKey parent (now name)) ⌝ }
     ensures { λ r. ⌜ (let s : Tables = tables (now (hash .entry)) (now (dirs .entry)) (now («file_hash» .entry)) (now (files .entry)) in
-        JudgedBy (renameTests Directory s (now (opens .entry)) x parent (now (name .entry))) r) ⌝ }
+        JudgedBy (renameTestsOf Directory s opens x parent (now (name .entry))) r) ⌝ }
 {
     let held = judge_held(hash, dirs, SaveExtDirEntry::WIDTH, opens, x);
     let Judged::Go = held else {
@@ -233,6 +236,47 @@ pub fn judge_make(
     if full(table, w) {
         return Judged::Refused {
             answer: Answer::NoSpace,
+        };
+    }
+    Judged::Go
+}
+
+// The entry that make uses: the first removed one, or else the first that was never used.
+fn next_entry(table: &[u8], w: usize) -> u32
+    requires { ⌜ (28 ≤ w) × (w ≤ length (now table)) ⌝ }
+    ensures { λ r. ⌜ r ≡ taken (alone w (now (table .entry))) ⌝ }
+{
+    let first = tree_table::link_of(table, w, w - 4, 0);
+    if first == 0 {
+        return tree_table::link_of(table, w, 0, 0);
+    }
+    first
+}
+
+// Whether an entry can be made and its record finds a place in a packed list: as judge_make, then TooManyOpens.
+pub fn judge_made(
+    dir_hash: &[u8],
+    dirs: &[u8],
+    hash: &[u8],
+    table: &[u8],
+    w: usize,
+    list: &[u32],
+    opened: usize,
+    parent: u32,
+    name: &[u8; 16],
+) -> Judged
+    requires { ⌜ Single (now «dir_hash») (now dirs) 40 × Single (now hash) (now table) w × packed.InOrder (packed.opens opened (now list)) ⌝ }
+    ensures { λ r. ⌜ (let s : Tables = tables (now («dir_hash» .entry)) (now (dirs .entry)) [] [] in
+        JudgedBy (makeTestsIn s (hashed w (now (hash .entry)) (now (table .entry))) (packed.opens opened (now (list .entry))) parent (now (name .entry))) r) ⌝ }
+{
+    let judged = judge_make(dir_hash, dirs, hash, table, w, parent, name);
+    let Judged::Go = judged else {
+        return judged;
+    };
+    let x = next_entry(table, w);
+    if tree_packed::is_full(list, opened, x) {
+        return Judged::Refused {
+            answer: Answer::TooManyOpens,
         };
     }
     Judged::Go

@@ -2,13 +2,15 @@
 ghost use mathlib.Core.Path.{_≡_};
 ghost use Prim.Native.Nat.{_-_, _/_, _≤_};
 ghost use Rattle.order.specs.First.{First};
-ghost use Rattle.tree_promises.specs.Calls.{openRows, openDone, closeRows, closeDone, openingGives, lookupRows, lookupDone, lookupGives, listGives, shortRows, listedDone, ListDirs, ListFiles, statGives, statDone};
+ghost use Rattle.tree_promises.specs.Calls.{lookupRows, lookupDone, lookupGives, listGives, shortRows, listedDone, ListDirs, ListFiles, statGives, statDone};
 ghost use Rattle.order.specs.Tells.{Tells};
 ghost use Rattle.tree_table.specs.Chain.{listAt, Ends};
 ghost use Rattle.tree_table.specs.Steps.{freeOf};
 ghost use Rattle.tree_sound.specs.Tables.{Tables, tables};
 ghost use Rattle.tree_key.specs.Key.{keyWords};
 ghost use Rattle.tree_promises.specs.inner.Ready.{Ready, LiveAt, Single, SingleOpens, alone, hashed};
+ghost use Rattle.tree_promises.specs.inner.Opening.{openingIn, OpenIn, CloseIn};
+ghost use Rattle.tree_packed.specs.Opens.{opens};
 use order::Answer;
 use tree_key::SaveExtDirEntry;
 use tree_key::SaveExtFileEntry;
@@ -35,39 +37,60 @@ pub fn live(hash: &[u8], table: &[u8], w: usize, x: u32) -> bool
     tree_table::in_list(table, w, w - 4, first, x)
 }
 
-// Opens inode x once more, for a reader or for the writer.
-pub fn open(hash: &[u8], table: &[u8], w: usize, opens: &mut [u32], x: u32, want: Want) -> Answer
-    requires { ⌜ SingleOpens (now hash) (now table) w (now opens) ⌝ }
-    ensures { λ r. ⌜ First (openRows (alone w (now (table .entry))) (now (opens .entry)) x want) (openDone (now (opens .entry)) x want) (openingGives r (now (opens .exit))) ⌝ }
+// Opens inode x once more, for a reader or for the writer: NotFound, TooManyOpens, Busy.
+pub fn open(
+    hash: &[u8],
+    table: &[u8],
+    w: usize,
+    list: &mut [u32],
+    opened: &mut usize,
+    x: u32,
+    want: Want,
+) -> Answer
+    requires { ⌜ SingleOpens (now hash) (now table) w (opens (now opened) (now list)) ⌝ }
+    ensures { λ r. ⌜ OpenIn (alone w (now (table .entry))) (opens (now (opened .entry)) (now (list .entry))) x want (openingIn r (opens (now (opened .exit)) (now (list .exit)))) ⌝ }
 {
     if !live(hash, table, w, x) {
         return Answer::NotFound;
     }
-    let record = tree_opens::record_of(opens, x);
+    let k = *opened;
+    if tree_packed::is_full(list, k, x) {
+        return Answer::TooManyOpens;
+    }
+    let record = tree_packed::record_of(list, k, x);
     let stepped = tree_opens::one_more(record, want);
     match stepped {
         Stepped::Refused { answer } => answer,
         Stepped::To(next) => {
-            tree_opens::put_record(opens, x, next);
+            tree_packed::put_record(list, opened, x, next);
             Answer::Done
         }
     }
 }
 
-// Gives back an open of inode x, a reader's or the writer's.
-pub fn close(hash: &[u8], table: &[u8], w: usize, opens: &mut [u32], x: u32, want: Want) -> Answer
-    requires { ⌜ SingleOpens (now hash) (now table) w (now opens) ⌝ }
-    ensures { λ r. ⌜ First (closeRows (alone w (now (table .entry))) (now (opens .entry)) x want) (closeDone (now (opens .entry)) x want) (openingGives r (now (opens .exit))) ⌝ }
+// Gives back an open of inode x: NotFound, NotOpen.
+pub fn close(
+    hash: &[u8],
+    table: &[u8],
+    w: usize,
+    list: &mut [u32],
+    opened: &mut usize,
+    x: u32,
+    want: Want,
+) -> Answer
+    requires { ⌜ SingleOpens (now hash) (now table) w (opens (now opened) (now list)) ⌝ }
+    ensures { λ r. ⌜ CloseIn (alone w (now (table .entry))) (opens (now (opened .entry)) (now (list .entry))) x want (openingIn r (opens (now (opened .exit)) (now (list .exit)))) ⌝ }
 {
     if !live(hash, table, w, x) {
         return Answer::NotFound;
     }
-    let record = tree_opens::record_of(opens, x);
+    let k = *opened;
+    let record = tree_packed::record_of(list, k, x);
     let stepped = tree_opens::one_less(record, want);
     match stepped {
         Stepped::Refused { answer } => answer,
         Stepped::To(next) => {
-            tree_opens::put_record(opens, x, next);
+            tree_packed::put_record(list, opened, x, next);
             Answer::Done
         }
     }

@@ -3,20 +3,19 @@ ghost use mathlib.Core.Path.{_≡_};
 ghost use mathlib.Core.List.{[], _∷_};
 ghost use Prim.Native.Nat.{_+_, _*_, _/_, _≤_, _<_};
 ghost use lib.ListN.{length};
-ghost use Rattle.order.specs.First.{First};
 ghost use Rattle.tree_table.specs.Field.{write, wrote, subDirField, subFileField};
 ghost use Rattle.tree_table.specs.Steps.{taken};
 ghost use Rattle.tree_sound.specs.Tables.{Tables, tables};
-ghost use Rattle.tree_sound.specs.Tables as views;
 ghost use Rattle.tree_promises.specs.declared.Kind.the-variants.{Directory, File};
 ghost use Rattle.tree_promises.specs.Steps.{made};
-ghost use Rattle.tree_promises.specs.Calls.{makeGives, makeRows, makeDone};
+ghost use Rattle.tree_promises.specs.Packed.{gives, Inside, makeTests, makeDone};
+ghost use Rattle.tree_packed.specs.Opens.{Opens, opens};
 ghost use Rattle.tree_promises.specs.inner.Ready.{ReadyOpens, alone};
 ghost use Rattle.tree_inner.specs.inner.Take.{Takes};
 use crate::carry::put_carried_dir;
 use crate::carry::put_carried_file;
 use crate::judge::Judged;
-use crate::judge::judge_make;
+use crate::judge::judge_made;
 use crate::step::link_dir;
 use crate::step::link_file;
 use order::Answer;
@@ -89,23 +88,26 @@ pub fn make_file(
     dirs: &mut [u8],
     hash: &mut [u8],
     files: &mut [u8],
-    opens: &mut [u32],
+    list: &mut [u32],
+    opened: &mut usize,
     parent: u32,
     name: &[u8; 16],
     carried: &[u8; 20],
 ) -> Made
-    requires { ⌜ ReadyOpens File (tables (now «dir_hash») (now dirs) (now hash) (now files)) (now opens) ⌝ }
-    ensures { λ r. ⌜ (let s : Tables = tables (now («dir_hash» .entry)) (now (dirs .entry)) (now (hash .entry)) (now (files .entry)) in
-        First (makeRows s (views.files s) (now (opens .entry)) parent (now (name .entry)))
-        (makeDone File s (now (opens .entry)) parent (now (name .entry)) (now (carried .entry)))
-        (makeGives (r .answer) (r .inode) (tables (now («dir_hash» .entry)) (now (dirs .exit)) (now (hash .exit)) (now (files .exit))) (now (opens .exit)))) ⌝ }
+    requires { ⌜ ReadyOpens (tables (now «dir_hash») (now dirs) (now hash) (now files)) (opens (now opened) (now list)) ⌝ }
+    ensures { λ r. ⌜ (let s : Tables = tables (now («dir_hash» .entry)) (now (dirs .entry)) (now (hash .entry)) (now (files .entry)) in let o : Opens = opens (now (opened .entry)) (now (list .entry)) in
+        Inside s o (makeTests File s o parent (now (name .entry))) (makeDone File s o parent (now (name .entry)) (now (carried .entry)))
+        (gives (r .answer) (r .inode) (tables (now («dir_hash» .entry)) (now (dirs .exit)) (now (hash .exit)) (now (files .exit))) (opens (now (opened .exit)) (now (list .exit))))) ⌝ }
 {
-    let judged = judge_make(
+    let k = *opened;
+    let judged = judge_made(
         dir_hash,
         dirs,
         hash,
         files,
         SaveExtFileEntry::WIDTH,
+        list,
+        k,
         parent,
         name,
     );
@@ -113,7 +115,7 @@ pub fn make_file(
         Judged::Refused { answer } => Made { answer, inode: 0 },
         Judged::Go => {
             let x = new_file(dirs, hash, files, parent, name, carried);
-            tree_opens::put_record(opens, x, MADE);
+            tree_packed::put_record(list, opened, x, MADE);
             Made {
                 answer: Answer::Done,
                 inode: x,
@@ -128,23 +130,34 @@ pub fn make_dir(
     dirs: &mut [u8],
     file_hash: &[u8],
     files: &[u8],
-    opens: &mut [u32],
+    list: &mut [u32],
+    opened: &mut usize,
     parent: u32,
     name: &[u8; 16],
     padding: &[u8; 4],
 ) -> Made
-    requires { ⌜ ReadyOpens Directory (tables (now hash) (now dirs) (now «file_hash») (now files)) (now opens) ⌝ }
-    ensures { λ r. ⌜ (let s : Tables = tables (now (hash .entry)) (now (dirs .entry)) (now («file_hash» .entry)) (now (files .entry)) in
-        First (makeRows s (views.dirs s) (now (opens .entry)) parent (now (name .entry)))
-        (makeDone Directory s (now (opens .entry)) parent (now (name .entry)) (now (padding .entry)))
-        (makeGives (r .answer) (r .inode) (tables (now (hash .exit)) (now (dirs .exit)) (now («file_hash» .entry)) (now (files .entry))) (now (opens .exit)))) ⌝ }
+    requires { ⌜ ReadyOpens (tables (now hash) (now dirs) (now «file_hash») (now files)) (opens (now opened) (now list)) ⌝ }
+    ensures { λ r. ⌜ (let s : Tables = tables (now (hash .entry)) (now (dirs .entry)) (now («file_hash» .entry)) (now (files .entry)) in let o : Opens = opens (now (opened .entry)) (now (list .entry)) in
+        Inside s o (makeTests Directory s o parent (now (name .entry))) (makeDone Directory s o parent (now (name .entry)) (now (padding .entry)))
+        (gives (r .answer) (r .inode) (tables (now (hash .exit)) (now (dirs .exit)) (now («file_hash» .entry)) (now (files .entry))) (opens (now (opened .exit)) (now (list .exit))))) ⌝ }
 {
-    let judged = judge_make(hash, dirs, hash, dirs, SaveExtDirEntry::WIDTH, parent, name);
+    let k = *opened;
+    let judged = judge_made(
+        hash,
+        dirs,
+        hash,
+        dirs,
+        SaveExtDirEntry::WIDTH,
+        list,
+        k,
+        parent,
+        name,
+    );
     match judged {
         Judged::Refused { answer } => Made { answer, inode: 0 },
         Judged::Go => {
             let x = new_dir(hash, dirs, parent, name, padding);
-            tree_opens::put_record(opens, x, MADE);
+            tree_packed::put_record(list, opened, x, MADE);
             Made {
                 answer: Answer::Done,
                 inode: x,

@@ -1,7 +1,7 @@
--- The open records of one table's inodes, by the names that the calls' rows and steps take them through.
+-- One open record for each of one table's inodes: what the promises of the calls are said over, and what a packed list of records is held against.
 use mathlib.Core.List.{List}
-use Prim.Native.Nat.{ℕ, _<_, _≤_}
-use lib.ListN.{length, getD, set}
+use Prim.Native.Nat.{ℕ}
+use lib.ListN.{getD, set}
 
 -- the open record of inode x
 unfoldable pub opened : (opens : List ℕ) (x : ℕ) → ℕ
@@ -10,10 +10,3 @@ opened opens x = getD opens x 0
 -- the records once inode x has the record r
 unfoldable pub withOpen : (opens : List ℕ) (x r : ℕ) → List ℕ
 withOpen opens x r = set opens x r
-
--- inode x has a record; every inode below n has one
-abbrev pub Counted : (opens : List ℕ) (x : ℕ) → Type 0
-Counted opens x = x < length opens
-
-abbrev pub AllCounted : (opens : List ℕ) (n : ℕ) → Type 0
-AllCounted opens n = n ≤ length opens

@@ -1,7 +1,6 @@
-// The open records of the inodes of one table, in a list that the caller lends. They are read and written here and nowhere else. A record is one u32: the
-// top bit says that a writer holds the inode, the low 31 bits count its readers.
+// The record of an inode's opens, and what one open more or less makes of it. It is one u32: the top bit says that a writer holds the inode, the low 31 bits
+// count its readers. Where the records stand is the matter of crate tree_packed.
 ghost use mathlib.Core.Path.{_≡_};
-ghost use Rattle.tree_opens.specs.Opens.{opened, withOpen, Counted};
 ghost use Rattle.tree_opens.specs.Record.{readers, writer, total};
 ghost use Rattle.tree_opens.specs.Step.{more, less, moreTests, lessTests, SteppedBy};
 use order::Answer;
@@ -22,14 +21,14 @@ pub enum Stepped {
 }
 
 // The readers in a record.
-fn readers_in(record: u32) -> u32
+pub fn readers_in(record: u32) -> u32
     ensures { λ r. ⌜ r ≡ readers «record» ⌝ }
 {
     record % WRITER
 }
 
 // 1 where a writer holds it, else 0.
-fn writer_in(record: u32) -> u32
+pub fn writer_in(record: u32) -> u32
     ensures { λ r. ⌜ r ≡ writer «record» ⌝ }
 {
     record / WRITER
@@ -86,38 +85,4 @@ pub fn one_less(record: u32, want: Want) -> Stepped
             Stepped::To(record - WRITER)
         }
     }
-}
-
-// The record of inode x.
-pub fn record_of(opens: &[u32], x: u32) -> u32
-    requires { ⌜ Counted (now opens) x ⌝ }
-    ensures { λ r. ⌜ r ≡ opened (now (opens .entry)) x ⌝ }
-{
-    let i = x as usize;
-    opens[i]
-}
-
-// The readers of inode x.
-pub fn readers_of(opens: &[u32], x: u32) -> u32
-    requires { ⌜ Counted (now opens) x ⌝ }
-    ensures { λ r. ⌜ r ≡ readers (opened (now (opens .entry)) x) ⌝ }
-{
-    readers_in(record_of(opens, x))
-}
-
-// 1 where a writer holds inode x, else 0.
-pub fn writer_of(opens: &[u32], x: u32) -> u32
-    requires { ⌜ Counted (now opens) x ⌝ }
-    ensures { λ r. ⌜ r ≡ writer (opened (now (opens .entry)) x) ⌝ }
-{
-    writer_in(record_of(opens, x))
-}
-
-// Gives inode x another record.
-pub fn put_record(opens: &mut [u32], x: u32, record: u32)
-    requires { ⌜ Counted (now opens) x ⌝ }
-    ensures { λ _. ⌜ now (opens .exit) ≡ withOpen (now (opens .entry)) x «record» ⌝ }
-{
-    let i = x as usize;
-    opens[i] = record;
 }

@@ -11,7 +11,7 @@ use Rattle.order.specs.declared.Answer.the-variants.{Done}
 use Rattle.order.proofs.One.{one}
 use Rattle.tree_key.specs.Key.{nameKey}
 use Rattle.tree_table.specs.View.{View}
-use Rattle.tree_test.specs.Gate.{treeGate, openGate}
+use Rattle.tree_test.specs.Gate.{treeGate, openGate, packedGate}
 use Rattle.tree_sound.specs.Tables.{Tables}
 use Rattle.tree_opens.specs.declared.Want.{Want}
 use Rattle.tree_promises.specs.declared.Kind.{Kind}
@@ -20,6 +20,9 @@ use Rattle.tree_promises.specs.Calls as calls
 use Rattle.tree_promises.specs.Promise.{worked, TreePromise, OpensPromise}
 use Rattle.tree_promises.specs.Format.{formatRows, formatted, FormatPromise}
 use Rattle.tree_promises.specs.Public as promised
+use Rattle.tree_promises.specs.Packed.{Outcome, refuse, PackedPromise}
+use Rattle.tree_packed.specs.Opens.{Opens}
+use Rattle.order.specs.Giving.{giving}
 
 -- no two outcomes keep the promise P
 abbrev pub One : {A : Type 0} → (A → Type 0) → Type 0
@@ -84,3 +87,9 @@ module _ (kind : Kind) (s : Tables) (work : List ℕ) where
     pub one-close : (x : ℕ) (want : Want) → One (promised.ClosePromise kind s opens work x want)
     one-close x want =
         one-opens (λ a. calls.openingGives a opens) s kind opens work (calls.closeRows (kindView kind s) opens x want) (calls.closeDone opens x want)
+
+-- the five over a packed list of open records, whatever their tests and what Done gives
+pub one-packed : (s : Tables) (o : Opens) (work : List ℕ) (tests : List (Row Answer)) (done : Outcome) → One (PackedPromise s o work tests done)
+unfolding PackedPromise
+one-packed s o work tests done =
+    one-promised (packedGate (λ a w. beside (refuse s o a) w) s o work) (worked s work) (giving (refuse s o) tests) done

@@ -103,13 +103,19 @@ pub record Change : Type 0 where
 abbrev pub changeGives : (answer : Answer) (tables : Tables) (opens : List ℕ) → Change
 changeGives answer tables opens = record { answer = answer; tables = tables; opens = opens }
 
+-- The tests of close, rename, delete and open ask for the record r of inode x alone, wherever it stands: ..Of says them so, and beside each is the same of
+-- one record for each inode.
+
 -- close gives back an open of the kind, which inode x of the table v must have
+abbrev pub closeTestsOf : (v : View) (r x : ℕ) (want : Want) → List (Row Answer)
+closeTestsOf v r x want = liveTests v x ++ lessTests r want
+
 abbrev pub closeTests : (v : View) (opens : List ℕ) (x : ℕ) (want : Want) → List (Row Answer)
-closeTests v opens x want = liveTests v x ++ lessTests (opened opens x) want
+closeTests v opens x want = closeTestsOf v (opened opens x) x want
 
 -- rename and delete need the writer's open
-abbrev pub heldTests : (v : View) (opens : List ℕ) (x : ℕ) → List (Row Answer)
-heldTests v opens x = closeTests v opens x Writer
+abbrev pub heldTestsOf : (v : View) (r x : ℕ) → List (Row Answer)
+heldTestsOf v r x = closeTestsOf v r x Writer
 
 -- of a directory: the root stays, and none goes to itself or below itself
 abbrev pub rootTests : (kind : Kind) (x : ℕ) → List (Row Answer)
@@ -122,15 +128,18 @@ ringTests File s x p = []
 
 -- the new name is judged once the subject is, and before the parent. Readers do not keep a rename off. Rename needs no entry but the subject's own, so it can't run out of room
 -- (tree_history/proofs/Space.antt): no row asks for one
-abbrev pub renameTests : (kind : Kind) (s : Tables) (opens : List ℕ) (x p : ℕ) (name : List ℕ) → List (Row Answer)
-renameTests kind s opens x p name =
-    heldTests (kindView kind s) opens x
+abbrev pub renameTestsOf : (kind : Kind) (s : Tables) (r x p : ℕ) (name : List ℕ) → List (Row Answer)
+renameTestsOf kind s r x p name =
+    heldTestsOf (kindView kind s) r x
     ++ (rootTests kind x
     ++ (row (legal name ≡ false) InvalidValue
     ∷ row (LiveIn (dirs s) p → ⊥) NotFound
     ∷ (ringTests kind s x p
     ++ (row (HasOther (kindView kind s) x (nameKey p name)) AlreadyExist
     ∷ []))))
+
+abbrev pub renameTests : (kind : Kind) (s : Tables) (opens : List ℕ) (x p : ℕ) (name : List ℕ) → List (Row Answer)
+renameTests kind s opens x p name = renameTestsOf kind s (opened opens x) x p name
 
 abbrev pub renameRows : (kind : Kind) (s : Tables) (opens : List ℕ) (x p : ℕ) (name : List ℕ) → List (Row Change)
 renameRows kind s opens x p name = giving (λ a. changeGives a s opens) (renameTests kind s opens x p name)
@@ -139,16 +148,19 @@ abbrev pub renameDone : (kind : Kind) (s : Tables) (opens : List ℕ) (x p : ℕ
 renameDone kind s opens x p name = changeGives Done (renamed kind s x p name) opens
 
 -- delete is Busy while readers remain, and leaves nothing open
-abbrev pub aloneTests : (v : View) (opens : List ℕ) (x : ℕ) → List (Row Answer)
-aloneTests v opens x = heldTests v opens x ++ (row (0 < readers (opened opens x)) Busy ∷ [])
+abbrev pub aloneTestsOf : (v : View) (r x : ℕ) → List (Row Answer)
+aloneTestsOf v r x = heldTestsOf v r x ++ (row (0 < readers r) Busy ∷ [])
 
 -- and of a directory, that it is not the root and has no children
 abbrev pub emptyTests : (kind : Kind) (s : Tables) (x : ℕ) → List (Row Answer)
 emptyTests Directory s x = rootTests Directory x ++ (row ((0 < dirs s .head x) ⊎ (0 < files s .head x)) NotEmpty ∷ [])
 emptyTests File s x = []
 
+abbrev pub deleteTestsOf : (kind : Kind) (s : Tables) (r x : ℕ) → List (Row Answer)
+deleteTestsOf kind s r x = aloneTestsOf (kindView kind s) r x ++ emptyTests kind s x
+
 abbrev pub deleteTests : (kind : Kind) (s : Tables) (opens : List ℕ) (x : ℕ) → List (Row Answer)
-deleteTests kind s opens x = aloneTests (kindView kind s) opens x ++ emptyTests kind s x
+deleteTests kind s opens x = deleteTestsOf kind s (opened opens x) x
 
 abbrev pub deleteRows : (kind : Kind) (s : Tables) (opens : List ℕ) (x : ℕ) → List (Row Change)
 deleteRows kind s opens x = giving (λ a. changeGives a s opens) (deleteTests kind s opens x)

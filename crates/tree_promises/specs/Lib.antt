@@ -7,3 +7,4 @@ pub mod Promise
 pub mod Format
 pub mod inner
 pub mod Public
+pub mod Packed

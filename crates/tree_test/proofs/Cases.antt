@@ -15,14 +15,16 @@ use Rattle.links.specs.Links.{_∈_}
 use Rattle.tree_table.specs.Field.{field}
 use Rattle.tree_table.specs.View.{dirView, fileView, removedOf}
 use Rattle.tree_sound.specs.Sound.{Sound}
-use Rattle.tree_sound.specs.Tables.{tables}
+use Rattle.tree_sound.specs.Tables.{Tables, tables}
 use Rattle.tree_sound.specs.Sizes.{rooms, HashMisfit, Misfit, Beyond, Outside}
 use Rattle.order.specs.Tells.{Tells}
 use Rattle.tree_marks.specs.inner.Marks.{markAt, Within}
 use Rattle.tree_marks.specs.inner.Gather.{GoneMarked}
 use Rattle.tree_marks.proofs.Walks.{le-or-lt}
-use Rattle.tree_test.specs.Gate.{treeGate, openGate}
-use Rattle.tree_test.specs.Promise.{tested, TestPromise, TreeGateOf, OpenGateOf}
+use Rattle.tree_packed.specs.Packed.{Packed}
+use Rattle.tree_packed.specs.Opens.{opens}
+use Rattle.tree_test.specs.Gate.{treeGate}
+use Rattle.tree_test.specs.Promise.{tested, TestPromise, TreeGateOf, PackedGateOf}
 use Rattle.tree_test.specs.declared.Gated.{Gated}
 use Rattle.tree_test.specs.declared.Gated.the-variants.{Open, Refused}
 use Rattle.tree_test.specs.inner.Halves.{DirsTested, FilesTested, Sized}
@@ -106,49 +108,56 @@ replicate-zero (suc n) (suc j) = replicate-zero n j
 
 -- ---- the gate's ways out
 
-module _ (dh d fh f : List ℕ) (opens room : ℕ) (work : List ℕ) where
-  pub gate-misfit : Misfit dh d fh f → Given (openGate refusal (tables dh d fh f) opens room work) (refusal SizeMismatch work)
+module _ (dh d fh f work : List ℕ) where
+  pub gate-misfit : Misfit dh d fh f → Given (treeGate refusal (tables dh d fh f) work) (refusal SizeMismatch work)
   gate-misfit m = inl (m, refl)
 
   module _ (m : Misfit dh d fh f → ⊥) where
-    pub gate-outside : Outside dh d fh f → Given (openGate refusal (tables dh d fh f) opens room work) (refusal InvalidValue work)
+    pub gate-outside : Outside dh d fh f → Given (treeGate refusal (tables dh d fh f) work) (refusal InvalidValue work)
     gate-outside o = inr (m, inl (o, refl))
 
     module _ (o : Outside dh d fh f → ⊥) where
-      pub gate-short : (length work < rooms d f) ⊎ (opens < room) → Given (openGate refusal (tables dh d fh f) opens room work) (refusal WorkTooShort work)
+      pub gate-short : length work < rooms d f → Given (treeGate refusal (tables dh d fh f) work) (refusal WorkTooShort work)
       gate-short s = inr (m, inr (o, inl (s, refl)))
 
-      module _ (s : rooms d f ≤ length work) (p : room ≤ opens) where
-        long : (length work < rooms d f) ⊎ (opens < room) → ⊥
-        long = ⊎-elim (λ (h : length work < rooms d f). omega arith) (λ (h : opens < room). omega arith)
+      module _ (s : rooms d f ≤ length work) where
+        long : length work < rooms d f → ⊥
+        long h = omega arith
 
         pub gate-broken : {w : List ℕ} → (Sound (dirView dh d) (fileView d fh f) → ⊥) → w ≡ cleared (rooms d f) work
-            → Given (openGate refusal (tables dh d fh f) opens room work) (refusal BrokenTree w)
+            → Given (treeGate refusal (tables dh d fh f) work) (refusal BrokenTree w)
         gate-broken u c = inr (m, inr (o, inr (long, inl (u, ap (λ (x : List ℕ). refusal BrokenTree x) c))))
 
         pub gate-open : {w : List ℕ} → Sound (dirView dh d) (fileView d fh f) → w ≡ cleared (rooms d f) work
-            → None (openGate refusal (tables dh d fh f) opens room work) × Sound (dirView dh d) (fileView d fh f) × (w ≡ cleared (rooms d f) work)
+            → None (treeGate refusal (tables dh d fh f) work) × Sound (dirView dh d) (fileView d fh f) × (w ≡ cleared (rooms d f) work)
         gate-open S c = ((m, (o, (long, ((λ u. u S), tt)))), S, c)
 
--- ---- the gate of a call that takes no open counts, and the test
+-- ---- the gate over a packed list
 
-none-short : {A : Type 0} → A ⊎ (0 < 0) → A
-none-short (inl a) = a
-none-short (inr h) = absurd (omega arith)
+module _ (dh d fh f work : List ℕ) (k : ℕ) (l : List ℕ) (b : Bool) (F : (b ≡ true → Packed k l) × (Packed k l → b ≡ true)) where
+  abbrev s : Tables
+  s = tables dh d fh f
+
+  -- a list in order: the tables' own gate
+  pub in-order : (work′ : List ℕ) (g : Gated) → b ≡ true → TreeGateOf s work work′ g → PackedGateOf s (opens k l) work work′ g
+  unfolding TreeGateOf PackedGateOf
+  in-order work′ Open e p = ((p .0 .0, (⊎-elim (p .0 .1 .0) (λ n. n (F .0 e)), p .0 .1 .1)), p .1, p .2)
+  in-order work′ (Refused answer) e (inl p) = inl p
+  in-order work′ (Refused answer) e (inr (m, inl p)) = inr (m, inl (inl (p .0), p .1))
+  in-order work′ (Refused answer) e (inr (m, inr (i, p))) = inr (m, inr (⊎-elim i (λ n. n (F .0 e)), p))
+
+  module _ (no : b ≡ false) (r : Bool) (T : Tells (Misfit dh d fh f) r) where
+    pub sizes-first : r ≡ true → PackedGateOf s (opens k l) work work (Refused SizeMismatch)
+    unfolding PackedGateOf
+    sizes-first e = inl (T .yes e, refl)
+
+    pub disordered : r ≡ false → PackedGateOf s (opens k l) work work (Refused InvalidValue)
+    unfolding PackedGateOf
+    disordered e = inr (tells-not T e, inl (inr (λ P. false≢true (sym no ∙ F .1 P)), refl))
+
+-- ---- the test
 
 module _ (dh d fh f work : List ℕ) where
-  given-plain : (o : Refusal) → Given (openGate refusal (tables dh d fh f) 0 0 work) o → Given (treeGate refusal (tables dh d fh f) work) o
-  given-plain o (inl p) = inl p
-  given-plain o (inr (m, inl p)) = inr (m, inl p)
-  given-plain o (inr (m, inr (q, inl p))) = inr (m, inr (q, inl (none-short (p .0), p .1)))
-  given-plain o (inr (m, inr (q, inr (s, inl p)))) = inr (m, inr (q, inr ((λ h. s (inl h)), inl p)))
-  given-plain o (inr (m, inr (q, inr (s, inr p)))) = absurd (p .1)
-
-  pub gate-plain : (work′ : List ℕ) (g : Gated) → OpenGateOf (tables dh d fh f) 0 0 work work′ g → TreeGateOf (tables dh d fh f) work work′ g
-  unfolding OpenGateOf TreeGateOf
-  gate-plain work′ Open p = ((p .0 .0, (p .0 .1 .0, ((λ h. p .0 .1 .1 .0 (inl h)), p .0 .1 .1 .1))), p .1, p .2)
-  gate-plain work′ (Refused answer) p = given-plain (refusal answer work′) p
-
   answered : {a b : Answer} {v w : List ℕ} → refusal a v ≡ refusal b w → tested a v ≡ tested b w
   answered e = ap (λ (r : Refusal). tested (r .answer) (r .work)) e
 

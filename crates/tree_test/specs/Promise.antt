@@ -8,7 +8,8 @@ use Rattle.order.specs.Given.{Given, None}
 use Rattle.order.specs.declared.Answer.{Answer}
 use Rattle.order.specs.declared.Answer.the-variants.{Done}
 use Rattle.tree_sound.specs.Tables.{Tables, roomsIn, SoundIn}
-use Rattle.tree_test.specs.Gate.{treeGate, openGate}
+use Rattle.tree_packed.specs.Opens.{Opens}
+use Rattle.tree_test.specs.Gate.{treeGate, packedGate}
 use Rattle.tree_test.specs.declared.Tested.{Tested}
 use Rattle.tree_test.specs.declared.Gated.{Gated}
 use Rattle.tree_test.specs.declared.Gated.the-variants.{Open, Refused}
@@ -33,5 +34,5 @@ GateOf rows sound k work work′ (Refused answer) = Given rows (refusal answer w
 unfoldable pub TreeGateOf : (s : Tables) (work work′ : List ℕ) → Gated → Type 0
 TreeGateOf s work work′ g = GateOf (treeGate refusal s work) (SoundIn s) (roomsIn s) work work′ g
 
-unfoldable pub OpenGateOf : (s : Tables) (opens room : ℕ) (work work′ : List ℕ) → Gated → Type 0
-OpenGateOf s opens room work work′ g = GateOf (openGate refusal s opens room work) (SoundIn s) (roomsIn s) work work′ g
+unfoldable pub PackedGateOf : (s : Tables) (o : Opens) (work work′ : List ℕ) → Gated → Type 0
+PackedGateOf s o work work′ g = GateOf (packedGate refusal s o work) (SoundIn s) (roomsIn s) work work′ g

@@ -13,7 +13,8 @@ ghost use Rattle.order.specs.Gate.{cleared};
 ghost use Rattle.tree_sound.specs.Sizes.{rooms, HashMisfit, Misfit, Beyond, Outside};
 ghost use Rattle.tree_sound.specs.Sound.{Sound};
 ghost use Rattle.tree_sound.specs.Tables.{tables};
-ghost use Rattle.tree_test.specs.Promise.{TestPromise, TreeGateOf, OpenGateOf};
+ghost use Rattle.tree_test.specs.Promise.{TestPromise, TreeGateOf, PackedGateOf};
+ghost use Rattle.tree_packed.specs.Opens.{opens};
 ghost use Rattle.tree_test.specs.inner.Halves.{RootFits, DirsTested, FilesTested, Sized};
 
 // The test's answer: Done for sound tables.
@@ -237,17 +238,15 @@ fn outside(dir_hash: &[u8], dir_table: &[u8], file_hash: &[u8], file_table: &[u8
     false
 }
 
-// The gate of a call that takes open counts also, a list of length `opens` for a table with room for `room` entries.
-pub fn open_gate(
+// The gate of a call that takes no open records.
+pub fn gate(
     dir_hash: &[u8],
     dir_table: &[u8],
     file_hash: &[u8],
     file_table: &[u8],
-    opens: usize,
-    room: usize,
     work: &mut [u32],
 ) -> Gated
-    ensures { λ r. ⌜ OpenGateOf (tables (now («dir_hash» .entry)) (now («dir_table» .entry)) (now («file_hash» .entry)) (now («file_table» .entry))) opens room (now (work .entry)) (now (work .exit)) r ⌝ }
+    ensures { λ r. ⌜ TreeGateOf (tables (now («dir_hash» .entry)) (now («dir_table» .entry)) (now («file_hash» .entry)) (now («file_table» .entry))) (now (work .entry)) (now (work .exit)) r ⌝ }
 {
     if misfit(dir_hash, dir_table, file_hash, file_table) {
         return Gated::Refused {
@@ -264,11 +263,6 @@ pub fn open_gate(
             answer: Answer::WorkTooShort,
         };
     }
-    if opens < room {
-        return Gated::Refused {
-            answer: Answer::WorkTooShort,
-        };
-    }
     if !verdict(dir_hash, dir_table, file_hash, file_table, work) {
         return Gated::Refused {
             answer: Answer::BrokenTree,
@@ -277,17 +271,29 @@ pub fn open_gate(
     Gated::Open
 }
 
-// The gate of a call that takes no open counts.
-pub fn gate(
+// The gate of a call that takes a packed list of open records also, whose order is judged with the sizes.
+pub fn open_gate(
     dir_hash: &[u8],
     dir_table: &[u8],
     file_hash: &[u8],
     file_table: &[u8],
+    list: &[u32],
+    opened: usize,
     work: &mut [u32],
 ) -> Gated
-    ensures { λ r. ⌜ TreeGateOf (tables (now («dir_hash» .entry)) (now («dir_table» .entry)) (now («file_hash» .entry)) (now («file_table» .entry))) (now (work .entry)) (now (work .exit)) r ⌝ }
+    ensures { λ r. ⌜ PackedGateOf (tables (now («dir_hash» .entry)) (now («dir_table» .entry)) (now («file_hash» .entry)) (now («file_table» .entry))) (opens opened (now (list .entry))) (now (work .entry)) (now (work .exit)) r ⌝ }
 {
-    open_gate(dir_hash, dir_table, file_hash, file_table, 0, 0, work)
+    if tree_packed::well_formed(list, opened) {
+        return gate(dir_hash, dir_table, file_hash, file_table, work);
+    }
+    if misfit(dir_hash, dir_table, file_hash, file_table) {
+        return Gated::Refused {
+            answer: Answer::SizeMismatch,
+        };
+    }
+    Gated::Refused {
+        answer: Answer::InvalidValue,
+    }
 }
 
 // The test of the two entry tables. Done: they are sound.

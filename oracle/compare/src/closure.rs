@@ -5,7 +5,7 @@ use crate::merged::merged_table;
 use crate::{block_history, tree_history};
 use port::{BlockCall, Blocks, Kind, Tree, TreeCall};
 use rules::blocks::layout;
-use rules::opens::readers;
+use rules::opens::{readers, Packed};
 use rules::tree::tree;
 use std::collections::{HashSet, VecDeque};
 
@@ -113,8 +113,9 @@ fn small_tree(dirs: usize, files: usize, buckets: usize) -> Tree {
         file_hash: vec![1; 4 * buckets],
         file_table: vec![0; 48 * files],
         work: vec![77; dirs + files],
-        dir_opens: vec![0; dirs],
-        file_opens: vec![0; files],
+        // Fewer places than entries: lists fill.
+        dir_opens: Packed::none(2 * dirs - 3),
+        file_opens: Packed::none(2 * files - 2),
         list: vec![99; 4],
     };
     let format = TreeCall::Format { dir_max: dirs, file_max: files };
@@ -124,7 +125,7 @@ fn small_tree(dirs: usize, files: usize, buckets: usize) -> Tree {
 
 fn all_tree_calls(lent: &Tree) -> Vec<TreeCall> {
     let names = [[b'a'; 16], *b"b\0\0\0\0\0\0\0\0\0\0\0\0\0\0\0"];
-    let dirs = lent.dir_opens.len() as u32;
+    let dirs = lent.room(Kind::Dir) as u32;
     let mut calls = vec![TreeCall::Stat, TreeCall::Test];
     for kind in [Kind::Dir, Kind::File] {
         for parent in 1..dirs {
@@ -132,17 +133,17 @@ fn all_tree_calls(lent: &Tree) -> Vec<TreeCall> {
             for name in names {
                 calls.push(TreeCall::Lookup { kind, parent, name });
                 calls.push(TreeCall::Make { kind, parent, name, carried: [parent as u8; 20] });
-                for inode in 1..lent.opens(kind).len() as u32 {
+                for inode in 1..lent.room(kind) as u32 {
                     calls.push(TreeCall::Rename { kind, inode, parent, name });
                 }
             }
         }
-        for inode in 0..=lent.opens(kind).len() as u32 {
+        for inode in 0..=lent.room(kind) as u32 {
             calls.push(TreeCall::Delete { kind, inode });
             calls.extend([0, 1].map(|want| TreeCall::Close { kind, inode, want }));
             calls.push(TreeCall::Open { kind, inode, want: 1 });
             // Readers stay few, so that the tables that can be reached are finitely many.
-            if lent.opens(kind).get(inode as usize).is_none_or(|record| readers(*record) < 1) {
+            if readers(lent.opens(kind).record(inode)) < 1 {
                 calls.push(TreeCall::Open { kind, inode, want: 0 });
             }
         }
@@ -152,7 +153,7 @@ fn all_tree_calls(lent: &Tree) -> Vec<TreeCall> {
 
 /// Every call on the first tables that can be reached, up to a limit: how many tables were met.
 pub fn reach_tree(dirs: usize, files: usize, buckets: usize, most: usize) -> usize {
-    let key = |t: &Tree| (t.four().map(|b| b.to_vec()), t.dir_opens.clone(), t.file_opens.clone());
+    let key = |t: &Tree| (t.four().map(|b| b.to_vec()), t.dir_opens.records(), t.file_opens.records());
     let first = small_tree(dirs, files, buckets);
     let mut met = HashSet::from([key(&first)]);
     let mut waiting = VecDeque::from([first]);

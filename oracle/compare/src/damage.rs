@@ -6,7 +6,7 @@ use crate::tree_history::seen;
 use crate::{block_history, trees, volumes};
 use port::{BlockCall, Blocks, Kind, Tree, TreeCall};
 use rules::blocks::{layout, set_node, Run};
-use rules::opens::WRITER;
+use rules::opens::{Packed, WRITER};
 use rules::tree::{moved, tree, FourMut};
 use rules::{put_word, word};
 
@@ -189,7 +189,7 @@ pub fn all_small(n: usize) -> usize {
 /// Any call with any numbers, on tables that need not be sound.
 pub fn wild_tree_call(chance: &mut Chance, lent: &Tree) -> TreeCall {
     let kind = chance.pick(&[Kind::Dir, Kind::File]);
-    let (dirs, these) = (lent.dir_opens.len(), lent.opens(kind).len());
+    let (dirs, these) = (lent.room(Kind::Dir), lent.room(kind));
     let parent = chance.within(0, dirs) as u32;
     let inode = chance.within(0, these) as u32;
     let name = trees::any_name(chance);
@@ -229,7 +229,7 @@ fn part(lent: &mut Tree, which: usize) -> &mut Vec<u8> {
 
 /// Every byte of the four tables in every way, then every word by every inode there is and a little more.
 pub fn each_tree_byte(chance: &mut Chance, lent: &Tree) {
-    let most = lent.dir_opens.len().max(lent.file_opens.len()) as u32 + 1;
+    let most = lent.room(Kind::Dir).max(lent.room(Kind::File)) as u32 + 1;
     for which in 0..4 {
         let len = part(&mut lent.clone(), which).len();
         for at in 0..len {
@@ -274,15 +274,39 @@ fn wrongly_moved(chance: &mut Chance, lent: &mut Tree) {
     moved(&mut four, &held, kind, inode, parent, &name);
 }
 
+/// A list of so many records as its places hold, each at an edge; now and then one that is not in order, or claims more than there are.
+fn any_records(chance: &mut Chance, lent: &mut Tree, kind: Kind) {
+    let room = lent.room(kind);
+    let opens = lent.opens_mut(kind);
+    let places = chance.below(2 * room + 4);
+    *opens = Packed { list: chance.words(places), opened: 0 };
+    for _ in 0..chance.below(room + 2) {
+        let inode = chance.within(1, room + 1) as u32;
+        let readers = chance.pick(&[0, 0, 0, 1, 2, 65_533, 65_534, 65_535, 65_536, 70_000, u32::MAX >> 1]);
+        if !opens.full_for(inode) {
+            opens.put(inode, readers + chance.pick(&[0, WRITER, WRITER]));
+        }
+    }
+    if chance.one_in(6) {
+        match chance.below(4) {
+            0 => opens.opened = chance.pick(&[opens.opened + 1, opens.list.len(), 1 << 31, usize::MAX]),
+            _ if opens.opened == 0 => {}
+            _ => {
+                let at = chance.below(2 * opens.opened);
+                opens.list[at] = chance.pick(&[0, 1, room as u32]);
+            }
+        }
+    }
+}
+
 /// Sound tables, damaged in a few places; records at their edges.
 pub fn damaged_tree(chance: &mut Chance) {
     let mut lent = if chance.one_in(3) { trees::small_sound(chance) } else { trees::any_sound(chance) };
-    for record in lent.dir_opens.iter_mut().chain(lent.file_opens.iter_mut()) {
-        let readers = chance.pick(&[0, 0, 0, 1, 2, 65_533, 65_534, 65_535, 65_536, 70_000, u32::MAX >> 1]);
-        *record = readers + chance.pick(&[0, WRITER, WRITER]);
+    for kind in [Kind::Dir, Kind::File] {
+        any_records(chance, &mut lent, kind);
     }
     lent.list = chance.words(8);
-    let most = lent.dir_opens.len().max(lent.file_opens.len());
+    let most = lent.room(Kind::Dir).max(lent.room(Kind::File));
     match chance.below(4) {
         0 => {}
         1 => wrongly_moved(chance, &mut lent),

@@ -4,6 +4,7 @@ use crate::chance::Chance;
 use crate::check::{block_call, block_call_on_data, tree_call};
 use crate::{damage, trees, volumes};
 use port::{BlockCall, Blocks, Kind, Tree, TreeCall};
+use rules::opens::Packed;
 
 const NUMBERS: [usize; 12] = [
     0,
@@ -188,7 +189,7 @@ fn every_tree_call(kind: Kind, inode: u32, other: u32) -> Vec<TreeCall> {
 fn tree_numbers(chance: &mut Chance) {
     let mut lent = trees::any_sound(chance);
     lent.list = chance.words(3);
-    let small = 0..=lent.dir_opens.len().max(lent.file_opens.len()) as u32;
+    let small = 0..=lent.room(Kind::Dir).max(lent.room(Kind::File)) as u32;
     let inodes: Vec<u32> = small.chain(INODES).collect();
     for kind in [Kind::Dir, Kind::File] {
         for inode in &inodes {
@@ -215,14 +216,15 @@ fn tree_lengths(chance: &mut Chance) {
     for _ in 0..200 {
         let mut cut: Tree = lent.clone();
         for _ in 0..chance.within(1, 2) {
-            match chance.below(7) {
+            match chance.below(8) {
                 0 => cut.dir_hash.resize(other(cut.dir_hash.len(), chance), 0),
                 1 => cut.dir_table.resize(other(cut.dir_table.len(), chance), 0),
                 2 => cut.file_hash.resize(other(cut.file_hash.len(), chance), 0),
                 3 => cut.file_table.resize(other(cut.file_table.len(), chance), 0),
                 4 => cut.work.resize(other(cut.work.len(), chance), 5),
-                5 => cut.dir_opens.resize(other(cut.dir_opens.len(), chance), 1),
-                _ => cut.file_opens.resize(other(cut.file_opens.len(), chance), 1),
+                5 => cut.dir_opens.list.resize(other(cut.dir_opens.list.len(), chance), 1),
+                6 => cut.file_opens.list.resize(other(cut.file_opens.list.len(), chance), 1),
+                _ => cut.opens_mut(chance.pick(&[Kind::Dir, Kind::File])).opened = chance.below(4),
             }
         }
         tree_call(&TreeCall::Test, &mut cut.clone());
@@ -259,8 +261,8 @@ fn large_trees() {
             file_hash: vec![3; 4],
             file_table: vec![4; 48 * files],
             work: vec![5; dirs + files],
-            dir_opens: vec![0; dirs],
-            file_opens: vec![0; files],
+            dir_opens: Packed::none(2),
+            file_opens: Packed::none(2),
             list: vec![9; 2],
         };
         for (dir_max, file_max) in [(dirs, files), (65_536, 1), (65_537, 1), (2, 65_536), (2, 65_537), (2, 1)] {

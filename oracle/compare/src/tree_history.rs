@@ -6,7 +6,7 @@ use crate::stored;
 use crate::trees::{self, any_bytes_name, any_name};
 use original::Tables;
 use port::{Answered, Kind, Tree, TreeCall};
-use rules::opens::{total, WRITER};
+use rules::opens::{total, Packed, WRITER};
 use rules::tree::{tree, Four};
 
 pub struct Session {
@@ -25,11 +25,11 @@ impl Session {
     pub fn new(lent: Tree) -> Session {
         let original = original::PRESENT.then(|| {
             let mut tables = Tables::open(lent.four()).expect("the original opens sound tables");
-            for (x, record) in lent.dir_opens.iter().enumerate() {
-                (0..total(*record)).for_each(|_| tables.open_dir(x as u32));
+            for (x, record) in lent.dir_opens.records() {
+                (0..total(record)).for_each(|_| tables.open_dir(x));
             }
-            for (x, record) in lent.file_opens.iter().enumerate() {
-                (0..total(*record)).for_each(|_| tables.open_file(x as u32));
+            for (x, record) in lent.file_opens.records() {
+                (0..total(record)).for_each(|_| tables.open_file(x));
             }
             tables
         });
@@ -46,11 +46,11 @@ impl Session {
             }
             let same = original.holds(self.lent.four());
             assert!(same, "the original's bytes differ after {call:?}\nrules {}\noriginal {}", check::short(&self.lent), check::short(&original.four()));
-            for (x, record) in self.lent.dir_opens.iter().enumerate() {
-                assert_eq!(original.dir_opens(x as u32), total(*record), "opens of directory {x} after {call:?}");
+            for x in 0..self.lent.room(Kind::Dir) as u32 {
+                assert_eq!(original.dir_opens(x), total(self.lent.dir_opens.record(x)), "opens of directory {x} after {call:?}");
             }
-            for (x, record) in self.lent.file_opens.iter().enumerate() {
-                assert_eq!(original.file_opens(x as u32), total(*record), "opens of file {x} after {call:?}");
+            for x in 0..self.lent.room(Kind::File) as u32 {
+                assert_eq!(original.file_opens(x), total(self.lent.file_opens.record(x)), "opens of file {x} after {call:?}");
             }
             if followed && has_counterpart(call) {
                 stored::confirm_tree();
@@ -253,9 +253,12 @@ fn spare(maximum: usize) -> usize {
     maximum % 4
 }
 
-/// Few readers, or none; with a writer or without.
-fn any_record(chance: &mut Chance) -> u32 {
-    chance.below(3) as u32 + chance.pick(&[0, WRITER])
+/// Few readers, or none; with a writer or without; none where the list is full.
+fn some_record(chance: &mut Chance, opens: &mut Packed, inode: u32) {
+    let record = chance.below(3) as u32 + chance.pick(&[0, WRITER]);
+    if !opens.full_for(inode) {
+        opens.put(inode, record);
+    }
 }
 
 /// One random history.
@@ -263,10 +266,10 @@ pub fn run(chance: &mut Chance) {
     let mut start = if chance.one_in(2) { trees::formatted(chance) } else { trees::any_sound(chance) };
     let held = tree(seen(&start)).unwrap();
     for x in held.dirs.inodes() {
-        start.dir_opens[x as usize] = any_record(chance);
+        some_record(chance, &mut start.dir_opens, x);
     }
     for x in held.files.inodes() {
-        start.file_opens[x as usize] = any_record(chance);
+        some_record(chance, &mut start.file_opens, x);
     }
     compare_format(chance);
     let mut session = Session::new(start);

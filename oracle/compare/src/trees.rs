@@ -3,6 +3,7 @@
 use crate::chance::Chance;
 use port::{Kind, Tree};
 use rules::entries::{hash, key};
+use rules::opens::Packed;
 use rules::put_word;
 use rules::tree::{tree, Four};
 
@@ -164,17 +165,23 @@ pub fn any_sound(chance: &mut Chance) -> Tree {
         file_hash,
         file_table,
         work,
-        dir_opens: vec![0; dirs.room + chance.below(2)],
-        file_opens: vec![0; files.room + chance.below(2)],
+        dir_opens: any_places(chance, dirs.room),
+        file_opens: any_places(chance, files.room),
         list: vec![],
     }
+}
+
+/// Nothing open, in a list with a place for every entry, or for some.
+fn any_places(chance: &mut Chance, room: usize) -> Packed {
+    let places = if chance.one_in(2) { 2 * room } else { chance.below(2 * room + 2) };
+    Packed { list: chance.words(places), opened: 0 }
 }
 
 /// Arbitrary sound tables with few entries.
 pub fn small_sound(chance: &mut Chance) -> Tree {
     loop {
         let lent = any_sound(chance);
-        if lent.dir_opens.len() <= 6 && lent.file_opens.len() <= 6 {
+        if lent.room(Kind::Dir) <= 6 && lent.room(Kind::File) <= 6 {
             return lent;
         }
     }
@@ -203,8 +210,8 @@ pub fn formatted(chance: &mut Chance) -> Tree {
         file_hash,
         file_table,
         work: chance.words(dir_room + file_room),
-        dir_opens: vec![0; dir_room],
-        file_opens: vec![0; file_room],
+        dir_opens: any_places(chance, dir_room),
+        file_opens: any_places(chance, file_room),
         list: vec![],
     }
 }

@@ -3,7 +3,7 @@
 
 use original::{Tables, Volume};
 use port::{Answered, BlockCall, Blocks, Kind, Library, Port, Stated, Tree, TreeCall};
-use rules::opens::{total, WRITER};
+use rules::opens::{total, Packed, WRITER};
 use rules::{put_word, word};
 use std::panic::{catch_unwind, AssertUnwindSafe};
 
@@ -74,8 +74,8 @@ fn tables(dirs: usize, files: usize) -> Tree {
         file_hash: vec![0; 12],
         file_table: vec![0; 48 * files],
         work: vec![0; dirs + files],
-        dir_opens: vec![0; dirs],
-        file_opens: vec![0; files],
+        dir_opens: Packed::none(2 * dirs),
+        file_opens: Packed::none(2 * files),
         list: vec![0; 4],
     };
     let format = TreeCall::Format { dir_max: dirs, file_max: files };
@@ -98,8 +98,8 @@ fn with_dir(mut lent: Tree, parent: u32, letter: u8) -> Tree {
 /// The original on the same bytes, with a handle for each reader and for the writer.
 fn beside(lent: &Tree) -> Tables {
     let mut tables = Tables::open(lent.four()).unwrap();
-    for (x, record) in lent.dir_opens.iter().enumerate() {
-        (0..total(*record)).for_each(|_| tables.open_dir(x as u32));
+    for (x, record) in lent.dir_opens.records() {
+        (0..total(record)).for_each(|_| tables.open_dir(x));
     }
     tables
 }
@@ -263,8 +263,8 @@ fn directory_into_itself() {
 #[test]
 fn rename_of_the_root_or_of_the_dead() {
     let mut lent = with_dir(tables(4, 2), 1, b'a');
-    lent.dir_opens[1] = WRITER;
-    lent.dir_opens[3] = WRITER;
+    lent.dir_opens.put(1, WRITER);
+    lent.dir_opens.put(3, WRITER);
     for (inode, number) in [(1, 13), (3, 10)] {
         let call = TreeCall::Rename { kind: Kind::Dir, inode, parent: 1, name: name(b'c') };
         assert_eq!(tree_number(call, &lent), number);
@@ -278,7 +278,7 @@ fn rename_of_the_root_or_of_the_dead() {
 #[test]
 fn refused_delete_drops_its_handle() {
     let mut lent = with_dir(tables(4, 2), 1, b'a');
-    lent.dir_opens[2] = WRITER + 1;
+    lent.dir_opens.put(2, WRITER + 1);
     let call = TreeCall::Delete { kind: Kind::Dir, inode: 2 };
     assert_eq!(tree_number(call, &lent), 12);
     if original::PRESENT {
@@ -310,10 +310,10 @@ fn dead_inodes() {
         assert_eq!(original.dir_opens(2), 2);
     }
     let mut held = lent.clone();
-    held.dir_opens[2] = 3;
+    held.dir_opens.put(2, 3);
     let make = TreeCall::Make { kind, parent: 1, name: name(b'a'), carried };
     assert_eq!(Stated.tree_call(&make, &mut held).number, 0);
-    assert_eq!(held.dir_opens[2], WRITER);
+    assert_eq!(held.dir_opens.record(2), WRITER);
 }
 
 #[test]
@@ -321,18 +321,18 @@ fn no_readers_and_no_writer() {
     let mut lent = with_dir(tables(4, 2), 1, b'a');
     let (kind, inode) = (Kind::Dir, 2);
     // A second writer.
-    lent.dir_opens[2] = WRITER;
+    lent.dir_opens.put(2, WRITER);
     assert_eq!(tree_number(TreeCall::Open { kind, inode, want: 1 }, &lent), 12);
     // Delete and rename by a reader; a writer's close where a reader holds it.
     let mut read = lent.clone();
-    read.dir_opens[2] = 1;
+    read.dir_opens.put(2, 1);
     let rename = TreeCall::Rename { kind, inode, parent: 1, name: name(b'c') };
     assert_eq!(tree_number(TreeCall::Delete { kind, inode }, &read), 16);
     assert_eq!(tree_number(rename.clone(), &read), 16);
     assert_eq!(tree_number(TreeCall::Close { kind, inode, want: 1 }, &read), 16);
     // A rename while others read, which both allow.
     let mut shared = lent.clone();
-    shared.dir_opens[2] = WRITER + 2;
+    shared.dir_opens.put(2, WRITER + 2);
     assert_eq!(tree_number(rename, &shared), 0);
     if original::PRESENT {
         let mut original = beside(&lent);
@@ -349,7 +349,7 @@ fn no_readers_and_no_writer() {
 #[test]
 fn no_limit_of_opens() {
     let mut lent = tables(2, 1);
-    lent.dir_opens[1] = 65_535;
+    lent.dir_opens.put(1, 65_535);
     for want in [0, 1] {
         assert_eq!(tree_number(TreeCall::Open { kind: Kind::Dir, inode: 1, want }, &lent), 17);
     }
@@ -357,6 +357,20 @@ fn no_limit_of_opens() {
         let mut original = beside(&lent);
         original.open_dir(1);
         assert_eq!(original.dir_opens(1), 65_536);
+    }
+}
+
+#[test]
+fn no_list_of_opens_that_fills() {
+    let mut lent = with_dir(tables(3, 1), 1, b'a');
+    lent.dir_opens = Packed::none(3);
+    lent.dir_opens.put(2, 1);
+    assert_eq!(tree_number(TreeCall::Open { kind: Kind::Dir, inode: 1, want: 0 }, &lent), 17);
+    assert_eq!(tree_number(TreeCall::Open { kind: Kind::Dir, inode: 2, want: 0 }, &lent), 0);
+    if original::PRESENT {
+        let mut original = beside(&lent);
+        original.open_dir(1);
+        assert_eq!((original.dir_opens(1), original.dir_opens(2)), (1, 1));
     }
 }
 

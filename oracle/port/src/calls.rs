@@ -1,6 +1,7 @@
 //! The calls as data, and everything that is lent to one.
 
 pub use rules::entries::Kind;
+use rules::opens::Packed;
 
 /// What is lent to a block call. A call takes the parts that RULES 1.3 gives it and must leave the others alone.
 #[derive(Clone, PartialEq, Eq, Debug, Default)]
@@ -33,8 +34,8 @@ pub struct Tree {
     pub file_hash: Vec<u8>,
     pub file_table: Vec<u8>,
     pub work: Vec<u32>,
-    pub dir_opens: Vec<u32>,
-    pub file_opens: Vec<u32>,
+    pub dir_opens: Packed,
+    pub file_opens: Packed,
     pub list: Vec<u32>,
 }
 
@@ -42,10 +43,23 @@ impl Tree {
     pub fn four(&self) -> [&[u8]; 4] {
         [&self.dir_hash, &self.dir_table, &self.file_hash, &self.file_table]
     }
-    pub fn opens(&self, kind: Kind) -> &Vec<u32> {
+    pub fn opens(&self, kind: Kind) -> &Packed {
         match kind {
             Kind::Dir => &self.dir_opens,
             Kind::File => &self.file_opens,
+        }
+    }
+    pub fn opens_mut(&mut self, kind: Kind) -> &mut Packed {
+        match kind {
+            Kind::Dir => &mut self.dir_opens,
+            Kind::File => &mut self.file_opens,
+        }
+    }
+    /// Entries that the kind's table has room for.
+    pub fn room(&self, kind: Kind) -> usize {
+        match kind {
+            Kind::Dir => self.dir_table.len() / 40,
+            Kind::File => self.file_table.len() / 48,
         }
     }
 }

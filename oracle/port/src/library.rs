@@ -68,8 +68,8 @@ macro_rules! on_four {
 macro_rules! with_opens {
     ($to:ident, $kind:expr, $dir:ident, $file:ident, $lent:ident $(, $more:expr)*) => {
         match $kind {
-            Kind::Dir => on_four!($to, $dir, $lent, $lent.dir_opens.as_mut_ptr(), $lent.dir_opens.len() $(, $more)*),
-            Kind::File => on_four!($to, $file, $lent, $lent.file_opens.as_mut_ptr(), $lent.file_opens.len() $(, $more)*),
+            Kind::Dir => on_four!($to, $dir, $lent, $lent.dir_opens.list.as_mut_ptr(), $lent.dir_opens.list.len(), &raw mut $lent.dir_opens.opened $(, $more)*),
+            Kind::File => on_four!($to, $file, $lent, $lent.file_opens.list.as_mut_ptr(), $lent.file_opens.list.len(), &raw mut $lent.file_opens.opened $(, $more)*),
         }
     };
 }
@@ -126,12 +126,12 @@ unsafe fn tree_call(call: &TreeCall, lent: &mut Tree) -> Answered {
                 let padding: &[u8; 4] = carried[..4].try_into().unwrap();
                 on_four!(
                     made, mukthiban_tree_make_dir, lent,
-                    lent.dir_opens.as_mut_ptr(), lent.dir_opens.len(), parent, name, padding
+                    lent.dir_opens.list.as_mut_ptr(), lent.dir_opens.list.len(), &raw mut lent.dir_opens.opened, parent, name, padding
                 )
             }
             Kind::File => on_four!(
                 made, mukthiban_tree_make_file, lent,
-                lent.file_opens.as_mut_ptr(), lent.file_opens.len(), parent, name, carried
+                lent.file_opens.list.as_mut_ptr(), lent.file_opens.list.len(), &raw mut lent.file_opens.opened, parent, name, carried
             ),
         },
         TreeCall::Rename { kind, inode, parent, ref name } => with_opens!(

@@ -3,6 +3,7 @@
 use crate::{Answered, BlockCall, Blocks, Kind, Port, Tree, TreeCall};
 use rules::answer::{number, Outcome};
 use rules::fault::fault;
+use rules::opens::Packed;
 use rules::tree::{Four, FourMut};
 use rules::{blocks, tree};
 
@@ -22,7 +23,7 @@ fn seen(lent: &Tree) -> Four<'_> {
 }
 
 /// The four tables, the work list and the open records of one kind.
-fn parts(lent: &mut Tree, kind: Kind) -> (FourMut<'_>, &mut [u32], &mut [u32]) {
+fn parts(lent: &mut Tree, kind: Kind) -> (FourMut<'_>, &mut [u32], &mut Packed) {
     let four = FourMut {
         dir_hash: &mut lent.dir_hash,
         dir_table: &mut lent.dir_table,

@@ -105,6 +105,13 @@ impl View<'_> {
     pub fn maximum(&self) -> u32 {
         self.field(0, MAXIMUM)
     }
+    /// The entry that make uses: the first removed one, else the one after those in use. None where neither is to be had.
+    pub fn unused(&self) -> Option<u32> {
+        match self.collision(0) {
+            0 => (self.count() < self.maximum()).then(|| self.count()),
+            removed => Some(removed),
+        }
+    }
     pub fn first_in_bucket(&self, bucket: usize) -> u32 {
         word(self.hash, bucket * 4)
     }
@@ -183,18 +190,14 @@ impl ViewMut<'_> {
 
     /// "Make uses the first removed entry if there is one, else the count, which grows by 1." None where neither is to be had.
     pub fn take(&mut self) -> Option<u32> {
-        let removed = self.view().collision(0);
-        if removed != 0 {
-            let rest = self.view().collision(removed);
+        let inode = self.view().unused()?;
+        if self.view().collision(0) != 0 {
+            let rest = self.view().collision(inode);
             self.set_collision(0, rest);
-            return Some(removed);
+        } else {
+            self.set_field(0, COUNT, inode + 1);
         }
-        let count = self.view().count();
-        if count == self.view().maximum() {
-            return None;
-        }
-        self.set_field(0, COUNT, count + 1);
-        Some(count)
+        Some(inode)
     }
 
     /// "Copies entry 0's whole width over the entry, then names it first removed."

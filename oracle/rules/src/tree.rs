@@ -3,7 +3,7 @@
 use crate::answer::Answer::{self, *};
 use crate::answer::{refuse, Outcome};
 use crate::entries::*;
-use crate::opens::{self, Want};
+use crate::opens::{self, Packed, Want};
 use crate::sound::{is_root, ROOT};
 
 pub use crate::sound::{tree, Four, FourMut, Tree};
@@ -23,20 +23,12 @@ pub(crate) fn sizes(four: Four) -> Outcome<()> {
     Ok(())
 }
 
-/// The open records that a call takes: those of one table.
-struct Opens {
-    kind: Kind,
-    len: usize,
-}
-
-/// Sizes, work list and open records, soundness. Once the first two have passed, the named work places are 0.
-fn gate(four: Four, work: &mut [u32], opens: Option<Opens>) -> Outcome<Tree> {
+/// Sizes and the list of open records, work list, soundness. Once the first two have passed, the named work places are 0.
+fn gate(four: Four, work: &mut [u32], opens: Option<&Packed>) -> Outcome<Tree> {
     sizes(four)?;
+    refuse(opens.is_some_and(|opens| !opens.in_order()), InvalidValue)?;
     let rooms = four.view(Kind::Dir).room() + four.view(Kind::File).room();
     refuse(work.len() < rooms, WorkTooShort)?;
-    if let Some(opens) = opens {
-        refuse(opens.len < four.view(opens.kind).room(), WorkTooShort)?;
-    }
     work[..rooms].fill(0);
     tree(four).ok_or(BrokenTree)
 }
@@ -141,25 +133,27 @@ pub fn lookup(four: Four, work: &mut [u32], kind: Kind, parent: u32, name: &Name
 pub fn make(
     four: &mut FourMut,
     work: &mut [u32],
-    opens: &mut [u32],
+    opens: &mut Packed,
     kind: Kind,
     parent: u32,
     name: &Name,
     carried: &[u8],
 ) -> Outcome<u32> {
-    let tree = gate(four.four(), work, Some(Opens { kind, len: opens.len() }))?;
+    let tree = gate(four.four(), work, Some(opens))?;
     refuse(!legal(name), InvalidValue)?;
     live(&tree, Kind::Dir, parent)?;
     let other = with_key(four.four(), &tree, kind, &key(parent, name));
     refuse(other.is_some(), AlreadyExist)?;
-    let inode = four.view_mut(kind).take().ok_or(NoSpace)?;
+    let inode = four.four().view(kind).unused().ok_or(NoSpace)?;
+    refuse(opens.full_for(inode), TooManyOpens)?;
+    four.view_mut(kind).take();
     four.view_mut(kind).set_carried(inode, carried);
     if kind == Kind::Dir {
         four.view_mut(Kind::Dir).set_first_child(inode, Kind::Dir, 0);
         four.view_mut(Kind::Dir).set_first_child(inode, Kind::File, 0);
     }
     link(four, kind, inode, parent, name);
-    opens[inode as usize] = opens::WRITER;
+    opens.put(inode, opens::WRITER);
     Ok(inode)
 }
 
@@ -177,15 +171,15 @@ fn at_or_below(four: Four, dir: u32, other: u32) -> bool {
 pub fn rename(
     four: &mut FourMut,
     work: &mut [u32],
-    opens: &[u32],
+    opens: &Packed,
     kind: Kind,
     inode: u32,
     parent: u32,
     name: &Name,
 ) -> Outcome<()> {
-    let tree = gate(four.four(), work, Some(Opens { kind, len: opens.len() }))?;
+    let tree = gate(four.four(), work, Some(opens))?;
     live(&tree, kind, inode)?;
-    refuse(!opens::held(opens[inode as usize]), NotOpen)?;
+    refuse(!opens::held(opens.record(inode)), NotOpen)?;
     refuse(is_root(kind, inode), DeletingRoot)?;
     refuse(!legal(name), InvalidValue)?;
     live(&tree, Kind::Dir, parent)?;
@@ -200,14 +194,14 @@ pub fn rename(
 pub fn delete(
     four: &mut FourMut,
     work: &mut [u32],
-    opens: &mut [u32],
+    opens: &mut Packed,
     kind: Kind,
     inode: u32,
 ) -> Outcome<()> {
-    let tree = gate(four.four(), work, Some(Opens { kind, len: opens.len() }))?;
+    let tree = gate(four.four(), work, Some(opens))?;
     live(&tree, kind, inode)?;
-    refuse(!opens::held(opens[inode as usize]), NotOpen)?;
-    refuse(opens::readers(opens[inode as usize]) > 0, Busy)?;
+    refuse(!opens::held(opens.record(inode)), NotOpen)?;
+    refuse(opens::readers(opens.record(inode)) > 0, Busy)?;
     refuse(is_root(kind, inode), DeletingRoot)?;
     if kind == Kind::Dir {
         let empty = tree.children(Kind::Dir, inode).is_empty()
@@ -216,7 +210,7 @@ pub fn delete(
     }
     unlink(four, &tree, kind, inode);
     four.view_mut(kind).give(inode);
-    opens[inode as usize] = 0;
+    opens.put(inode, 0);
     Ok(())
 }
 
@@ -287,32 +281,33 @@ pub fn set_carried(
 pub fn open(
     four: Four,
     work: &mut [u32],
-    opens: &mut [u32],
+    opens: &mut Packed,
     kind: Kind,
     inode: u32,
     want: u32,
 ) -> Outcome<()> {
     sizes(four)?;
     let want = Want::of(want).ok_or(InvalidValue)?;
-    let tree = gate(four, work, Some(Opens { kind, len: opens.len() }))?;
+    let tree = gate(four, work, Some(opens))?;
     live(&tree, kind, inode)?;
-    opens[inode as usize] = opens::opened(opens[inode as usize], want)?;
+    refuse(opens.full_for(inode), TooManyOpens)?;
+    opens.put(inode, opens::opened(opens.record(inode), want)?);
     Ok(())
 }
 
 pub fn close(
     four: Four,
     work: &mut [u32],
-    opens: &mut [u32],
+    opens: &mut Packed,
     kind: Kind,
     inode: u32,
     want: u32,
 ) -> Outcome<()> {
     sizes(four)?;
     let want = Want::of(want).ok_or(InvalidValue)?;
-    let tree = gate(four, work, Some(Opens { kind, len: opens.len() }))?;
+    let tree = gate(four, work, Some(opens))?;
     live(&tree, kind, inode)?;
-    opens[inode as usize] = opens::closed(opens[inode as usize], want)?;
+    opens.put(inode, opens::closed(opens.record(inode), want)?);
     Ok(())
 }
 

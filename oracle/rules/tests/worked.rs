@@ -5,7 +5,7 @@ use rules::audit::{audit, Both};
 use rules::blocks::{self, lay_out, Layout, Run, Tested};
 use rules::entries::{hash, key, Kind};
 use rules::plan;
-use rules::opens::WRITER;
+use rules::opens::{Packed, WRITER};
 use rules::tree::{self, Found, Four, FourMut, Stat};
 use rules::word;
 
@@ -161,7 +161,7 @@ struct Tables {
     file_hash: Vec<u8>,
     file_table: Vec<u8>,
     work: Vec<u32>,
-    opens: Vec<u32>,
+    opens: Packed,
 }
 
 impl Tables {
@@ -172,12 +172,12 @@ impl Tables {
             file_hash: vec![9; 4],
             file_table: vec![9; 48 * file_max],
             work: vec![9; dir_max + file_max + 1],
-            opens: vec![0; dir_max.max(file_max)],
+            opens: Packed::none(2 * dir_max.max(file_max)),
         };
         tree::format(&mut t.lent().0, dir_max, file_max).unwrap();
         t
     }
-    fn lent(&mut self) -> (FourMut<'_>, &mut [u32], &mut [u32]) {
+    fn lent(&mut self) -> (FourMut<'_>, &mut [u32], &mut Packed) {
         let four = FourMut {
             dir_hash: &mut self.dir_hash,
             dir_table: &mut self.dir_table,
@@ -216,7 +216,7 @@ fn entry_tables() {
     assert_eq!(word(&t.dir_table, 2 * 40 + 36), 1);
     assert_eq!(word(&t.dir_table, 40 + 24), 2);
     assert_eq!(t.work, [0, 0, 0, 0, 0, 9]);
-    assert_eq!(t.opens[2], WRITER);
+    assert_eq!(t.opens.record(2), WRITER);
     assert_eq!(t.lookup(1, name_a()), Found { answer: Done, inode: 2, compared: 1 });
     assert_eq!(t.lookup(0, [0; 16]), Found { answer: Done, inode: 1, compared: 2 });
     let (mut four, work, opens) = t.lent();
@@ -267,7 +267,7 @@ fn tree_refusals() {
     assert_eq!(tree::list(f.four(), work, dir, 1, &mut list), Ok(1));
     assert_eq!(list, [4, 8, 8, 8]);
     assert_eq!(tree::list(f.four(), work, dir, 1, &mut []), Err(ListTooShort));
-    opens[3] = WRITER + 65_534;
+    opens.put(3, WRITER + 65_534);
     assert_eq!(tree::open(f.four(), work, opens, dir, 3, 0), Err(TooManyOpens));
     assert_eq!(tree::open(f.four(), work, opens, dir, 3, 1), Err(TooManyOpens));
     assert_eq!(tree::close(f.four(), work, opens, dir, 3, 0), Ok(()));

@@ -72,27 +72,27 @@ calls! {
     ) -> Found;
     fn mukthiban_tested_tree_make_dir(
         dir_hash: &mut [u8], dir_table: &mut [u8], file_hash: &[u8], file_table: &[u8],
-        opens: &mut [u32], parent: u32, name: &[u8; 16], carried: &[u8; 4],
+        opens: &mut [u32], opened: &mut usize, parent: u32, name: &[u8; 16], carried: &[u8; 4],
     ) -> Made;
     fn mukthiban_tested_tree_make_file(
         dir_hash: &[u8], dir_table: &mut [u8], file_hash: &mut [u8], file_table: &mut [u8],
-        opens: &mut [u32], parent: u32, name: &[u8; 16], carried: &[u8; 20],
+        opens: &mut [u32], opened: &mut usize, parent: u32, name: &[u8; 16], carried: &[u8; 20],
     ) -> Made;
     fn mukthiban_tested_tree_rename_dir(
         dir_hash: &mut [u8], dir_table: &mut [u8], file_hash: &[u8], file_table: &[u8],
-        opens: &[u32], inode: u32, parent: u32, name: &[u8; 16],
+        opens: &[u32], opened: &usize, inode: u32, parent: u32, name: &[u8; 16],
     ) -> Plain;
     fn mukthiban_tested_tree_rename_file(
         dir_hash: &[u8], dir_table: &mut [u8], file_hash: &mut [u8], file_table: &mut [u8],
-        opens: &[u32], inode: u32, parent: u32, name: &[u8; 16],
+        opens: &[u32], opened: &usize, inode: u32, parent: u32, name: &[u8; 16],
     ) -> Plain;
     fn mukthiban_tested_tree_delete_dir(
         dir_hash: &mut [u8], dir_table: &mut [u8], file_hash: &[u8], file_table: &[u8],
-        opens: &mut [u32], inode: u32,
+        opens: &mut [u32], opened: &mut usize, inode: u32,
     ) -> Plain;
     fn mukthiban_tested_tree_delete_file(
         dir_hash: &[u8], dir_table: &mut [u8], file_hash: &mut [u8], file_table: &mut [u8],
-        opens: &mut [u32], inode: u32,
+        opens: &mut [u32], opened: &mut usize, inode: u32,
     ) -> Plain;
     fn mukthiban_tested_tree_list_dirs(
         dir_hash: &[u8], dir_table: &[u8], file_hash: &[u8], file_table: &[u8],
@@ -125,18 +125,18 @@ calls! {
     ) -> Plain;
     fn mukthiban_tested_tree_open_dir(
         dir_hash: &[u8], dir_table: &[u8], file_hash: &[u8], file_table: &[u8],
-        opens: &mut [u32], inode: u32, kind: u32,
+        opens: &mut [u32], opened: &mut usize, inode: u32, kind: u32,
     ) -> Plain;
     fn mukthiban_tested_tree_open_file(
         dir_hash: &[u8], dir_table: &[u8], file_hash: &[u8], file_table: &[u8],
-        opens: &mut [u32], inode: u32, kind: u32,
+        opens: &mut [u32], opened: &mut usize, inode: u32, kind: u32,
     ) -> Plain;
     fn mukthiban_tested_tree_close_dir(
         dir_hash: &[u8], dir_table: &[u8], file_hash: &[u8], file_table: &[u8],
-        opens: &mut [u32], inode: u32, kind: u32,
+        opens: &mut [u32], opened: &mut usize, inode: u32, kind: u32,
     ) -> Plain;
     fn mukthiban_tested_tree_close_file(
         dir_hash: &[u8], dir_table: &[u8], file_hash: &[u8], file_table: &[u8],
-        opens: &mut [u32], inode: u32, kind: u32,
+        opens: &mut [u32], opened: &mut usize, inode: u32, kind: u32,
     ) -> Plain;
 }

@@ -54,6 +54,10 @@ fn parameter(c: &str) -> String {
     let (kind, name) = c.split_once(' ').expect("type and name");
     let kind = rust_type(kind);
     if let Some(name) = name.strip_prefix('*') {
+        // A pointer to a size is to one number: no slice of sizes is lent.
+        if kind == "usize" {
+            return format!("{name}: &{mutable}{kind}");
+        }
         return format!("{name}: &{mutable}[{kind}]");
     }
     match name.split_once('[') {

@@ -1,13 +1,17 @@
 //! The entry tables, call by call, over lent slices.
 //!
 //! Each call tests all four tables before it does anything, so it may be handed any bytes. A work list has a place for
-//! each entry of both tables. Where many calls are made on one volume, [`Volume`](crate::Volume) tests once.
+//! each entry of both tables. The open records of a table are a packed list, two places a record, the inode and its
+//! record, rising by inode, with the number of records beside it: a list of any content where that number is 0. Where
+//! many calls are made on one volume, [`Volume`](crate::Volume) tests once.
 //!
 //! ```
 //! use mukthiban::{tree, tree::TablesMut, Refusal, ROOT};
 //! let (mut dir_hash, mut dir_table) = ([0u8; 4 * 5], [0u8; 40 * 4]);
 //! let (mut file_hash, mut file_table) = ([0u8; 4 * 5], [0u8; 48 * 4]);
-//! let (mut work, mut dir_opens, mut file_opens) = ([0u32; 8], [0u32; 4], [0u32; 4]);
+//! let mut work = [0u32; 8];
+//! // Two places for each inode that is open at a time, and the number of records.
+//! let (mut dir_opens, mut dirs_opened, mut file_opens, mut files_opened) = ([0u32; 4], 0, [0u32; 4], 0);
 //! let mut tables = TablesMut {
 //!     dir_hash: &mut dir_hash,
 //!     dir_table: &mut dir_table,
@@ -16,10 +20,10 @@
 //! };
 //! tree::format(&mut tables, 4, 4)?;
 //!
-//! let dir = tree::make_dir(&mut tables, &mut work, &mut dir_opens, ROOT, b"saves\0\0\0\0\0\0\0\0\0\0\0", &[0; 4])?;
-//! let file = tree::make_file(&mut tables, &mut work, &mut file_opens, dir, b"slot1\0\0\0\0\0\0\0\0\0\0\0", &[7; 20])?;
+//! let dir = tree::make_dir(&mut tables, &mut work, &mut dir_opens, &mut dirs_opened, ROOT, b"saves\0\0\0\0\0\0\0\0\0\0\0", &[0; 4])?;
+//! let file = tree::make_file(&mut tables, &mut work, &mut file_opens, &mut files_opened, dir, b"slot1\0\0\0\0\0\0\0\0\0\0\0", &[7; 20])?;
 //! assert_eq!(tree::carried_file(tables.shared(), &mut work, file)?, [7; 20]);
-//! assert_eq!(tree::delete_dir(&mut tables, &mut work, &mut dir_opens, dir), Err(Refusal::NotEmpty));
+//! assert_eq!(tree::delete_dir(&mut tables, &mut work, &mut dir_opens, &mut dirs_opened, dir), Err(Refusal::NotEmpty));
 //! # Ok::<(), Refusal>(())
 //! ```
 
@@ -176,13 +180,14 @@ pub fn make_dir(
     tables: &mut TablesMut<'_>,
     work: &mut [u32],
     opens: &mut [u32],
+    opened: &mut usize,
     parent: u32,
     name: &Name,
     carried: &[u8; 4],
 ) -> Result<u32, Refusal> {
     made(on_tables!(
         mukthiban_tree_make_dir, change tables,
-        work.as_mut_ptr(), work.len(), opens.as_mut_ptr(), opens.len(), parent, name, carried,
+        work.as_mut_ptr(), work.len(), opens.as_mut_ptr(), opens.len(), opened, parent, name, carried,
     ))
 }
 
@@ -191,13 +196,14 @@ pub fn make_file(
     tables: &mut TablesMut<'_>,
     work: &mut [u32],
     opens: &mut [u32],
+    opened: &mut usize,
     parent: u32,
     name: &Name,
     carried: &[u8; 20],
 ) -> Result<u32, Refusal> {
     made(on_tables!(
         mukthiban_tree_make_file, change tables,
-        work.as_mut_ptr(), work.len(), opens.as_mut_ptr(), opens.len(), parent, name, carried,
+        work.as_mut_ptr(), work.len(), opens.as_mut_ptr(), opens.len(), opened, parent, name, carried,
     ))
 }
 
@@ -206,13 +212,14 @@ pub fn rename_dir(
     tables: &mut TablesMut<'_>,
     work: &mut [u32],
     opens: &[u32],
+    opened: usize,
     inode: u32,
     parent: u32,
     name: &Name,
 ) -> Result<(), Refusal> {
     let r = on_tables!(
         mukthiban_tree_rename_dir, change tables,
-        work.as_mut_ptr(), work.len(), opens.as_ptr(), opens.len(), inode, parent, name,
+        work.as_mut_ptr(), work.len(), opens.as_ptr(), opens.len(), &opened, inode, parent, name,
     );
     judge(r.answer)
 }
@@ -222,31 +229,32 @@ pub fn rename_file(
     tables: &mut TablesMut<'_>,
     work: &mut [u32],
     opens: &[u32],
+    opened: usize,
     inode: u32,
     parent: u32,
     name: &Name,
 ) -> Result<(), Refusal> {
     let r = on_tables!(
         mukthiban_tree_rename_file, change tables,
-        work.as_mut_ptr(), work.len(), opens.as_ptr(), opens.len(), inode, parent, name,
+        work.as_mut_ptr(), work.len(), opens.as_ptr(), opens.len(), &opened, inode, parent, name,
     );
     judge(r.answer)
 }
 
 /// Deletes a directory without children that its writer holds and no reader.
-pub fn delete_dir(tables: &mut TablesMut<'_>, work: &mut [u32], opens: &mut [u32], inode: u32) -> Result<(), Refusal> {
+pub fn delete_dir(tables: &mut TablesMut<'_>, work: &mut [u32], opens: &mut [u32], opened: &mut usize, inode: u32) -> Result<(), Refusal> {
     let r = on_tables!(
         mukthiban_tree_delete_dir, change tables,
-        work.as_mut_ptr(), work.len(), opens.as_mut_ptr(), opens.len(), inode,
+        work.as_mut_ptr(), work.len(), opens.as_mut_ptr(), opens.len(), opened, inode,
     );
     judge(r.answer)
 }
 
 /// Deletes a file entry that its writer holds and no reader. Its blocks are not touched.
-pub fn delete_file(tables: &mut TablesMut<'_>, work: &mut [u32], opens: &mut [u32], inode: u32) -> Result<(), Refusal> {
+pub fn delete_file(tables: &mut TablesMut<'_>, work: &mut [u32], opens: &mut [u32], opened: &mut usize, inode: u32) -> Result<(), Refusal> {
     let r = on_tables!(
         mukthiban_tree_delete_file, change tables,
-        work.as_mut_ptr(), work.len(), opens.as_mut_ptr(), opens.len(), inode,
+        work.as_mut_ptr(), work.len(), opens.as_mut_ptr(), opens.len(), opened, inode,
     );
     judge(r.answer)
 }
@@ -341,12 +349,13 @@ macro_rules! open_or_close {
             tables: Tables<'_>,
             work: &mut [u32],
             opens: &mut [u32],
+            opened: &mut usize,
             inode: u32,
             want: Want,
         ) -> Result<(), Refusal> {
             let r = on_tables!(
                 $call, read tables,
-                work.as_mut_ptr(), work.len(), opens.as_mut_ptr(), opens.len(), inode, want as u32,
+                work.as_mut_ptr(), work.len(), opens.as_mut_ptr(), opens.len(), opened, inode, want as u32,
             );
             judge(r.answer)
         }

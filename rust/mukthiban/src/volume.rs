@@ -74,7 +74,7 @@ impl Finding {
 /// let (mut table, data) = ([0u8; 8 * 5], [0u8; 4 * 512]);
 /// let (mut dir_hash, mut dir_table) = ([0u8; 4 * 3], [0u8; 40 * 2]);
 /// let (mut file_hash, mut file_table) = ([0u8; 4 * 3], [0u8; 48 * 3]);
-/// let (mut work, mut opens) = ([0u32; 4 + 2 + 3], [0u32; 3]);
+/// let (mut work, mut opens, mut opened) = ([0u32; 4 + 2 + 3], [0u32; 2], 0);
 /// let mut tables = TablesMut {
 ///     dir_hash: &mut dir_hash,
 ///     dir_table: &mut dir_table,
@@ -90,7 +90,7 @@ impl Finding {
 /// for (name, size) in [(b"one\0\0\0\0\0\0\0\0\0\0\0\0\0", 1024), (b"two\0\0\0\0\0\0\0\0\0\0\0\0\0", 1025)] {
 ///     let mut carried = [0; 20];
 ///     Record { first_block, size }.put(&mut carried);
-///     tree::make_file(&mut tables, &mut work, &mut opens, ROOT, name, &carried)?;
+///     tree::make_file(&mut tables, &mut work, &mut opens, &mut opened, ROOT, name, &carried)?;
 /// }
 /// let mut list = [0; 6];
 /// assert_eq!(audit(&table, &data, 512, tables.shared(), &mut work, &mut list)?, 3);

@@ -19,7 +19,9 @@ struct Plain {
     parts: Parts,
     work: Vec<u32>,
     dir_opens: Vec<u32>,
+    dirs_opened: usize,
     file_opens: Vec<u32>,
+    files_opened: usize,
 }
 
 macro_rules! tables_mut {
@@ -38,8 +40,10 @@ fn both(shape: Shape) -> (Volume, Plain) {
     let plain = Plain {
         parts: volume.parts().clone(),
         work: vec![0; shape.blocks.max(shape.dir_max + shape.file_max)],
-        dir_opens: vec![0; shape.dir_max],
-        file_opens: vec![0; shape.file_max],
+        dir_opens: vec![0; 2 * shape.dir_max],
+        dirs_opened: 0,
+        file_opens: vec![0; 2 * shape.file_max],
+        files_opened: 0,
     };
     (volume, plain)
 }
@@ -132,27 +136,27 @@ fn tree_calls_agree() {
                 }
                 2 | 3 => assert_eq!(
                     v.make_dir(parent, &n, &c4),
-                    tree::make_dir(tables_mut!(p), &mut p.work, &mut p.dir_opens, parent, &n, &c4)
+                    tree::make_dir(tables_mut!(p), &mut p.work, &mut p.dir_opens, &mut p.dirs_opened, parent, &n, &c4)
                 ),
                 4 | 5 => assert_eq!(
                     v.make_file(parent, &n, &c20),
-                    tree::make_file(tables_mut!(p), &mut p.work, &mut p.file_opens, parent, &n, &c20)
+                    tree::make_file(tables_mut!(p), &mut p.work, &mut p.file_opens, &mut p.files_opened, parent, &n, &c20)
                 ),
                 6 => assert_eq!(
                     v.rename_dir(inode, parent, &n),
-                    tree::rename_dir(tables_mut!(p), &mut p.work, &p.dir_opens, inode, parent, &n)
+                    tree::rename_dir(tables_mut!(p), &mut p.work, &p.dir_opens, p.dirs_opened, inode, parent, &n)
                 ),
                 7 => assert_eq!(
                     v.rename_file(inode, parent, &n),
-                    tree::rename_file(tables_mut!(p), &mut p.work, &p.file_opens, inode, parent, &n)
+                    tree::rename_file(tables_mut!(p), &mut p.work, &p.file_opens, p.files_opened, inode, parent, &n)
                 ),
                 8 => assert_eq!(
                     v.delete_dir(inode),
-                    tree::delete_dir(tables_mut!(p), &mut p.work, &mut p.dir_opens, inode)
+                    tree::delete_dir(tables_mut!(p), &mut p.work, &mut p.dir_opens, &mut p.dirs_opened, inode)
                 ),
                 9 => assert_eq!(
                     v.delete_file(inode),
-                    tree::delete_file(tables_mut!(p), &mut p.work, &mut p.file_opens, inode)
+                    tree::delete_file(tables_mut!(p), &mut p.work, &mut p.file_opens, &mut p.files_opened, inode)
                 ),
                 10 => {
                     let count = tree::list_dirs(p.parts.tables(), &mut p.work, inode, &mut list);
@@ -184,19 +188,19 @@ fn tree_calls_agree() {
                 }
                 16 => assert_eq!(
                     v.open_dir(inode, want),
-                    tree::open_dir(p.parts.tables(), &mut p.work, &mut p.dir_opens, inode, want)
+                    tree::open_dir(p.parts.tables(), &mut p.work, &mut p.dir_opens, &mut p.dirs_opened, inode, want)
                 ),
                 17 => assert_eq!(
                     v.open_file(inode, want),
-                    tree::open_file(p.parts.tables(), &mut p.work, &mut p.file_opens, inode, want)
+                    tree::open_file(p.parts.tables(), &mut p.work, &mut p.file_opens, &mut p.files_opened, inode, want)
                 ),
                 18 => assert_eq!(
                     v.close_dir(inode, want),
-                    tree::close_dir(p.parts.tables(), &mut p.work, &mut p.dir_opens, inode, want)
+                    tree::close_dir(p.parts.tables(), &mut p.work, &mut p.dir_opens, &mut p.dirs_opened, inode, want)
                 ),
                 _ => assert_eq!(
                     v.close_file(inode, want),
-                    tree::close_file(p.parts.tables(), &mut p.work, &mut p.file_opens, inode, want)
+                    tree::close_file(p.parts.tables(), &mut p.work, &mut p.file_opens, &mut p.files_opened, inode, want)
                 ),
             }
             assert_eq!(v.parts(), &p.parts);

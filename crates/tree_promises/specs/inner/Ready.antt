@@ -9,9 +9,7 @@ use Rattle.tree_table.specs.Field.{field}
 use Rattle.tree_table.specs.View.{View, viewOf, hashAt, LiveIn}
 use Rattle.tree_sound.specs.Sizes.{buckets, dirRoom, fileRoom}
 use Rattle.tree_sound.specs.Sound.{Table}
-use Rattle.tree_opens.specs.Opens.{AllCounted}
-use Rattle.tree_promises.specs.declared.Kind.{Kind}
-use Rattle.tree_promises.specs.Kinds.{kindRoom}
+use Rattle.tree_packed.specs.Opens.{Opens, InOrder}
 use Rattle.tree_promises.specs.Calls.{liveTests}
 use Rattle.tree_sound.specs.Tables.{Tables, SoundIn}
 
@@ -22,10 +20,10 @@ pub record Ready (s : Tables) : Type 0 where
   pub few-files : fileRoom (s .fileTable) ≤ 65536
   pub sound : SoundIn s
 
--- and open records for every entry of the kind's table
-pub record ReadyOpens (kind : Kind) (s : Tables) (opens : List ℕ) : Type 0 where
+-- and a packed list of open records that is in order
+pub record ReadyOpens (s : Tables) (o : Opens) : Type 0 where
   pub ready : Ready s
-  pub counted : AllCounted opens (kindRoom kind s)
+  pub ordered : InOrder o
 
 -- a table by itself, for the rows that ask only which of its entries are live
 abbrev pub alone : (w : ℕ) (t : List ℕ) → View
@@ -44,10 +42,10 @@ pub record Single (h t : List ℕ) (w : ℕ) : Type 0 where
   pub head : ℕ → ℕ
   pub table : Table (viewOf (buckets h) (length t / w) root (field w t) (hashAt h) head)
 
--- and open records for every entry of it
-pub record SingleOpens (h t : List ℕ) (w : ℕ) (opens : List ℕ) : Type 0 where
+-- and a packed list of open records that is in order
+pub record SingleOpens (h t : List ℕ) (w : ℕ) (o : Opens) : Type 0 where
   pub single : Single h t w
-  pub counted : AllCounted opens (length t / w)
+  pub ordered : InOrder o
 
 -- a table with its hash, for the rows that ask for keys
 abbrev pub hashed : (w : ℕ) (h t : List ℕ) → View

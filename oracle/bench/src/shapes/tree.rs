@@ -3,6 +3,7 @@
 use compare::chance::Chance;
 use port::Tree;
 use rules::entries::{hash, key};
+use rules::opens::Packed;
 use rules::put_word;
 
 pub struct Full {
@@ -108,6 +109,13 @@ fn children(dirs: usize, keys: &[Key], from: usize) -> Vec<Vec<u32>> {
     lists
 }
 
+/// The writer's open of every entry from 1 on, and places for one more.
+pub fn all_held(room: usize) -> Packed {
+    let records = (1..room as u32).flat_map(|x| [x, rules::opens::WRITER]);
+    let list: Vec<u32> = records.chain([0; 2]).collect();
+    Packed { opened: room - 1, list }
+}
+
 /// Directories below the root in a tree of eights, and files dealt to them.
 pub fn planned(plan: Plan) -> Full {
     let Plan { dirs, files, names, spare, .. } = plan;
@@ -126,8 +134,8 @@ pub fn planned(plan: Plan) -> Full {
     let (dir_room, file_room) = (dirs + 1 + spare, files + 1 + spare);
     let lent = Tree {
         work: vec![0; dir_room + file_room],
-        dir_opens: vec![0; dir_room],
-        file_opens: vec![rules::opens::WRITER; file_room],
+        dir_opens: Packed::none(2 * dir_room),
+        file_opens: all_held(file_room),
         list: vec![0; files],
         dir_hash,
         dir_table,

@@ -3,12 +3,14 @@
 use super::bytes::{Reader, Writer};
 use super::{Record, TreeRecord};
 use port::{Answered, Kind, Tree, TreeCall};
+use rules::opens::Packed;
 
 /// Areas of a tree record.
 const HASH: usize = 28;
 const DIRS: usize = 204;
 const FILES: usize = 244;
 const TREE_WORK: usize = 14;
+/// Places for three records, and their number.
 const OPENS: usize = 7;
 const CHILDREN: usize = 8;
 pub const TREE_RECORD: usize =
@@ -20,9 +22,23 @@ pub fn tree_fits(lent: &Tree) -> bool {
         && lent.file_hash.len() <= HASH
         && lent.file_table.len() <= FILES
         && lent.work.len() <= TREE_WORK
-        && lent.dir_opens.len() <= OPENS
-        && lent.file_opens.len() <= OPENS
+        && opens_fit(&lent.dir_opens)
+        && opens_fit(&lent.file_opens)
         && lent.list.len() <= CHILDREN
+}
+
+/// A packed list is stored with the number of its records behind it.
+fn opens_fit(opens: &Packed) -> bool {
+    opens.list.len() < OPENS && u32::try_from(opens.opened).is_ok()
+}
+
+fn opens_words(opens: &Packed) -> Vec<u32> {
+    [&opens.list[..], &[opens.opened as u32]].concat()
+}
+
+fn opens_of(mut list: Vec<u32>) -> Packed {
+    let opened = list.pop().expect("the number of records") as usize;
+    Packed { list, opened }
 }
 
 pub fn tree_number(call: &TreeCall) -> u32 {
@@ -122,7 +138,7 @@ pub fn tree_bytes(record: &TreeRecord) -> Vec<u8> {
     w.word(p.kind);
     w.word(p.inode);
     w.word(p.parent);
-    for len in [b.dir_hash.len(), b.dir_table.len(), b.file_hash.len(), b.file_table.len(), b.work.len(), b.dir_opens.len(), b.file_opens.len(), b.list.len()] {
+    for len in [b.dir_hash.len(), b.dir_table.len(), b.file_hash.len(), b.file_table.len(), b.work.len(), b.dir_opens.list.len() + 1, b.file_opens.list.len() + 1, b.list.len()] {
         w.word(len as u32);
     }
     w.word(record.answered.number);
@@ -138,8 +154,8 @@ pub fn tree_bytes(record: &TreeRecord) -> Vec<u8> {
         w.area(&lent.file_hash, HASH);
         w.area(&lent.file_table, FILES);
         w.words(&lent.work, TREE_WORK);
-        w.words(&lent.dir_opens, OPENS);
-        w.words(&lent.file_opens, OPENS);
+        w.words(&opens_words(&lent.dir_opens), OPENS);
+        w.words(&opens_words(&lent.file_opens), OPENS);
         w.words(&lent.list, CHILDREN);
     }
     assert_eq!(w.bytes.len(), TREE_RECORD);
@@ -164,8 +180,8 @@ pub fn tree_record(bytes: &[u8]) -> TreeRecord {
         file_hash: r.area(HASH, file_hash),
         file_table: r.area(FILES, file_table),
         work: r.words(TREE_WORK, work),
-        dir_opens: r.words(OPENS, dir_opens),
-        file_opens: r.words(OPENS, file_opens),
+        dir_opens: opens_of(r.words(OPENS, dir_opens)),
+        file_opens: opens_of(r.words(OPENS, file_opens)),
         list: r.words(CHILDREN, list),
     });
     Record { call: tree_of(number, p), before, after, answered, original }

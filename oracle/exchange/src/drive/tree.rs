@@ -26,11 +26,11 @@ fn is_file(kind: Kind) -> bool {
 
 /// Notes the handles where the rules look for them.
 pub fn note(lent: &mut Tree, held: &Held) {
-    lent.dir_opens.fill(0);
-    lent.file_opens.fill(0);
+    lent.dir_opens.opened = 0;
+    lent.file_opens.opened = 0;
     for (&(file, inode), &handles) in held {
         let opens = if file { &mut lent.file_opens } else { &mut lent.dir_opens };
-        opens[inode as usize] = record(handles);
+        opens.put(inode, record(handles));
     }
 }
 

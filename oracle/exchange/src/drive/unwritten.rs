@@ -5,6 +5,7 @@ use super::{blocks, tree};
 use compare::chance::Chance;
 use compare::{block_history, tree_history};
 use port::{BlockCall, Blocks, Kind, Port, Stated, Tree, TreeCall};
+use rules::opens::Packed;
 
 pub fn run(chance: &mut Chance) {
     some_blocks(chance);
@@ -53,8 +54,8 @@ fn some_entries(chance: &mut Chance) {
         file_hash,
         file_table,
         work: vec![0; dirs + files],
-        dir_opens: vec![0; dirs],
-        file_opens: vec![0; files],
+        dir_opens: Packed::none(2 * dirs),
+        file_opens: Packed::none(2 * files),
         list: vec![],
     };
     assert_eq!(Stated.tree_call(&TreeCall::Format { dir_max: dirs, file_max: files }, &mut lent).number, 0);

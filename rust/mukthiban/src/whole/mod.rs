@@ -6,6 +6,7 @@ mod kept;
 mod kiosk;
 mod map;
 mod plan;
+mod records;
 mod tree;
 mod walk;
 
@@ -20,6 +21,7 @@ use crate::parts::{Parts, Shape};
 use crate::refusal::Refusal;
 use crate::tables::{TablesMut, DIR_WIDTH, FILE_WIDTH, MAX_BUCKETS, MAX_ENTRIES};
 use counts::count_files;
+use records::Records;
 use std::alloc::{alloc_zeroed, Layout};
 use std::fmt;
 
@@ -98,8 +100,8 @@ impl From<NotSound> for Refusal {
 #[derive(Clone)]
 pub struct Volume {
     parts: Parts,
-    dir_opens: Vec<u32>,
-    file_opens: Vec<u32>,
+    dir_opens: Records,
+    file_opens: Records,
     /// Blocks in the free chain.
     free: usize,
     /// For the first block of each file how many blocks the file has; 0 for every other block.
@@ -136,7 +138,7 @@ impl Volume {
         match test(&parts, &mut work) {
             Ok(tested) => {
                 let counts = count_files(&parts.fat, tested);
-                let (dir_opens, file_opens) = (vec![0; dirs], vec![0; files]);
+                let (dir_opens, file_opens) = (Records::default(), Records::default());
                 // A write of no bytes, whose answer is the library's word on the block length.
                 let written = fat::write_blocks(&mut parts.data, parts.block_len, &[], 0, &[]);
                 let read_only = written == Err(Refusal::ReadOnlyVolume);

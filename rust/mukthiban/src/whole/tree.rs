@@ -21,20 +21,22 @@ impl Volume {
 
     /// Makes a directory, held by its writer.
     pub fn make_dir(&mut self, parent: u32, name: &Name, carried: &[u8; 4]) -> Result<u32, Refusal> {
+        let opens = self.dir_opens.with_room();
         tree::made(unsafe {
             on_tree!(
                 mukthiban_tested_tree_make_dir, change self.parts,
-                self.dir_opens.as_mut_ptr(), self.dir_opens.len(), parent, name, carried,
+                opens.list.as_mut_ptr(), opens.list.len(), &mut opens.opened, parent, name, carried,
             )
         })
     }
 
     /// Makes a file entry, held by its writer.
     pub fn make_file(&mut self, parent: u32, name: &Name, carried: &[u8; 20]) -> Result<u32, Refusal> {
+        let opens = self.file_opens.with_room();
         tree::made(unsafe {
             on_tree!(
                 mukthiban_tested_tree_make_file, change self.parts,
-                self.file_opens.as_mut_ptr(), self.file_opens.len(), parent, name, carried,
+                opens.list.as_mut_ptr(), opens.list.len(), &mut opens.opened, parent, name, carried,
             )
         })
     }
@@ -44,7 +46,7 @@ impl Volume {
         let r = unsafe {
             on_tree!(
                 mukthiban_tested_tree_rename_dir, change self.parts,
-                self.dir_opens.as_ptr(), self.dir_opens.len(), inode, parent, name,
+                self.dir_opens.list.as_ptr(), self.dir_opens.list.len(), &self.dir_opens.opened, inode, parent, name,
             )
         };
         judge(r.answer)
@@ -55,7 +57,7 @@ impl Volume {
         let r = unsafe {
             on_tree!(
                 mukthiban_tested_tree_rename_file, change self.parts,
-                self.file_opens.as_ptr(), self.file_opens.len(), inode, parent, name,
+                self.file_opens.list.as_ptr(), self.file_opens.list.len(), &self.file_opens.opened, inode, parent, name,
             )
         };
         judge(r.answer)
@@ -63,10 +65,11 @@ impl Volume {
 
     /// Deletes a directory without children that its writer holds and no reader.
     pub fn delete_dir(&mut self, inode: u32) -> Result<(), Refusal> {
+        let opens = &mut self.dir_opens;
         let r = unsafe {
             on_tree!(
                 mukthiban_tested_tree_delete_dir, change self.parts,
-                self.dir_opens.as_mut_ptr(), self.dir_opens.len(), inode,
+                opens.list.as_mut_ptr(), opens.list.len(), &mut opens.opened, inode,
             )
         };
         judge(r.answer)
@@ -74,10 +77,11 @@ impl Volume {
 
     /// Deletes a file entry that its writer holds and no reader. Its blocks are given back by [`Volume::delete`].
     pub fn delete_file(&mut self, inode: u32) -> Result<(), Refusal> {
+        let opens = &mut self.file_opens;
         let r = unsafe {
             on_tree!(
                 mukthiban_tested_tree_delete_file, change self.parts,
-                self.file_opens.as_mut_ptr(), self.file_opens.len(), inode,
+                opens.list.as_mut_ptr(), opens.list.len(), &mut opens.opened, inode,
             )
         };
         judge(r.answer)
@@ -147,10 +151,11 @@ impl Volume {
 
     /// Opens a directory once more: a reader to read, the writer to rename or delete.
     pub fn open_dir(&mut self, inode: u32, want: Want) -> Result<(), Refusal> {
+        let opens = self.dir_opens.with_room();
         let r = unsafe {
             on_tree!(
                 mukthiban_tested_tree_open_dir, read self.parts,
-                self.dir_opens.as_mut_ptr(), self.dir_opens.len(), inode, want as u32,
+                opens.list.as_mut_ptr(), opens.list.len(), &mut opens.opened, inode, want as u32,
             )
         };
         judge(r.answer)
@@ -158,10 +163,11 @@ impl Volume {
 
     /// Opens a file once more: a reader to read, the writer to change.
     pub fn open_file(&mut self, inode: u32, want: Want) -> Result<(), Refusal> {
+        let opens = self.file_opens.with_room();
         let r = unsafe {
             on_tree!(
                 mukthiban_tested_tree_open_file, read self.parts,
-                self.file_opens.as_mut_ptr(), self.file_opens.len(), inode, want as u32,
+                opens.list.as_mut_ptr(), opens.list.len(), &mut opens.opened, inode, want as u32,
             )
         };
         judge(r.answer)
@@ -169,10 +175,11 @@ impl Volume {
 
     /// Gives back an open of a directory, a reader's or the writer's.
     pub fn close_dir(&mut self, inode: u32, want: Want) -> Result<(), Refusal> {
+        let opens = &mut self.dir_opens;
         let r = unsafe {
             on_tree!(
                 mukthiban_tested_tree_close_dir, read self.parts,
-                self.dir_opens.as_mut_ptr(), self.dir_opens.len(), inode, want as u32,
+                opens.list.as_mut_ptr(), opens.list.len(), &mut opens.opened, inode, want as u32,
             )
         };
         judge(r.answer)
@@ -180,10 +187,11 @@ impl Volume {
 
     /// Gives back an open of a file, a reader's or the writer's.
     pub fn close_file(&mut self, inode: u32, want: Want) -> Result<(), Refusal> {
+        let opens = &mut self.file_opens;
         let r = unsafe {
             on_tree!(
                 mukthiban_tested_tree_close_file, read self.parts,
-                self.file_opens.as_mut_ptr(), self.file_opens.len(), inode, want as u32,
+                opens.list.as_mut_ptr(), opens.list.len(), &mut opens.opened, inode, want as u32,
             )
         };
         judge(r.answer)

@@ -1,5 +1,5 @@
 -- `mukthiban_tested_tree_open_dir` meets its contract.
-use Rattle.mukthiban.proofs.Asked.{inner-open}
+use Rattle.mukthiban.proofs.Asked.{inner-open-dir}
 use borrow.Author.Needs.{needs}
 use Rattle.mukthiban.proofs.tested_opens.mukthiban_tested_tree_open_dir.Statement.{
   statement,
@@ -20,8 +20,8 @@ same-length c = search needs
 
 returns : tie.Need-returns
 returns c =
-    let args = c .before .before .before .before .before .before .before .before .before .before .before .args in
-    inner-open 40 (args .dir-table .now) (args .opens .now) _ (args .inode) (args .kind) _ _ _ (c .number .ensures) (c .before .before .before .before .before .want-of .ensures) (c .before .before .before .«open» .ensures)
+    let args = c .before .before .before .before .before .before .before .before .before .before .before .before .args in
+    inner-open-dir (args .dir-hash .now) (args .dir-table .now) (args .file-hash .now) (args .file-table .now) _ _ (args .inode) (args .kind) _ _ _ (c .number .ensures) (c .before .before .before .before .before .before .want-of .ensures) (c .before .before .before .«open» .ensures)
 
 pub mukthiban-tested-tree-open-dir-spec : {M : Type 1} → statement M
 mukthiban-tested-tree-open-dir-spec =

@@ -1,11 +1,10 @@
-use Rattle.tree_inner.proofs.Changes.{delete-file-counted, delete-file-done, call-refused, delete-file-asks, give-file-asks}
-use Rattle.tree_sound.specs.Tables.{tables, files}
-use Rattle.tree_promises.specs.declared.Kind.the-variants.{File}
-use Rattle.tree_promises.specs.Calls.{aloneTests, changeGives, deleteDone}
-use Rattle.tree_inner.proofs.Judges.{passed}
 use borrow.Author.Needs.{needs}
+use Rattle.tree_inner.proofs.Changes.{unlink-file-may, give-file-may, delete-file-no, delete-file-done}
 use Rattle.tree_inner.proofs.change.delete_file.Statement.{statement}
 use Rattle.tree_inner.proofs.change.delete_file.Tie as tie
+
+record-of-requires : tie.Need-record-of-requires
+record-of-requires c κs = search needs
 
 judge-delete-requires : tie.Need-judge-delete-requires
 judge-delete-requires c κs = search needs
@@ -18,22 +17,18 @@ enum-told c = search needs
 
 unlink-file-requires : tie.Need-unlink-file-requires
 unlink-file-requires c κs =
-    let args = c .before .before .before .before .before .before .before .before .before .before .before .before .before .before .args in
-    let at-pre = c .before .before .before .before .before .before .before .before .before .before .before .before .before .before .pre in
-    let at-judge-delete = c .before .before .before .before .before .judge-delete in
-    delete-file-asks (tables (args .dir-hash .now) (args .dirs .now) (args .hash .now) (args .files .now)) (at-pre .ready) (args .opens .now) (args .x) (passed (aloneTests (files (tables (args .dir-hash .now) (args .dirs .now) (args .hash .now) (args .files .now))) (args .opens .now) (args .x)) _ (at-judge-delete .ensures) (c .before .before .before .enum-told .given .1))
+    let a = c .before .before .before .before .before .before .before .before .before .before .before .before .before .before .before .before .args in
+    let pre = c .before .before .before .before .before .before .before .before .before .before .before .before .before .before .before .before .pre in
+    unlink-file-may (a .dir-hash .now) (a .dirs .now) (a .hash .now) (a .files .now) (a .list .now) (a .opened .now) (c .before .before .before .before .before .before .before .before .record-of .result) (a .x) _ pre (c .before .before .before .enum-told .given .1) (c .before .before .before .before .before .judge-delete .ensures)
 
 give-requires : tie.Need-give-requires
 give-requires c κs =
-    let args = c .before .before .before .before .before .before .before .before .before .before .before .before .before .before .before .before .before .before .before .before .before .before .args in
-    let at-pre = c .before .before .before .before .before .before .before .before .before .before .before .before .before .before .before .before .before .before .before .before .before .before .pre in
-    let at-judge-delete = c .before .before .before .before .before .before .before .before .before .before .before .before .before .judge-delete in
-    let at-enum-told = c .before .before .before .before .before .before .before .before .before .before .before .enum-told in
-    let at-unlink-file = c .before .before .before .before .before .before .before .unlink-file in
-    give-file-asks (tables (args .dir-hash .now) (args .dirs .now) (args .hash .now) (args .files .now)) (at-pre .ready) (args .opens .now) (args .x) (passed (aloneTests (files (tables (args .dir-hash .now) (args .dirs .now) (args .hash .now) (args .files .now))) (args .opens .now) (args .x)) _ (at-judge-delete .ensures) (at-enum-told .given .1)) (at-unlink-file .ensures .2)
+    let a = c .before .before .before .before .before .before .before .before .before .before .before .before .before .before .before .before .before .before .before .before .before .before .before .before .args in
+    let pre = c .before .before .before .before .before .before .before .before .before .before .before .before .before .before .before .before .before .before .before .before .before .before .before .before .pre in
+    give-file-may (a .dir-hash .now) (a .dirs .now) (a .hash .now) (a .files .now) (a .list .now) (a .opened .now) (c .before .before .before .before .before .before .before .before .before .before .before .before .before .before .before .before .record-of .result) (a .x) _ pre (c .before .before .before .before .before .before .before .before .before .before .before .enum-told .given .1) (c .before .before .before .before .before .before .before .before .before .before .before .before .before .judge-delete .ensures) (c .before .before .before .before .before .before .before .unlink-file .ensures)
 
 put-record-requires : tie.Need-put-record-requires
-put-record-requires c κs = search (delete-file-counted)
+put-record-requires c κs = search needs
 
 same-length : tie.Need-same-length
 same-length c = search needs
@@ -45,10 +40,7 @@ same-length-3 : tie.Need-same-length-3
 same-length-3 c = search needs
 
 returns : tie.Need-returns
-returns c =
-    let args = c .before .before .before .before .before .before .before .before .before .before .before .before .args in
-    let at-judge-delete = c .before .before .before .judge-delete in
-    call-refused (λ a. changeGives a (tables (args .dir-hash .now) (args .dirs .now) (args .hash .now) (args .files .now)) (args .opens .now)) (deleteDone File (tables (args .dir-hash .now) (args .dirs .now) (args .hash .now) (args .files .now)) (args .opens .now) (args .x)) (aloneTests (files (tables (args .dir-hash .now) (args .dirs .now) (args .hash .now) (args .files .now))) (args .opens .now) (args .x)) (at-judge-delete .result) _ (at-judge-delete .ensures) (c .before .judged .given .1)
+returns c = search (delete-file-no)
 
 same-length-4 : tie.Need-same-length-4
 same-length-4 c = search needs
@@ -69,6 +61,7 @@ pub delete-file-spec : {M : Type 1} → statement M
 delete-file-spec =
     tie.close
     (tie.spec
+    record-of-requires
     judge-delete-requires
     enum-known-judged
     enum-told

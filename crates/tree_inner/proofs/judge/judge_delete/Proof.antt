@@ -1,5 +1,5 @@
-use Rattle.tree_inner.proofs.Judges.{refused-still, held-counted, alone-busy, alone-go}
-use Rattle.tree_promises.specs.Calls.{heldTests}
+use Rattle.tree_inner.proofs.Judges.{refused-still, alone-busy, alone-go}
+use Rattle.tree_promises.specs.Calls.{heldTestsOf}
 use Rattle.tree_promises.specs.inner.Ready.{alone}
 use borrow.Author.Needs.{needs}
 use Rattle.tree_inner.proofs.judge.judge_delete.Statement.{statement}
@@ -16,11 +16,11 @@ enum-told-2 c = search needs
 
 returns : tie.Need-returns
 returns c =
-    let args = c .before .before .before .before .before .before .args in
-    refused-still (heldTests (alone (args .w) (args .table .now)) (args .opens .now) (args .x)) _ _ _ (c .before .before .judge-held .ensures) (c .enum-told2 .given .1)
+    let args = c .before .before .before .before .before .args in
+    refused-still (heldTestsOf (alone (args .w) (args .table .now)) (args .opens) (args .x)) _ _ _ (c .before .before .judge-held .ensures) (c .enum-told2 .given .1)
 
-readers-of-requires : tie.Need-readers-of-requires
-readers-of-requires c κs = search (held-counted)
+readers-in-requires : tie.Need-readers-in-requires
+readers-in-requires c κs = search needs
 
 returns-2 : tie.Need-returns-2
 returns-2 c = search (alone-busy)
@@ -36,6 +36,6 @@ judge-delete-spec =
     enum-told
     enum-told-2
     returns
-    readers-of-requires
+    readers-in-requires
     returns-2
     returns-3)

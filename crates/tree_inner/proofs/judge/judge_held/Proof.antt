@@ -1,5 +1,4 @@
 use Rattle.tree_inner.proofs.Judges.{held-none, held-shut, held-go}
-use Rattle.tree_inner.proofs.Opens.{live-counted}
 use borrow.Author.Needs.{needs}
 use Rattle.tree_inner.proofs.judge.judge_held.Statement.{statement}
 use Rattle.tree_inner.proofs.judge.judge_held.Tie as tie
@@ -10,8 +9,8 @@ live-requires c κs = search needs
 returns : tie.Need-returns
 returns c = search (held-none)
 
-writer-of-requires : tie.Need-writer-of-requires
-writer-of-requires c κs = search (live-counted)
+writer-in-requires : tie.Need-writer-in-requires
+writer-in-requires c κs = search needs
 
 returns-2 : tie.Need-returns-2
 returns-2 c = search (held-shut)
@@ -20,4 +19,4 @@ returns-3 : tie.Need-returns-3
 returns-3 c = search (held-go)
 
 pub judge-held-spec : {M : Type 1} → statement M
-judge-held-spec = tie.close (tie.spec live-requires returns writer-of-requires returns-2 returns-3)
+judge-held-spec = tie.close (tie.spec live-requires returns writer-in-requires returns-2 returns-3)

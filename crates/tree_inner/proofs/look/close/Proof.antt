@@ -1,5 +1,5 @@
-use Rattle.tree_inner.proofs.Opens.{live-counted, close-none, close-refused, close-done}
 use borrow.Author.Needs.{needs}
+use Rattle.tree_inner.proofs.Opens.{close-none, close-refused, close-done}
 use Rattle.tree_inner.proofs.look.close.Statement.{statement}
 use Rattle.tree_inner.proofs.look.close.Tie as tie
 
@@ -10,7 +10,7 @@ returns : tie.Need-returns
 returns c = search (close-none)
 
 record-of-requires : tie.Need-record-of-requires
-record-of-requires c κs = search (live-counted)
+record-of-requires c κs = search needs
 
 one-less-requires : tie.Need-one-less-requires
 one-less-requires c κs = search needs
@@ -22,7 +22,7 @@ enum-known-stepped-2 : tie.Need-enum-known-stepped-2
 enum-known-stepped-2 c = search needs
 
 put-record-requires : tie.Need-put-record-requires
-put-record-requires c κs = search (live-counted)
+put-record-requires c κs = search needs
 
 same-length : tie.Need-same-length
 same-length c = search needs

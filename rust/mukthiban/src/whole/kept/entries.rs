@@ -190,7 +190,7 @@ impl EntryTables {
             Kind::Dir => &self.volume.dir_opens,
             Kind::File => &self.volume.file_opens,
         };
-        let record = opens.get(inode as usize).copied().unwrap_or(0);
+        let record = opens.record(inode);
         (record & 0x7FFF_FFFF) as usize + (record >> 31) as usize
     }
 

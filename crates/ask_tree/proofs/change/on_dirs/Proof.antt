@@ -1,0 +1,72 @@
+-- `on_dirs` meets its contract: the part that is lent is as long as what was cut.
+use mathlib.Core.Path.{sym}
+use native.Mathlib.Omega.{arith}
+use borrow.Author.Needs.{needs}
+use lib.Seq.{length-take-le}
+use Rattle.ask_tree.proofs.change.on_dirs.Statement.{statement}
+use Rattle.ask_tree.proofs.change.on_dirs.Tie as tie
+
+unasked-requires : tie.Need-unasked-requires
+unasked-requires c κs = search needs
+
+returns : tie.Need-returns
+returns c = search needs
+
+mul-number : tie.Need-mul-number
+mul-number c = search needs
+
+slice-read-number : tie.Need-slice-read-number
+slice-read-number c = search needs
+
+number-requires : tie.Need-number-requires
+number-requires c κs = search needs
+
+slice-relend-prefix-dirs : tie.Need-slice-relend-prefix-dirs
+slice-relend-prefix-dirs c = search needs
+
+slice-aggregate-dirs : tie.Need-slice-aggregate-dirs
+slice-aggregate-dirs c = sym (length-take-le _ _ (omega arith))
+
+dirs-requires : tie.Need-dirs-requires
+dirs-requires c κs = search needs
+
+word-requires : tie.Need-word-requires
+word-requires c κs = search needs
+
+put-last-requires : tie.Need-put-last-requires
+put-last-requires c κs = search needs
+
+same-length : tie.Need-same-length
+same-length c = search needs
+
+same-length-2 : tie.Need-same-length-2
+same-length-2 c = search needs
+
+same-length-3 : tie.Need-same-length-3
+same-length-3 c = search needs
+
+same-length-4 : tie.Need-same-length-4
+same-length-4 c = search needs
+
+returns-2 : tie.Need-returns-2
+returns-2 c = search needs
+
+pub on-dirs-spec : {M : Type 1} → statement M
+on-dirs-spec =
+    tie.close
+    (tie.spec
+    unasked-requires
+    returns
+    mul-number
+    slice-read-number
+    number-requires
+    slice-relend-prefix-dirs
+    slice-aggregate-dirs
+    dirs-requires
+    word-requires
+    put-last-requires
+    same-length
+    same-length-2
+    same-length-3
+    same-length-4
+    returns-2)
