@@ -150,7 +150,7 @@ taken-in v T free =
     omega (arith, T .count-max, T .max-room))
     (λ n. omega (arith, T .removed-below (v .coll 0) (first-in (v .coll) (v .coll 0) (removedOf v) (T .removed) n), T .count-max, T .max-room))
 
-taken-low : (kind : Kind) (s : Tables) → SoundIn s → (freeOf (kindView kind s) ≡ 0 → ⊥) → taken (kindView kind s) < kindRoom kind s
+pub taken-low : (kind : Kind) (s : Tables) → SoundIn s → (freeOf (kindView kind s) ≡ 0 → ⊥) → taken (kindView kind s) < kindRoom kind s
 taken-low Directory s S free = taken-in (dirs s) (S .dirs .below .table) free
 taken-low File s S free = taken-in (files s) (S .files .table) free
 
