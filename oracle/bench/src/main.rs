@@ -1,4 +1,4 @@
-//! `bench [write] [quick] [agree] [jobs] [growth] [blocks] [tree] [keys] [volume] [only=TEXT]`: the library beside its peers, on the same inputs in one run. It prints
+//! `bench [write] [quick] [agree] [jobs] [growth] [blocks] [tree] [keys] [opens] [volume] [only=TEXT]`: the library beside its peers, on the same inputs in one run. It prints
 //! tables in Markdown; with `write` it rewrites the tables and the drawing in docs/. A part alone where it is named, of the jobs those with that text; `agree`
 //! is what every run begins with, that the peers answer as the library does; `quick` takes small sizes, to see that it runs.
 
@@ -8,7 +8,7 @@ mod report;
 mod shapes;
 mod svg;
 
-use measure::{agree, blocks, growth, jobs, keys, said, tree, whole};
+use measure::{agree, blocks, growth, jobs, keys, opens, said, tree, whole};
 use report::{load, machine, Report};
 
 fn main() {
@@ -19,8 +19,8 @@ fn main() {
     }
     agree::run(quick);
     let mut report = Report::default();
-    let parts: [(&str, fn(&mut Report, bool)); 6] = [
-        ("jobs", jobs::run), ("keys", keys::run), ("growth", growth::run), ("blocks", blocks::run), ("tree", tree::run), ("volume", whole::run),
+    let parts: [(&str, fn(&mut Report, bool)); 7] = [
+        ("jobs", jobs::run), ("keys", keys::run), ("growth", growth::run), ("blocks", blocks::run), ("tree", tree::run), ("opens", opens::run), ("volume", whole::run),
     ];
     let all = !said("agree") && !parts.iter().any(|(name, _)| said(name));
     for (name, run) in parts {

@@ -8,6 +8,7 @@ pub mod jobs;
 pub mod keys;
 pub mod maps;
 pub mod salvages;
+pub mod opens;
 pub mod sides;
 pub mod tree;
 pub mod whole;

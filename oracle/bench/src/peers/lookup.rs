@@ -2,15 +2,15 @@
 
 use std::hint::black_box;
 
-const WIDTH: usize = 48;
+pub const WIDTH: usize = 48;
 
 #[inline]
-fn word(bytes: &[u8], at: usize) -> u32 {
+pub fn word(bytes: &[u8], at: usize) -> u32 {
     u32::from_le_bytes(bytes[at..at + 4].try_into().unwrap())
 }
 
 #[inline]
-fn first(hash: &[u8], words: [u32; 5]) -> u32 {
+pub fn bucket(hash: &[u8], words: [u32; 5]) -> u32 {
     let mixed = words.iter().fold(0x1234_5678u32, |h, word| h.rotate_right(1) ^ word);
     word(hash, mixed as usize % (hash.len() / 4) * 4)
 }
@@ -34,7 +34,7 @@ fn along(table: &[u8], mut inode: u32, same: impl Fn(&[u8]) -> bool) -> (u32, u3
 #[inline(never)]
 pub fn straight(hash: &[u8], table: &[u8], parent: u32, name: &[u8; 16]) -> (u32, u32) {
     let words = [parent, word(name, 0), word(name, 4), word(name, 8), word(name, 12)];
-    along(table, first(hash, words), |entry| entry[4..20] == name[..] && word(entry, 0) == parent)
+    along(table, bucket(hash, words), |entry| entry[4..20] == name[..] && word(entry, 0) == parent)
 }
 
 /// The key is filled as twenty bytes first, and hashed and compared from there.
@@ -45,5 +45,5 @@ pub fn filled(hash: &[u8], table: &[u8], parent: u32, name: &[u8; 16]) -> (u32, 
     key[4..].copy_from_slice(name);
     let key = black_box(key);
     let words = [0, 4, 8, 12, 16].map(|at| word(&key, at));
-    along(table, first(hash, words), |entry| entry[..20] == key)
+    along(table, bucket(hash, words), |entry| entry[..20] == key)
 }

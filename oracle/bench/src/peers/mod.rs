@@ -11,6 +11,7 @@ pub mod kiosk;
 pub mod lookup;
 pub mod merge;
 pub mod nodes;
+pub mod opens;
 pub mod plan;
 pub mod salvage;
 pub mod sorted;
