@@ -135,9 +135,12 @@ fn sizes_fit(call: &BlockCall, number: u32, before: &Blocks) -> bool {
     number != 2 || (zero && block_len && (16..=8_000_008).contains(&before.table.len()))
 }
 
-/// Whether InvalidValue is about the new name and not about a size: then the tables pass their test.
+/// Whether InvalidValue is about the new name and not about a size or the open records: then the tables pass their test, and the records are in order.
 fn sound_at_two(call: &TreeCall, number: u32, before: &Tree) -> bool {
-    let named = matches!(call, TreeCall::Make { .. } | TreeCall::Rename { .. });
+    let named = match *call {
+        TreeCall::Make { kind, .. } | TreeCall::Rename { kind, .. } => before.opens(kind).in_order(),
+        _ => false,
+    };
     number != 2 || (named && Stated.tree_call(&TreeCall::Test, &mut before.clone()).number == 0)
 }
 

@@ -74,7 +74,7 @@ impl Finding {
 /// let (mut table, data) = ([0u8; 8 * 5], [0u8; 4 * 512]);
 /// let (mut dir_hash, mut dir_table) = ([0u8; 4 * 3], [0u8; 40 * 2]);
 /// let (mut file_hash, mut file_table) = ([0u8; 4 * 3], [0u8; 48 * 3]);
-/// let (mut work, mut opens, mut opened) = ([0u32; 4 + 2 + 3], [0u32; 2], 0);
+/// let (mut work, mut opens, mut opened) = ([0u32; 4 + 2 + 3], [0u32; 4], 0);
 /// let mut tables = TablesMut {
 ///     dir_hash: &mut dir_hash,
 ///     dir_table: &mut dir_table,
