@@ -314,7 +314,11 @@ fn fill(chance: &mut Chance, session: &mut Session, kind: Kind) -> u32 {
 
 /// Rename in full tables: make is NoSpace before and after, and a rename of any entry to a key that is free is Done, of a directory with children too.
 pub fn full(chance: &mut Chance) {
-    let mut session = Session::new(trees::formatted(chance));
+    let mut start = trees::formatted(chance);
+    // A place for every entry, so that the tables fill and not the lists.
+    start.dir_opens = Packed::none(2 * start.room(Kind::Dir));
+    start.file_opens = Packed::none(2 * start.room(Kind::File));
+    let mut session = Session::new(start);
     for kind in [Kind::Dir, Kind::File] {
         fill(chance, &mut session, kind);
     }
