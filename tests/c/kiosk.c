@@ -55,7 +55,8 @@ static mukthiban_created create(size_t count)
 
 static uint32_t make(const char *text, uint8_t block, uint32_t size)
 {
-    uint32_t opens[FILE_ROOM] = {0};
+    uint32_t opens[2] = {0};
+    size_t opened = 0;
     uint8_t name[16] = {0}, carried[20] = {0};
     mukthiban_made made;
 
@@ -63,7 +64,7 @@ static uint32_t make(const char *text, uint8_t block, uint32_t size)
     carried[4] = block;
     carried[8] = (uint8_t)size;
     carried[9] = (uint8_t)(size >> 8);
-    made = mukthiban_tree_make_file(FOUR, WORK, opens, FILE_ROOM, 1, name, carried);
+    made = mukthiban_tree_make_file(FOUR, WORK, opens, 2, &opened, 1, name, carried);
     EXPECT(made.answer == MUKTHIBAN_DONE);
     return made.inode;
 }
@@ -118,7 +119,8 @@ static void creates_refused(void)
 static void tests(void)
 {
     static const uint8_t d[16] = {'D'}, padding[4] = {0};
-    uint32_t opens[FILE_ROOM] = {0}, dir_opens[DIR_ROOM] = {0};
+    uint32_t opens[2] = {2, 0x80000000u}, dir_opens[2] = {0}; /* the writer of file 2 */
+    size_t opened = 1, dirs_opened = 0;
 
     formatted();
     EXPECT(broken() == 0);
@@ -128,16 +130,15 @@ static void tests(void)
     EXPECT(broken() == 0);
     EXPECT(make("a", 0, 0) == 2);
     EXPECT(broken() == 6);
-    opens[2] = 0x80000000u; /* its writer holds it */
-    EXPECT(mukthiban_tree_delete_file(FOUR, WORK, opens, FILE_ROOM, 2).answer == MUKTHIBAN_DONE);
+    EXPECT(mukthiban_tree_delete_file(FOUR, WORK, opens, 2, &opened, 2).answer == MUKTHIBAN_DONE);
     EXPECT(broken() == 0); /* a removed file's name is not judged */
     EXPECT(create(1).first_block == 2);
     EXPECT(make("X", 2, 1) == 2);
     EXPECT(mukthiban_fat_resize(FAT, DATA, WORK, 0, 3).answer == MUKTHIBAN_DONE);
     EXPECT(broken() == 5);
-    EXPECT(mukthiban_tree_make_dir(FOUR, WORK, dir_opens, DIR_ROOM, 1, d, padding).answer == MUKTHIBAN_DONE);
+    EXPECT(mukthiban_tree_make_dir(FOUR, WORK, dir_opens, 2, &dirs_opened, 1, d, padding).answer == MUKTHIBAN_DONE);
     EXPECT(broken() == 3);
-    EXPECT(mukthiban_tree_delete_dir(FOUR, WORK, dir_opens, DIR_ROOM, 2).answer == MUKTHIBAN_DONE);
+    EXPECT(mukthiban_tree_delete_dir(FOUR, WORK, dir_opens, 2, &dirs_opened, 2).answer == MUKTHIBAN_DONE);
     EXPECT(broken() == 5);
     EXPECT(mukthiban_fat_resize(FAT, DATA, WORK, 0, 1).answer == MUKTHIBAN_DONE);
     EXPECT(broken() == 1); /* the size is over what the blocks hold */

@@ -8,6 +8,7 @@ use crate::volumes;
 use port::{Answered, Blocks, Kiosk, KioskCreate};
 use rules::blocks::{blocks, lay_out, layout, Chain, Layout, Run};
 use rules::entries::{Kind, Name};
+use rules::opens::Packed;
 use rules::put_word;
 use rules::tree::{self, FourMut};
 use std::sync::atomic::{AtomicU64, Ordering::Relaxed};
@@ -103,12 +104,12 @@ fn volume(chance: &mut Chance, way: Way) -> Kiosk {
     let buckets = chance.within(1, 5);
     let (mut dir_hash, mut dir_table) = (vec![0; 4 * buckets], vec![0; 40 * dirs]);
     let (mut file_hash, mut file_table) = (vec![0; 4 * buckets], vec![0; 48 * files]);
-    let (mut work, mut opens) = (vec![0; dirs + files], vec![0; files]);
+    let (mut work, mut opens) = (vec![0; dirs + files], Packed::none(2 * files));
     let mut four = FourMut { dir_hash: &mut dir_hash, dir_table: &mut dir_table, file_hash: &mut file_hash, file_table: &mut file_table };
     tree::format(&mut four, dirs, files).unwrap();
     let mut parent = 1;
     if way.directory || chance.one_in(4) {
-        let mut held = vec![0; dirs];
+        let mut held = Packed::none(2 * dirs);
         parent = tree::make(&mut four, &mut work, &mut held, Kind::Dir, 1, b"DIR\0\0\0\0\0\0\0\0\0\0\0\0\0", &[0; 4]).unwrap();
         if !way.directory {
             tree::delete(&mut four, &mut work, &mut held, Kind::Dir, parent).unwrap();

@@ -45,8 +45,9 @@ fn answer_name(c: &str) -> String {
     }
 }
 
-/// `const uint8_t name[16]` is `name: &[u8; 16]`. A pointer is a slice, whose length follows.
-fn parameter(c: &str) -> String {
+/// `const uint8_t name[16]` is `name: &[u8; 16]`. A pointer is a slice, whose length is what follows it; one to a size that no
+/// length follows is to one number.
+fn parameter(c: &str, next: Option<&str>) -> String {
     let (c, mutable) = match c.strip_prefix("const ") {
         Some(rest) => (rest, ""),
         None => (c, "mut "),
@@ -54,8 +55,7 @@ fn parameter(c: &str) -> String {
     let (kind, name) = c.split_once(' ').expect("type and name");
     let kind = rust_type(kind);
     if let Some(name) = name.strip_prefix('*') {
-        // A pointer to a size is to one number: no slice of sizes is lent.
-        if kind == "usize" {
+        if kind == "usize" && next != Some(&format!("size_t {name}_len")) {
             return format!("{name}: &{mutable}{kind}");
         }
         return format!("{name}: &{mutable}[{kind}]");
@@ -69,11 +69,12 @@ fn parameter(c: &str) -> String {
 /// Every parameter, a slice's pointer and length as one.
 fn parameters(c: &str) -> String {
     let mut taken: Vec<String> = vec![];
-    for one in c.split(", ").filter(|one| *one != "void") {
+    let mut all = c.split(", ").filter(|one| *one != "void").peekable();
+    while let Some(one) = all.next() {
         let slice = taken.last().filter(|last| last.ends_with(']') && !last.contains(';'));
         let length = slice.and_then(|slice| slice.split_once(':')).map(|(name, _)| format!("size_t {name}_len"));
         if length.as_deref() != Some(one) {
-            taken.push(parameter(one));
+            taken.push(parameter(one, all.peek().copied()));
         }
     }
     taken.join(", ")

@@ -9,7 +9,7 @@
 //! let (mut table, data) = ([0u8; 8 * 9], [0u8; 8 * 512]);
 //! let (mut dir_hash, mut dir_table) = ([0u8; 4 * 3], [0u8; 40 * 2]);
 //! let (mut file_hash, mut file_table) = ([0u8; 4 * 3], [0u8; 48 * 4]);
-//! let (mut work, mut opens) = ([0u32; 8 + 2 + 4], [0u32; 4]);
+//! let (mut work, mut opens, mut opened) = ([0u32; 8 + 2 + 4], [0u32; 2], 0);
 //! let mut tables = TablesMut {
 //!     dir_hash: &mut dir_hash,
 //!     dir_table: &mut dir_table,
@@ -24,7 +24,7 @@
 //! assert_eq!(kiosk::test(&table, &data, 512, tables.shared(), &mut work)?, Some(Rule::Audit));
 //! let mut carried = [0; 20];
 //! Record { first_block, size: 1025 }.put(&mut carried);
-//! tree::make_file(&mut tables, &mut work, &mut opens, ROOT, b"SLOT1\0\0\0\0\0\0\0\0\0\0\0", &carried)?;
+//! tree::make_file(&mut tables, &mut work, &mut opens, &mut opened, ROOT, b"SLOT1\0\0\0\0\0\0\0\0\0\0\0", &carried)?;
 //! assert_eq!(kiosk::test(&table, &data, 512, tables.shared(), &mut work)?, None);
 //!
 //! // Five blocks are free, and none of the nodes has six.

@@ -242,7 +242,13 @@ pub fn rename_file(
 }
 
 /// Deletes a directory without children that its writer holds and no reader.
-pub fn delete_dir(tables: &mut TablesMut<'_>, work: &mut [u32], opens: &mut [u32], opened: &mut usize, inode: u32) -> Result<(), Refusal> {
+pub fn delete_dir(
+    tables: &mut TablesMut<'_>,
+    work: &mut [u32],
+    opens: &mut [u32],
+    opened: &mut usize,
+    inode: u32,
+) -> Result<(), Refusal> {
     let r = on_tables!(
         mukthiban_tree_delete_dir, change tables,
         work.as_mut_ptr(), work.len(), opens.as_mut_ptr(), opens.len(), opened, inode,
@@ -251,7 +257,13 @@ pub fn delete_dir(tables: &mut TablesMut<'_>, work: &mut [u32], opens: &mut [u32
 }
 
 /// Deletes a file entry that its writer holds and no reader. Its blocks are not touched.
-pub fn delete_file(tables: &mut TablesMut<'_>, work: &mut [u32], opens: &mut [u32], opened: &mut usize, inode: u32) -> Result<(), Refusal> {
+pub fn delete_file(
+    tables: &mut TablesMut<'_>,
+    work: &mut [u32],
+    opens: &mut [u32],
+    opened: &mut usize,
+    inode: u32,
+) -> Result<(), Refusal> {
     let r = on_tables!(
         mukthiban_tree_delete_file, change tables,
         work.as_mut_ptr(), work.len(), opens.as_mut_ptr(), opens.len(), opened, inode,

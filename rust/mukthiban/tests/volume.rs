@@ -140,7 +140,15 @@ fn tree_calls_agree() {
                 ),
                 4 | 5 => assert_eq!(
                     v.make_file(parent, &n, &c20),
-                    tree::make_file(tables_mut!(p), &mut p.work, &mut p.file_opens, &mut p.files_opened, parent, &n, &c20)
+                    tree::make_file(
+                        tables_mut!(p),
+                        &mut p.work,
+                        &mut p.file_opens,
+                        &mut p.files_opened,
+                        parent,
+                        &n,
+                        &c20
+                    )
                 ),
                 6 => assert_eq!(
                     v.rename_dir(inode, parent, &n),
@@ -200,7 +208,14 @@ fn tree_calls_agree() {
                 ),
                 _ => assert_eq!(
                     v.close_file(inode, want),
-                    tree::close_file(p.parts.tables(), &mut p.work, &mut p.file_opens, &mut p.files_opened, inode, want)
+                    tree::close_file(
+                        p.parts.tables(),
+                        &mut p.work,
+                        &mut p.file_opens,
+                        &mut p.files_opened,
+                        inode,
+                        want
+                    )
                 ),
             }
             assert_eq!(v.parts(), &p.parts);

@@ -5,6 +5,7 @@ use super::tree::{planned, Names, Order, Plan};
 use port::{Audit, Kiosk};
 use rules::blocks::{lay_out, Layout, Run};
 use rules::entries::Kind;
+use rules::opens::Packed;
 use rules::put_word;
 use rules::tree::{self, FourMut};
 
@@ -72,7 +73,7 @@ pub fn kiosk(n: usize, files: usize) -> Kiosk {
     let (mut file_hash, mut file_table) = (vec![0; 4 * 67], vec![0; 48 * (files + 1)]);
     let mut four = FourMut { dir_hash: &mut dir_hash, dir_table: &mut dir_table, file_hash: &mut file_hash, file_table: &mut file_table };
     tree::format(&mut four, 2, files + 1).expect("sizes that fit");
-    let (mut work, mut opens) = (vec![0; 2 + files + 1], vec![0; files + 1]);
+    let (mut work, mut opens) = (vec![0; 2 + files + 1], Packed::none(2 * (files + 1)));
     for k in 0..files {
         let (mut name, mut carried) = ([0; 16], [0; 20]);
         let text = format!("SLOT{k}");

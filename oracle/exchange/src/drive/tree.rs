@@ -5,7 +5,7 @@ use compare::chance::Chance;
 use compare::tree_history::{any_call, seen};
 use compare::trees;
 use port::{Answered, Kind, Port, Stated, Tree, TreeCall};
-use rules::opens::WRITER;
+use rules::opens::{Packed, WRITER};
 use rules::tree::tree;
 use std::collections::HashMap;
 
@@ -231,7 +231,10 @@ pub fn lists(tables: &Tables, lent: &Tree) {
 
 /// Tables with up to two handles of each inode.
 pub fn begin(chance: &mut Chance) -> (Tree, Tables, Held) {
-    let lent = if chance.one_in(2) { trees::formatted(chance) } else { trees::any_sound(chance) };
+    let mut lent = if chance.one_in(2) { trees::formatted(chance) } else { trees::any_sound(chance) };
+    // The modules' lists of open records grow, so the rules have a place for every entry's.
+    lent.dir_opens = Packed::none(2 * (lent.dir_table.len() / 40));
+    lent.file_opens = Packed::none(2 * (lent.file_table.len() / 48));
     let mut tables = Tables::open(lent.four()).expect("sound tables open");
     let mut held = Held::new();
     let there = tree(seen(&lent)).unwrap();
