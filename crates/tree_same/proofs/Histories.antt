@@ -26,7 +26,7 @@ use Rattle.tree_promises.specs.Packed.{Outcome, refuse, PackedPromise}
 use Rattle.tree_history.specs.Call as dense
 use Rattle.tree_history.specs.Run as history
 use Rattle.tree_same.specs.Run as run
-use Rattle.tree_same.specs.Run.{State, Call, AnyRun, Same, NoneOpen, opensOf, changed}
+use Rattle.tree_same.specs.Run.{State, Call, askedIn, AnyRun, Same, NoneOpen, opensOf, changed}
 use Rattle.tree_same.proofs.Same.{split}
 use Rattle.tree_same.proofs.Calls.{none-back}
 use Rattle.tree_same.proofs.Theorems.{Linked, Stepped, step, none-there}
@@ -58,7 +58,7 @@ same-state File s g (a, e) = ap (λ (z : Outcome). changed File s (z .tables) (z
 
 module _ (s : State) (d f : List ℕ) (L : Linked s d f) where
   -- a call stays where it is, or is the same call over one record for each inode
-  any-step : {a : Answer} {u : State} (c : Call s a u) → (u ≡ s) ⊎ Stepped s u a d f
+  any-step : {a : Answer} {u : State} (c : Call s a u) → (u ≡ s) ⊎ Stepped s u (askedIn c) a d f
   any-step (run.opening kind work x want o p) =
       ⊎-elim
       (λ (q : NoPlace (opensOf kind s) x). inl (same-state kind s (o .given) (stays (s .tables) (opensOf kind s) work (packed.openTests kind (s .tables) (opensOf kind s) x want) (packed.openDone kind (s .tables) (opensOf kind s) x want) o p (λ n. n .1 .0 q))))
@@ -73,7 +73,7 @@ module _ (s : State) (d f : List ℕ) (L : Linked s d f) where
   any-step (run.closing kind work x want o p) = inr (step s d f L (run.closing kind work x want o p) (λ q. q))
   any-step (run.rename kind work x p name o b q) = inr (step s d f L (run.rename kind work x p name o b q) (λ q. q))
   any-step (run.delete kind work x o p) = inr (step s d f L (run.delete kind work x o p) (λ q. q))
-  any-step (run.other t a c) = inr (step s d f L (run.other t a c) (λ q. q))
+  any-step (run.other t a q c) = inr (step s d f L (run.other t a q c) (λ q. q))
 
 record Ran (start : dense.State) (u : State) : Type 0 where
   dirs-then : List ℕ
@@ -87,10 +87,10 @@ follow s d f L u (run.next t v a r c) =
     let q = follow s d f L t r in
     ⊎-elim
     (λ (e : v ≡ t). subst⁻¹ (λ (z : State). Ran (dense.state (s .tables) d f) z) e q)
-    (λ (n : Stepped t v a (q .dirs-then) (q .files-then)). record {
+    (λ (n : Stepped t v (askedIn c) a (q .dirs-then) (q .files-then)). record {
       dirs-then = n .dirs-then;
       files-then = n .files-then;
-      ran = history.calls (dense.state (t .tables) (q .dirs-then) (q .files-then)) (dense.state (v .tables) (n .dirs-then) (n .files-then)) a (q .ran) (n .call);
+      ran = history.calls (dense.state (t .tables) (q .dirs-then) (q .files-then)) (dense.state (v .tables) (n .dirs-then) (n .files-then)) a (q .ran) (n .call .call);
       linked = n .linked;
     })
     (any-step t (q .dirs-then) (q .files-then) (q .linked) c)

@@ -17,6 +17,8 @@ use Rattle.tree_promises.specs.Kinds.{kindView}
 use Rattle.tree_history.specs.Call as dense
 use Rattle.tree_packed.specs.Opens.{Opens, NoPlace}
 use Rattle.tree_same.specs.Alike.{Alike}
+use Rattle.tree_same.specs.Asked as asked
+use Rattle.tree_same.specs.Asked.{Asked, Asking}
 use Rattle.tree_promises.specs.Packed.{Outcome, PackedOpen, PackedClose, PackedMake, PackedRename, PackedDelete}
 
 -- what the calls are lent from one to the next
@@ -53,7 +55,17 @@ pub data Call (s : State) : Answer → State → Type 0 where
   delete : (kind : Kind) (work : List ℕ) (x : ℕ) (o : Beside Outcome)
       → PackedDelete kind (s .tables) (opensOf kind s) work x o
       → Call s (o .given .answer) (changed kind s (o .given .tables) (o .given .opens))
-  other : (t : Tables) (a : Answer) → ((d f : List ℕ) → dense.Call (dense.state (s .tables) d f) a (dense.state t d f)) → Call s a (state t (s .dirOpens) (s .fileOpens))
+  other : (t : Tables) (a : Answer) (q : Asked) → ((d f : List ℕ) → Asking q (dense.state (s .tables) d f) a (dense.state t d f))
+      → Call s a (state t (s .dirOpens) (s .fileOpens))
+
+-- what it was asked
+abbrev pub askedIn : {s u : State} {a : Answer} → Call s a u → Asked
+askedIn (opening kind work x want o p) = asked.opening kind work x want
+askedIn (closing kind work x want o p) = asked.closing kind work x want
+askedIn (make kind work p name bytes o bn bb q) = asked.make kind work p name bytes
+askedIn (rename kind work x p name o b q) = asked.rename kind work x p name
+askedIn (delete kind work x o p) = asked.delete kind work x
+askedIn (other t a q c) = q
 
 -- the call was refused for a full list
 abbrev pub FullFor : {s u : State} {a : Answer} → Call s a u → Type 0
@@ -62,12 +74,13 @@ FullFor {s} (make kind work p name bytes o bn bb q) = (o .given .answer ≡ TooM
 FullFor (closing kind work x want o p) = ⊥
 FullFor (rename kind work x p name o b q) = ⊥
 FullFor (delete kind work x o p) = ⊥
-FullFor (other t a c) = ⊥
+FullFor (other t a q c) = ⊥
 
--- calls one after the other, none refused for a full list: their answers, the last first, and the state afterwards
-pub data Run (s : State) : List Answer → State → Type 0 where
-  none : Run s [] s
-  next : (done : List Answer) (t u : State) (a : Answer) → Run s done t → (c : Call t a u) → (FullFor c → ⊥) → Run s (a ∷ done) u
+-- calls one after the other, none refused for a full list: what they were asked and their answers, the last first, and the state afterwards
+pub data Run (s : State) : List Asked → List Answer → State → Type 0 where
+  none : Run s [] [] s
+  next : (calls : List Asked) (done : List Answer) (t u : State) (a : Answer) → Run s calls done t → (c : Call t a u) → (FullFor c → ⊥)
+      → Run s (askedIn c ∷ calls) (a ∷ done) u
 
 -- any calls one after the other, those refused for a full list among them
 pub data AnyRun (s : State) : State → Type 0 where
@@ -75,9 +88,10 @@ pub data AnyRun (s : State) : State → Type 0 where
   next : (t u : State) (a : Answer) → AnyRun s t → Call t a u → AnyRun s u
 
 -- the same over one record for each inode
-pub data DenseRun (s : dense.State) : List Answer → dense.State → Type 0 where
-  none : DenseRun s [] s
-  next : (done : List Answer) (t u : dense.State) (a : Answer) → DenseRun s done t → dense.Call t a u → DenseRun s (a ∷ done) u
+pub data DenseRun (s : dense.State) : List Asked → List Answer → dense.State → Type 0 where
+  none : DenseRun s [] [] s
+  next : (calls : List Asked) (done : List Answer) (t u : dense.State) (q : Asked) (a : Answer) → DenseRun s calls done t → Asking q t a u
+      → DenseRun s (q ∷ calls) (a ∷ done) u
 
 -- both sides have the same tables and the same records
 pub record Same (s : State) (t : dense.State) : Type 0 where
