@@ -302,6 +302,9 @@ module _ (s : Tables) (dm fm : ℕ) (M : Maxima s dm fm) where
   pub formatted-legal : AllLegal (formatted s dm fm)
   formatted-legal = record { of-dirs = λ y l n. absurd (n (only y l)); of-files = λ y l n. absurd (no-file y l) }
 
+  pub formatted-bare : ((y : ℕ) → LiveIn (dirs (formatted s dm fm)) y → y ≡ 1) × ((y : ℕ) → LiveIn (files (formatted s dm fm)) y → ⊥)
+  formatted-bare = (only, no-file)
+
   -- the same lengths, and bytes
   pub formatted-after : After s (formatted s dm fm)
   formatted-after = record {
@@ -354,3 +357,12 @@ format-named s dm fm o =
     of-first (λ (x : Carry). x .answer ≡ Done → AllLegal (x .tables)) (formatRows s dm fm) (carryGives Done (formatted s dm fm)) o
     (λ _ e. absurd (omega (arith, ap numberOf e)), (λ _ e. absurd (omega (arith, ap numberOf e)), tt))
     (λ n _. formatted-legal s dm fm (maxima s dm fm (n .0) (n .1 .0)))
+
+-- a format that is answered Done leaves the root alone
+pub format-bare : (s : Tables) (dm fm : ℕ) (o : Carry) → FormatPromise s dm fm o → o .answer ≡ Done
+    → ((y : ℕ) → LiveIn (dirs (o .tables)) y → y ≡ 1) × ((y : ℕ) → LiveIn (files (o .tables)) y → ⊥)
+format-bare s dm fm o =
+    of-first (λ (x : Carry). x .answer ≡ Done → ((y : ℕ) → LiveIn (dirs (x .tables)) y → y ≡ 1) × ((y : ℕ) → LiveIn (files (x .tables)) y → ⊥))
+    (formatRows s dm fm) (carryGives Done (formatted s dm fm)) o
+    (λ _ e. absurd (omega (arith, ap numberOf e)), (λ _ e. absurd (omega (arith, ap numberOf e)), tt))
+    (λ n _. formatted-bare s dm fm (maxima s dm fm (n .0) (n .1 .0)))

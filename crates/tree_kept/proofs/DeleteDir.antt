@@ -104,6 +104,10 @@ module _ (dh d fh f : List ℕ) (Q : Fine dh d fh f) (RD RF : List ℕ) (T : Tre
   pub deleted-dir-key : (y : ℕ) → 0 < y → y ≢ x → D2 .key y ≡ D .key y
   deleted-dir-key y h n = same .key y h ∙ upd-other (D1 .key) x (D1 .key 0) y n ∙ A .key y h
 
+  -- the table afterwards: x taken out of its lists, then given up
+  pub deleted-dir-given : Agree (unlink D x) D1 × Agree (heads (give D1 x) (λ p. field 40 d2 p 7)) D2
+  deleted-dir-given = (A, same)
+
   -- one more entry is free, whether or not x has children
   pub deleted-dir-removed : removedOf D2 ≡ x ∷ RD
   deleted-dir-removed = removed-agree (give D1 x) D2 (Live (D .count) RD) (x ∷ RD) (gave D1 (Live (D .count) RD) RD x still loose) (same .count) (same .coll)

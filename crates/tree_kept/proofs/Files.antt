@@ -236,6 +236,10 @@ module _ (dh d fh f : List ℕ) (Q : Fine dh d fh f) (RD RF : List ℕ) (T : Tre
   pub deleted-file-key : (y : ℕ) → 0 < y → y ≢ x → G2 .key y ≡ fileView d fh f .key y
   deleted-file-key y h n = gave-same .key y h ∙ upd-other (G .key) x (G .key 0) y n ∙ same .key y h
 
+  -- the table afterwards: x taken out of its lists, then given up
+  pub deleted-file-given : Agree (give G x) G2
+  deleted-file-given = gave-same
+
   pub deleted-file-kept : Tree (dirView dh (deleted File (tables dh d fh f) x .dirTable))
       (fileView (deleted File (tables dh d fh f) x .dirTable) (deleted File (tables dh d fh f) x .fileHash) (deleted File (tables dh d fh f) x .fileTable)) RD (x ∷ RF)
   deleted-file-kept =
