@@ -157,11 +157,11 @@ pub ages-take : (v : View) (Dir : ℕ → Type 0) (R : List ℕ) → Sound v Dir
 ages-take v Dir R S G =
     let t = took-live v Dir R S in
     let was : (y : ℕ) → In (take v .count) (rest R) (taken v) y → In (v .count) R 0 y =
-        λ y h. ⊎-elim (λ (e : y ≡ taken v). absurd (h .1 e)) (λ (l : (y ≢ taken v) × Live (v .count) R y). (l .1, not-zero (l .1 .0))) (t .2 y .0 (h .0))
+    λ y h. ⊎-elim (λ (e : y ≡ taken v). absurd (h .1 e)) (λ (l : (y ≢ taken v) × Live (v .count) R y). (l .1, not-zero (l .1 .0))) (t .2 y .0 (h .0))
     in
     let c : (y : ℕ) → 0 < y → take v .coll y ≡ v .coll y =
-        λ y p. by-eq (v .coll 0) 0 (λ b. pick b (v .coll) (upd (v .coll) 0 (v .coll (v .coll 0))) y ≡ v .coll y) (λ _. refl)
-        (λ _. upd-other (v .coll) 0 (v .coll (v .coll 0)) y (not-zero p))
+    λ y p. by-eq (v .coll 0) 0 (λ b. pick b (v .coll) (upd (v .coll) 0 (v .coll (v .coll 0))) y ≡ v .coll y) (λ _. refl)
+    (λ _. upd-other (v .coll) 0 (v .coll (v .coll 0)) y (not-zero p))
     in
     record {
       age = G .age;

@@ -101,8 +101,8 @@ module _ (s : Tables) (w : Whole s) where
       let H = T .dirs .bucket (place D (D .key 1)) (mod-lt (hashOf (D .key 1)) (Q .dir-some)) in
       let in-it : 1 ∈ H .0 = H .2 1 .1 ((T .root-live, not-zero (T .root-live .0)), refl) in
       let alone : (n : ℕ) → n ≡ D .coll 1 → n ≡ 0 =
-          λ n. root-alone n (λ e p. not-own (D .coll) 1 (D .hash (place D (D .key 1))) (H .0) (H .1) in-it
-          (only (D .coll 1) (H .2 (D .coll 1) .0 (link-in (D .coll) (D .hash (place D (D .key 1))) 1 (H .0) (H .1) in-it (subst (λ (z : ℕ). 0 < z) e p)) .0 .0)))
+      λ n. root-alone n (λ e p. not-own (D .coll) 1 (D .hash (place D (D .key 1))) (H .0) (H .1) in-it
+      (only (D .coll 1) (H .2 (D .coll 1) .0 (link-in (D .coll) (D .hash (place D (D .key 1))) 1 (H .0) (H .1) in-it (subst (λ (z : ℕ). 0 < z) e p)) .0 .0)))
       in
       let coll-1 : D .coll 1 ≡ 0 = alone (D .coll 1) refl in
       record {
@@ -251,8 +251,8 @@ module _ (s : Tables) (w : Whole s) where
     circle-free : (v : View) (Dir : ℕ → Type 0) → 0 < v .buckets → Sound v Dir (removedOf v) 0 → AgesOf v (removedOf v) 0 → NoCircle v
     circle-free v Dir some S G x l r =
         let a =
-            older (v .count) (v .root) (v .coll) (v .next) (removedOf v) G (λ y h p. coll-here v Dir (removedOf v) some 0 S y (h, not-zero (h .0)) p .0)
-            (λ y h p. next-here v Dir (removedOf v) some 0 S (λ q. G .root-last q .1) y (h, not-zero (h .0)) p .0) r l
+        older (v .count) (v .root) (v .coll) (v .next) (removedOf v) G (λ y h p. coll-here v Dir (removedOf v) some 0 S y (h, not-zero (h .0)) p .0)
+        (λ y h p. next-here v Dir (removedOf v) some 0 S (λ q. G .root-last q .1) y (h, not-zero (h .0)) p .0) r l
         in
         omega (arith, a .0)
 

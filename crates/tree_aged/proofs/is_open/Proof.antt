@@ -1,5 +1,5 @@
 -- `tree_aged::is_open` meets its contract.
-use Rattle.tree_aged.proofs.Walks.{open-none, open-mark}
+use Rattle.tree_aged.proofs.Opens.{open-none, open-mark}
 use borrow.Author.Needs.{needs}
 use Rattle.tree_aged.proofs.is_open.Statement.{statement}
 use Rattle.tree_aged.proofs.is_open.Tie as tie

@@ -1,5 +1,6 @@
 -- `tree_aged::open_link` meets its contract.
-use Rattle.tree_aged.proofs.Walks.{coll-asked, entry-in, coll-placed, next-placed, open-coll, open-next, open-no}
+use Rattle.tree_aged.proofs.Walks.{coll-asked, entry-in}
+use Rattle.tree_aged.proofs.Opens.{coll-placed, next-placed, open-coll, open-next, open-no}
 use native.Mathlib.Omega.{arith}
 use borrow.Author.Needs.{needs}
 use Rattle.tree_aged.proofs.open_link.Statement.{statement}
