@@ -321,6 +321,17 @@ mukthiban_stat mukthiban_tree_stat(const uint8_t *dir_hash, size_t dir_hash_len,
                                    const uint8_t *file_table, size_t file_table_len,
                                    uint32_t *work, size_t work_len);
 
+/* Whether an honest writer can have left the tables, by the orders of their lists: entries go to the front of their
+ * bucket and of their parent's list at once, so what a link names was there earlier. Done with table 0: so it can be,
+ * as far as the lists tell. Table 1, inode 1: the root is not the last of its bucket. Else the lowest directory
+ * (table 1), or else the lowest file (table 2), from which links lead into a circle. No refusal: the tables are sound.
+ * Answers 1, 2, 3, 9. */
+mukthiban_aged mukthiban_tree_aged(const uint8_t *dir_hash, size_t dir_hash_len,
+                                   const uint8_t *dir_table, size_t dir_table_len,
+                                   const uint8_t *file_hash, size_t file_hash_len,
+                                   const uint8_t *file_table, size_t file_table_len,
+                                   uint32_t *work, size_t work_len);
+
 /* Where the 16 name bytes of a live inode begin, in dir_table (kind 0) or file_table (kind 1). Another kind is
  * 2, judged with the sizes: after 1, before 3. Answers 1, 2, 3, 9, 10. */
 mukthiban_named mukthiban_tree_name(const uint8_t *dir_hash, size_t dir_hash_len,

@@ -190,6 +190,14 @@ typedef struct {
     size_t file_free;
 } mukthiban_stat;
 
+/* Whether an honest writer can have left the tables: a table (1 directories, 2 files) and an inode of it by which none
+ * can; 0 and 0 where there is none. */
+typedef struct {
+    uint32_t answer;
+    uint32_t table;
+    uint32_t inode;
+} mukthiban_aged;
+
 /* Name: where the 16 bytes begin in the table that the kind selects. */
 typedef struct {
     uint32_t answer;

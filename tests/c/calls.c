@@ -328,6 +328,7 @@ static void tree(void)
     mukthiban_made made;
     mukthiban_listed listed;
     mukthiban_stat stat;
+    mukthiban_aged aged;
     mukthiban_named named;
 
     EXPECT(mukthiban_tree_format(dir_hash, sizeof dir_hash, dir_table, sizeof dir_table, 4, file_hash,
@@ -357,6 +358,9 @@ static void tree(void)
     stat = mukthiban_tree_stat(FOUR, WORK);
     EXPECT(stat.answer == MUKTHIBAN_DONE && stat.dir_total == 3 && stat.dir_free == 1);
     EXPECT(stat.file_total == 3 && stat.file_free == 2);
+
+    aged = mukthiban_tree_aged(FOUR, WORK);
+    EXPECT(aged.answer == MUKTHIBAN_DONE && aged.table == 0 && aged.inode == 0);
 
     named = mukthiban_tree_name(FOUR, WORK, MUKTHIBAN_DIRECTORY, 2);
     EXPECT(named.answer == MUKTHIBAN_DONE && memcmp(dir_table + named.offset, a, 16) == 0);
@@ -388,6 +392,7 @@ static void tree(void)
     opened();
     file_table[0] = 99;
     EXPECT(mukthiban_tree_test(FOUR, WORK).answer == MUKTHIBAN_BROKEN_TREE);
+    EXPECT(mukthiban_tree_aged(FOUR, WORK).answer == MUKTHIBAN_BROKEN_TREE);
 }
 
 /* Six blocks, four files: the chain of blocks 0 and 1 has two of them, the chains from 2 and from 3 have none. */

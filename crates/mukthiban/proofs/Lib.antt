@@ -9,3 +9,4 @@ pub mod OneMap
 pub mod Asked
 pub mod OneOpens
 pub mod OneKiosk
+pub mod OneAged

@@ -97,6 +97,14 @@ pub struct Found {
     pub compared: u32,
 }
 
+// A table (1 the directories, 2 the files) and an entry of it by which no honest writer can have left the tables; 0 and 0 where there is none.
+#[repr(C)]
+pub struct Aged {
+    pub answer: u32,
+    pub table: u32,
+    pub inode: u32,
+}
+
 // Where the sixteen bytes of a name begin in the table that the kind selects.
 #[repr(C)]
 pub struct Named {

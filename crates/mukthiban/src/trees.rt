@@ -3,7 +3,10 @@ ghost use Rattle.tree_test.specs.Promise.{tested, TestPromise};
 ghost use Rattle.tree_sound.specs.Tables.{tables};
 ghost use Rattle.tree_promises.specs.Calls.{carryGives};
 ghost use Rattle.tree_promises.specs.Format.{FormatPromise};
+ghost use Rattle.order.specs.Beside.{beside};
+ghost use Rattle.tree_aged.specs.Calls.{ageGives, AgedPromise};
 ghost use Rattle.mukthiban.specs.Export.{Exported};
+use crate::Aged;
 use crate::Plain;
 
 #[no_mangle]
@@ -44,5 +47,24 @@ pub extern "C" fn mukthiban_tree_test(
     let answer = r.answer;
     Plain {
         answer: order::number(answer),
+    }
+}
+
+#[no_mangle]
+pub extern "C" fn mukthiban_tree_aged(
+    dir_hash: &[u8],
+    dir_table: &[u8],
+    file_hash: &[u8],
+    file_table: &[u8],
+    work: &mut [u32],
+) -> Aged
+    ensures { λ p. ⌜ Exported (p .answer) (λ a. AgedPromise (tables (now («dir_hash» .entry)) (now («dir_table» .entry)) (now («file_hash» .entry)) (now («file_table» .entry))) (now (work .entry)) (beside (ageGives a (p .table) (p .inode)) (now (work .exit)))) ⌝ }
+{
+    let r = tree_aged::aged(dir_hash, dir_table, file_hash, file_table, work);
+    let answer = r.answer;
+    Aged {
+        answer: order::number(answer),
+        table: r.table,
+        inode: r.inode,
     }
 }

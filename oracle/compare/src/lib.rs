@@ -1,5 +1,6 @@
 //! Runs the same calls on the statement of the rules, on the original and on the proved library, and compares every byte.
 
+pub mod aged;
 pub mod audited;
 pub mod block_history;
 pub mod by_list;

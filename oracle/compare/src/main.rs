@@ -1,7 +1,7 @@
 //! `compare short` or `compare long [seed]`: every comparison, with counts and the seed. It ends at the first difference.
 
 use compare::chance::Chance;
-use compare::{audited, block_history, by_list, check, closure, damage, edges, mapped, merged, planned, profiled, retired, salvaged, tree_history};
+use compare::{aged, audited, block_history, by_list, check, closure, damage, edges, mapped, merged, planned, profiled, retired, salvaged, tree_history};
 use std::time::{Instant, SystemTime, UNIX_EPOCH};
 
 /// How much of everything.
@@ -67,6 +67,7 @@ fn main() {
     profiled::large();
     histories("salvage", salvaged::run, seed, run.histories);
     histories("tree", tree_history::run, seed, run.histories);
+    histories("aged tree", aged::run, seed, run.histories);
     histories("full tree", tree_history::full, seed, run.histories / 10);
     closure::run(&mut Chance::new(seed), run.depth, run.states);
     damage::run(&mut Chance::new(seed), run.whole, run.damaged);
@@ -99,5 +100,8 @@ fn main() {
     let (answers, rules, kinds) = salvaged::met();
     println!("salvages by their answers 0, 1, 2, 3, 5, 8: {answers:?}; chains by their ends 0, 1, 3, 4, 5, 7, 8: {rules:?}; kinds 0 to 3: {kinds:?}");
     assert!(answers.iter().chain(&rules).chain(&kinds).all(|times| *times > 0), "an answer, an end or a kind was never met");
+    let (answers, told) = aged::met();
+    println!("honest trees or not, by the answers 0, 1, 2, 3, 9: {answers:?}; nothing told, the root, another directory, a file: {told:?}");
+    assert!(answers.iter().chain(&told).all(|times| *times > 0), "an answer or what can be told was never met");
     println!("no difference, {} s", start.elapsed().as_secs());
 }

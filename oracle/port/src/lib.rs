@@ -1,5 +1,6 @@
 //! "A port": something that answers the calls of RULES 1.3 over lent bytes. The statement of the rules is one, the proved library another.
 
+mod aged;
 mod audit;
 mod by_list;
 mod calls;

@@ -4,6 +4,7 @@
 //! It judges any input, sound or damaged: the number, every answer field and every lent byte.
 //! Speed does not matter, beyond being about linear.
 
+pub mod aged;
 pub mod answer;
 pub mod audit;
 pub mod blocks;

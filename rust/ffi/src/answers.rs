@@ -42,6 +42,8 @@ answers! {
     Found { answer: u32, inode: u32, compared: u32 }
     /// Stat.
     Stat { answer: u32, dir_total: usize, dir_free: usize, file_total: usize, file_free: usize }
+    /// An entry by which the tables are no honest writer's: its table (1 directories, 2 files) and inode, 0 and 0 for none.
+    Aged { answer: u32, table: u32, inode: u32 }
     /// Where the 16 name bytes begin in the table that the kind selects.
     Named { answer: u32, offset: usize }
 }

@@ -106,6 +106,10 @@ calls! {
         dir_hash: &[u8], dir_table: &[u8], file_hash: &[u8], file_table: &[u8],
         work: &mut [u32],
     ) -> Stat;
+    fn mukthiban_tree_aged(
+        dir_hash: &[u8], dir_table: &[u8], file_hash: &[u8], file_table: &[u8],
+        work: &mut [u32],
+    ) -> Aged;
     fn mukthiban_tree_name(
         dir_hash: &[u8], dir_table: &[u8], file_hash: &[u8], file_table: &[u8],
         work: &mut [u32], kind: u32, inode: u32,

@@ -292,6 +292,18 @@ pub fn stat(tables: Tables<'_>, work: &mut [u32]) -> Result<Stat, Refusal> {
     stated(on_tables!(mukthiban_tree_stat, read tables, work.as_mut_ptr(), work.len()))
 }
 
+/// Whether an honest writer can have left the tables, by the orders of their lists: nothing, or an entry by which none can. The root, where it is not the
+/// last of its bucket; else the lowest directory, or else the lowest file, from which links lead into a circle.
+pub fn aged(tables: Tables<'_>, work: &mut [u32]) -> Result<Option<(Kind, u32)>, Refusal> {
+    let r = on_tables!(mukthiban_tree_aged, read tables, work.as_mut_ptr(), work.len());
+    judge(r.answer)?;
+    Ok(match r.table {
+        0 => None,
+        1 => Some((Kind::Dir, r.inode)),
+        _ => Some((Kind::File, r.inode)),
+    })
+}
+
 /// The name of a live inode, as a part of its table.
 pub fn name<'a>(tables: Tables<'a>, work: &mut [u32], kind: Kind, inode: u32) -> Result<&'a Name, Refusal> {
     let r = on_tables!(mukthiban_tree_name, read tables, work.as_mut_ptr(), work.len(), kind as u32, inode);

@@ -2,7 +2,7 @@
 
 _mukthiban() {
     local word=${COMP_WORDS[COMP_CWORD]} before=${COMP_WORDS[COMP_CWORD - 1]} command=${COMP_WORDS[1]} options
-    local commands="check audit ls map status cat lift verify put cp mkdir mv rm merge whole defrag kiosk new help"
+    local commands="check audit age ls map status cat lift verify put cp mkdir mv rm merge whole defrag kiosk new help"
     COMPREPLY=()
     if [ "$COMP_CWORD" = 1 ]; then
         COMPREPLY=($(compgen -W "$commands --help --version" -- "$word"))

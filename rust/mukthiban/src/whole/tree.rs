@@ -6,6 +6,7 @@
 use super::Volume;
 use crate::inner::on_tree;
 use crate::refusal::{judge, Refusal};
+use crate::tables::{DIR_WIDTH, FILE_WIDTH};
 use crate::tree::{self, Found, Kind, Missed, Name, Stat, Want};
 
 impl Volume {
@@ -108,6 +109,13 @@ impl Volume {
     /// Entries in all and entries still free, of both tables.
     pub fn stat(&self) -> Result<Stat, Refusal> {
         tree::stated(unsafe { on_tree!(mukthiban_tested_tree_stat, read self.parts) })
+    }
+
+    /// An entry by which no honest writer can have left the tables, if there is one: see [`tree::aged`].
+    pub fn aged(&self) -> Option<(Kind, u32)> {
+        let tables = self.parts.tables();
+        let rooms = tables.dir_table.len() / DIR_WIDTH + tables.file_table.len() / FILE_WIDTH;
+        tree::aged(tables, &mut vec![0; rooms]).expect("the tables are sound")
     }
 
     /// The name of a live inode.

@@ -1,5 +1,6 @@
 //! The commands, a file each.
 
+mod age;
 mod audit;
 mod cat;
 mod check;
@@ -26,6 +27,7 @@ use crate::args::Command;
 pub const ALL: &[Command] = &[
     check::COMMAND,
     audit::COMMAND,
+    age::COMMAND,
     ls::COMMAND,
     cat::COMMAND,
     lift::COMMAND,

@@ -1,5 +1,6 @@
 //! What draws and prints.
 
+pub mod aged;
 pub mod audited;
 pub mod colour;
 pub mod compared;

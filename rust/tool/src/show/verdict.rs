@@ -7,7 +7,7 @@ use crate::name::wrong;
 use crate::records::{Remark, Remarkable};
 use crate::salvaged::Broken;
 use crate::session::{Refused, Session};
-use crate::show::json;
+use crate::show::{aged, json};
 use crate::show::term::{ink, say, Ink};
 use crate::tree::Chain;
 use crate::words::{count, number};
@@ -83,6 +83,7 @@ fn tested_text(call: &Call, session: &Session) -> String {
         out += &lines(call, '-', account.findings.iter().map(|f| f.line.as_str()));
     }
     out += &lines(call, '!', account.remarks.iter().map(|r| r.line.as_str()));
+    out.extend(aged::remark(session).map(|line| format!("  ! {line}\n")));
     let mut line = |name: &str, n: usize, note: String| {
         out += format!("  {name:<12} {:>11}  {note}", number(n as u64)).trim_end();
         out.push('\n');
