@@ -8,7 +8,7 @@ use crate::report::Report;
 use crate::shapes::both::{self, Findings};
 use crate::shapes::blocks::{ring, scattered, singly, volume, Order, SHAPES, Shape};
 use crate::shapes::tree::{planned, Names, Order as Buckets, Plan};
-use port::{BlockCall, Blocks, PlanCall};
+use port::{BlockCall, Blocks, PlanCall, TreeCall};
 
 pub fn job(report: &mut Report, what: &str, sides: Vec<Side>) {
     if left_out(what) {
@@ -144,6 +144,34 @@ fn tree_tests(report: &mut Report, entries: usize) {
     tree_test(report, &format!("one bucket that is a ring of {} files (refused)", commas(entries)), ring);
 }
 
+/// Whether an honest writer can have left the tables, beside the test that is the first part of it.
+fn ages(report: &mut Report, entries: usize) {
+    let plan = |buckets, names, order| Plan {
+        dirs: entries,
+        files: entries,
+        dir_buckets: buckets,
+        file_buckets: buckets,
+        names,
+        dir_order: order,
+        file_order: order,
+        spare: 0,
+    };
+    let plans = [
+        ("one bucket, in order", plan(1, Names::Numbered, Buckets::Made)),
+        ("one bucket, in any order", plan(1, Names::Numbered, Buckets::Any)),
+        ("as many buckets, random names", plan(entries, Names::Random, Buckets::Made)),
+    ];
+    for (said, plan) in plans {
+        let what = format!("aged, {} entries each: {said}", commas(entries));
+        if !left_out(&what) {
+            let on = OnTree::new(planned(plan).lent);
+            let alone = Side { apart: true, ..on.library(&TreeCall::Test) };
+            let times = race(&what, vec![alone, on.aged()], JOB);
+            report.beside(&what, "the library's tree test", times[0], times[1]);
+        }
+    }
+}
+
 /// A file of 64 blocks behind many others.
 fn volumes(report: &mut Report, n: usize) {
     let before = n / 128;
@@ -182,6 +210,7 @@ pub fn run(report: &mut Report, quick: bool) {
     report.table("The jobs, with every peer", "", &columns);
     let (n, entries) = if quick { (8_191, 2_000) } else { (1_000_000, 65_535) };
     tree_tests(report, entries);
+    ages(report, entries);
     block_tests(report, n);
     merges(report, n);
     audits(report, n, if quick { 500 } else { 65_000 });

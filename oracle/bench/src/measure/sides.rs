@@ -288,6 +288,10 @@ impl OnTree {
     pub fn library<'a>(&'a self, call: &'a TreeCall) -> Side<'a> {
         self.side("library", |s| answer(Library.tree_call(call, s)))
     }
+    /// Whether an honest writer can have left the tables.
+    pub fn aged(&self) -> Side<'_> {
+        self.side("library", |s| answer(s.aged_library()))
+    }
     pub fn inner<'a>(&'a self, call: &'a TreeCall) -> Side<'a> {
         self.side("inner", |s| answer(Inner.tree_call(call, s).expect("an inner call")))
     }

@@ -139,6 +139,30 @@ fn records_that_fit_no_chain() {
 }
 
 #[test]
+fn the_lists_tell_the_age() {
+    let b = Bench::new();
+    b.done(&["new", "v", "--blocks", "8", "--block-len", "512", "--dirs", "2", "--files", "4", "--buckets", "1"]);
+    for name in ["one", "two"] {
+        b.host(name, b"bytes");
+        b.done(&["put", "v", name, "/"]);
+    }
+    assert_eq!(b.done(&["age", "v"]), "3 entries, the newest first  v\n      0  /\n      0  /two  over /one\n      1  /one\n");
+    assert!(!b.done(&["check", "v"]).contains("circle"));
+    // The bucket says that the first is the newer one, the directory's list that the second is.
+    b.poke("v/file_hash.bin", 0, &[1, 0, 0, 0]);
+    b.poke("v/file_table.bin", 48 + 44, &[2, 0, 0, 0]);
+    b.poke("v/file_table.bin", 2 * 48 + 44, &[0, 0, 0, 0]);
+    let line = "  ! the lists contradict each other, as with no honest writer: links lead from /one into a circle\n";
+    assert!(b.done(&["check", "v"]).contains(line), "a remark, and no refusal");
+    let out = b.run(&["age", "v"]);
+    assert_eq!(out.status.code(), Some(4));
+    let expected = format!("3 entries, the newest first  v\n{line}      0  /\n      ?  /one  over /two\n      ?  /two  over /one\n");
+    assert_eq!(String::from_utf8(out.stdout).unwrap(), expected);
+    b.poke("v/fat.bin", 0, &[1]);
+    assert!(b.fails(&["age", "v"], 4).contains("[BrokenFat 4]"));
+}
+
+#[test]
 fn the_audit_lists_every_kind() {
     let b = two_files();
     assert_eq!(b.done(&["audit", "v"]), "0 findings  v\n");

@@ -52,6 +52,7 @@ fn answers_have_the_shapes_of_the_paper() {
     let mut answers = vec![
         answer(&b, &["check", "v"]),
         answer(&b, &["audit", "v"]),
+        answer(&b, &["age", "v"]),
         answer(&b, &["ls", "v"]),
         answer(&b, &["map", "v"]),
         answer(&b, &["lift", "v", "out"]),
