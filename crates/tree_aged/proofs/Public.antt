@@ -213,6 +213,19 @@ module _ (w : ℕ) (t h : List ℕ) (n root : ℕ) (hd : ℕ → ℕ) (D : View)
           long = long;
         }
 
+-- the two tables of sound ones: live entries name live ones
+module _ (s : Tables) (R : Ready s) where
+  pub dirs-fit : Fits 40 (s .dirTable) (replicate (dirRoom (s .dirTable)) 0)
+  dirs-fit =
+      let D = R .sound .dirs in
+      fits-of 40 (s .dirTable) (s .dirHash) (length (s .dirHash) / 4) 1 (dirs s .head) (dirs s) (D .below) (omega arith) (R .few-dirs) (R .dir-buckets) (λ _. D .root-next)
+      (replicate (dirRoom (s .dirTable)) 0) (length-replicate {A = ℕ} (dirRoom (s .dirTable)) 0)
+
+  pub files-fit : Fits 48 (s .fileTable) (replicate (fileRoom (s .fileTable)) 0)
+  files-fit =
+      fits-of 48 (s .fileTable) (s .fileHash) (length (s .fileHash) / 4) 0 (files s .head) (dirs s) (R .sound .files) (omega arith) (R .few-files) (R .file-buckets)
+      (λ l. absurd (omega (arith, l .0))) (replicate (fileRoom (s .fileTable)) 0) (length-replicate {A = ℕ} (fileRoom (s .fileTable)) 0)
+
 -- ---- the public call
 
 module _ (dh d fh f work work′ : List ℕ) (g : Gated) (says : TreeGateOf (tables dh d fh f) work work′ g) (e : g ≡ Open) where

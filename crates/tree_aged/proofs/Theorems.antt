@@ -1,5 +1,5 @@
 -- What the promise means.
-use mathlib.Core.Path.{_≡_, refl, sym, ap, _∙_, subst}
+use mathlib.Core.Path.{_≡_, refl, sym, ap, _∙_, subst, subst⁻¹}
 use mathlib.Core.List.{List, [], _∷_, _++_, append-nil}
 use mathlib.Core.Logic.{_⊎_, inl, inr, ⊎-elim, _≢_}
 use Prim.Native.Nat.{ℕ, zero, suc, _+_, _-_, _≤_, _<_}
@@ -11,7 +11,10 @@ use Rattle.links.proofs.Held.{same-or}
 use Rattle.tree_table.specs.View.{View, LiveIn}
 use Rattle.tree_sound.specs.Tables.{Tables, dirs, files}
 use Rattle.tree_promises.proofs.Unique.{One, one-tree}
-use Rattle.tree_aged.specs.Age.{LostIn, NoCircle, Aged}
+use Rattle.tree_promises.specs.inner.Ready.{Ready, LiveAt}
+use Rattle.tree_aged.specs.Age.{Names, Newer, one, more, Lost, LostIn, NoCircle, Aged}
+use Rattle.tree_aged.specs.inner.Walk.{collOf, nextOf, Fits}
+use Rattle.tree_aged.proofs.Public.{dirs-fit, files-fit}
 use Rattle.tree_aged.specs.Calls.{Age, ageGives, lostFrom, lostRows, agedRows, AgedPromise}
 
 -- promise and input leave one answer
@@ -51,3 +54,34 @@ told-aged s o (inr p) z =
     last : (n : ℕ) → ((n ≡ 0 → ⊥) → ⊥) → n ≡ 0
     last zero f = refl
     last (suc n) f = absurd (f (λ e. omega (arith, e)))
+
+-- ---- and the other way round
+
+-- what a live entry is newer than is live
+live-one : {w : ℕ} {t work : List ℕ} → Fits w t work → (x y : ℕ) → Names (collOf w t) (nextOf w t) x y → LiveAt w t x → LiveAt w t y
+live-one {w} {t} F x y (p, inl e) l = subst (λ (z : ℕ). LiveAt w t z) e (F .coll x l (subst⁻¹ (λ (z : ℕ). 0 < z) e p))
+live-one {w} {t} F x y (p, inr e) l = subst (λ (z : ℕ). LiveAt w t z) e (F .next x l (subst⁻¹ (λ (z : ℕ). 0 < z) e p))
+
+live-far : {w : ℕ} {t work : List ℕ} {x y : ℕ} → Newer (collOf w t) (nextOf w t) x y → Fits w t work → LiveAt w t x → LiveAt w t y
+live-far (one x y n) F l = live-one F x y n l
+live-far (more x y z n r) F l = live-far r F (live-one F x y n l)
+
+-- without a circle no entry is lost
+none-lost : {w : ℕ} {t work : List ℕ} → Fits w t work → ((x : ℕ) → LiveAt w t x → Newer (collOf w t) (nextOf w t) x x → ⊥)
+    → (x : ℕ) → LiveAt w t x × Lost (collOf w t) (nextOf w t) x → ⊥
+none-lost {w} {t} F none x (l, q) =
+    none (q .entry) (⊎-elim (λ e. subst (λ (z : ℕ). LiveAt w t z) e l) (λ n. live-far n F l) (q .leads)) (q .circle)
+
+no-row : (lost : ℕ → Type 0) (table : ℕ) (rest : List (Row Age)) (done o : Age) → ((y : ℕ) → lost y → ⊥)
+    → (k x : ℕ) → First (lostFrom k lost table x ++ rest) done o → First rest done o
+no-row lost table rest done o f zero x p = p
+no-row lost table rest done o f (suc k) x (inl p) = absurd (f x (p .0))
+no-row lost table rest done o f (suc k) x (inr p) = no-row lost table rest done o f k (suc x) (p .1)
+
+-- of sound tables that are aged nothing is told
+pub aged-told : (s : Tables) → Ready s → Aged (dirs s) (files s) → (o : Age) → First (agedRows s) (ageGives Done 0 0) o → o ≡ ageGives Done 0 0
+aged-told s R A o (inl p) = absurd (p .0 (A .root-last))
+aged-told s R A o (inr p) =
+    no-row (LostIn (files s)) 2 [] (ageGives Done 0 0) o (none-lost (files-fit s R) (A .of-files)) (files s .count - 1) 1
+    (subst (λ (l : List (Row Age)). First l (ageGives Done 0 0) o) (sym (append-nil (lostRows (files s) 2)))
+    (no-row (LostIn (dirs s)) 1 (lostRows (files s) 2) (ageGives Done 0 0) o (none-lost (dirs-fit s R) (A .of-dirs)) (dirs s .count - 1) 1 (p .1)))

@@ -1,3 +1,4 @@
+pub mod Heights
 pub mod Ages
 pub mod Steps
 pub mod Theorems

@@ -49,6 +49,7 @@ use Rattle.tree_history.specs.Whole.{Whole}
 use Rattle.tree_history.specs.May.{MayMake, MayRename, MayDelete}
 use Rattle.tree_history.proofs.Sizes.{are-bytes, fine}
 use Rattle.tree_aged.specs.Age.{Newer, NoCircle, Aged}
+use Rattle.tree_ages.proofs.Heights.{height, young, by-coll, by-next}
 use Rattle.tree_ages.proofs.Ages.{Ages, AgesOf, ages-agree, ages-give, unlink-ages, relink-ages, make-ages, coll-here, next-here, older, link-in}
 
 -- the entries of both tables have ages
@@ -127,6 +128,29 @@ module _ (s : Tables) (w : Whole s) where
       root-alone : (n : ℕ) → (n ≡ D .coll 1 → 0 < n → ⊥) → n ≡ D .coll 1 → n ≡ 0
       root-alone zero g e = refl
       root-alone (suc n) g e = absurd (g e (omega arith))
+
+  -- where there is no circle there are ages
+  found : (v : View) (Dir : ℕ → Type 0) → 0 < v .buckets → Sound v Dir (removedOf v) 0 → NoCircle v → (0 < v .root → (v .coll (v .root) ≡ 0) × (v .next (v .root) ≡ 0))
+      → AgesOf v (removedOf v) 0
+  found v Dir some S none last =
+      let cl : (y : ℕ) → LiveIn v y → 0 < v .coll y → LiveIn v (v .coll y) = λ y l p. coll-here v Dir (removedOf v) some 0 S y (l, not-zero (l .0)) p .0 in
+      let nl : (y : ℕ) → LiveIn v y → 0 < v .next y → LiveIn v (v .next y) =
+      λ y l p. next-here v Dir (removedOf v) some 0 S (λ q. last q .1) y (l, not-zero (l .0)) p .0
+      in
+      record {
+        age = height (v .coll) (v .next) (suc (v .count));
+        clock = suc (suc (v .count));
+        young = λ y h. young (v .coll) (v .next) (suc (v .count)) y;
+        by-coll = λ y h p. by-coll (v .coll) (v .next) (v .count) (LiveIn v) (λ x l. l .1) cl nl none y (h .0) p;
+        by-next = λ y h p. by-next (v .coll) (v .next) (v .count) (LiveIn v) (λ x l. l .1) cl nl none y (h .0) p;
+        root-last = last;
+      }
+
+  pub ages-found : Aged D F → AgesIn s
+  ages-found A = record {
+    of-dirs = found D (Live (D .count) RD) (Q .dir-some) (T .dirs) (A .of-dirs) (λ _. (A .root-last, T .root-next));
+    of-files = found F (Live (D .count) RD) (Q .file-some) (T .files) (A .of-files) (λ p. absurd (omega (arith, p)));
+  }
 
   module _ (A : AgesIn s) where
     pub ages-make : (kind : Kind) (p : ℕ) (name bytes : List ℕ) → AreBytes name → AreBytes bytes → MayMake kind s p name → AgesIn (made kind s p name bytes)

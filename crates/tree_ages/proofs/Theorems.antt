@@ -42,7 +42,7 @@ use Rattle.tree_history.proofs.Rows.{Each, Gate, of-first, each-giving, none-gi
 use Rattle.tree_history.proofs.Formats.{good-format, format-bare}
 use Rattle.tree_history.proofs.Theorems.{run-sound, format-sound}
 use Rattle.tree_aged.specs.Age.{Aged}
-use Rattle.tree_ages.proofs.Steps.{AgesIn, bare-ages, ages-make, ages-rename, ages-delete, ages-carry, aged-of}
+use Rattle.tree_ages.proofs.Steps.{AgesIn, bare-ages, ages-found, ages-make, ages-rename, ages-delete, ages-carry, aged-of}
 
 -- where no row applies Done is given
 first-none : {A : Type 0} (rs : List (Row A)) (d : A) → None rs → First rs d d
@@ -114,6 +114,11 @@ ages-call s L A (closing kind work x want o q) = A
 pub run-ages : (s t : State) → Whole (s .tables) → AgesIn (s .tables) → Run s t → AgesIn (t .tables)
 run-ages s t w A none = A
 run-ages s t w A (calls r u answer run c) = ages-call r (run-sound s r w run .lent) (run-ages s r w A run) c
+
+-- stays-aged: over any history from tables that are sound and aged, whoever wrote them, whatever the calls are given and whatever they answer, the tables
+-- are aged
+pub stays-aged : (s t : State) → Whole (s .tables) → Aged (dirs (s .tables)) (files (s .tables)) → Run s t → Aged (dirs (t .tables)) (files (t .tables))
+stays-aged s t w A r = aged-of (t .tables) (run-sound s t w r) (run-ages s t w (ages-found (s .tables) w A) r)
 
 -- run-aged: over any history from a format that is answered Done, whatever stood there before, whatever the calls are given and whatever they answer, the
 -- tables are aged: in neither is an entry newer than itself, and nothing is older than the root
