@@ -126,6 +126,13 @@ fn stat(dh: &[u8], d: &[u8], fh: &[u8], f: &[u8], work: &mut [u32]) -> Said {
     }
 }
 
+// The fields are the table and the inode.
+fn aged(dh: &[u8], d: &[u8], fh: &[u8], f: &[u8], work: &mut [u32]) -> Said {
+    let r = tree_aged::aged(dh, d, fh, f, work);
+    let answer = r.answer;
+    says(answer, r.table as u64, r.inode as u64)
+}
+
 // The part that the call shows: its length, and its sixteen bytes.
 fn part_of(answer: order::Answer, part: &[u8]) -> Said {
     let number = order::number(answer);
@@ -211,6 +218,7 @@ pub fn looks<'a>(
             let answer = r.answer;
             says(answer, 0, 0)
         }
+        14 => aged(dh, d, fh, f, work),
         _ => by_kind(which, kind, dh, d, fh, f, work, list, inode, parent, name),
     }
 }

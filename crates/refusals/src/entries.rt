@@ -131,7 +131,7 @@ fn ask(
 fn fields(which: u32, said: Said) {
     let number = which / 2;
     match number {
-        2 => tell::fields(2, said.one, said.two),
+        2 | 14 => tell::fields(2, said.one, said.two),
         3 | 6 | 8 | 10 => tell::fields(1, said.one, 0),
         7 => {
             tell::fields(2, said.one, said.two);

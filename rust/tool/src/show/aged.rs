@@ -2,7 +2,7 @@
 
 use crate::session::Session;
 use crate::show::json;
-use crate::words::count;
+use crate::words::number;
 use mukthiban::tree::{DIR_WIDTH, FILE_WIDTH};
 use mukthiban::Kind;
 use std::collections::HashMap;
@@ -84,7 +84,7 @@ fn of_kind(session: &Session, kind: Kind) -> Vec<Line> {
 /// A line for each entry, after the remark and how many there are; when quiet the lines alone.
 pub fn as_text(volume: &str, session: &Session, ages: &Ages, quiet: bool) -> String {
     let entries = ages.lines.len() as u64;
-    let words = if entries == 1 { "1 entry".into() } else { count(entries, "entry").replace("entrys", "entries") };
+    let words = format!("{} {}", number(entries), if entries == 1 { "entry" } else { "entries" });
     let mut out = String::new();
     if !quiet {
         out += &format!("{words}, the newest first  {volume}\n");
