@@ -2,3 +2,4 @@ pub mod Heights
 pub mod Ages
 pub mod Steps
 pub mod Theorems
+pub mod Honest
