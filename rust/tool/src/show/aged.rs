@@ -13,7 +13,10 @@ pub fn remark(session: &Session) -> Option<String> {
     let entry = session.entries.iter().position(|e| e.kind == kind && e.inode == inode).expect("a live entry");
     Some(match session.entries[entry].is_root() {
         true => "the root is not the last of its bucket, as it is with every honest writer".into(),
-        false => format!("the lists contradict each other, as with no honest writer: links lead from {} into a circle", session.path(entry)),
+        false => format!(
+            "the lists contradict each other, as with no honest writer: links lead from {} into a circle",
+            session.path(entry)
+        ),
     })
 }
 
@@ -49,11 +52,13 @@ fn of_kind(session: &Session, kind: Kind) -> Vec<Line> {
         Kind::File => (&parts.file_table, FILE_WIDTH),
     };
     let entries: Vec<usize> = (0..session.entries.len()).filter(|e| session.entries[*e].kind == kind).collect();
-    let place: HashMap<u32, usize> = entries.iter().enumerate().map(|(at, e)| (session.entries[*e].inode, at)).collect();
+    let place: HashMap<u32, usize> =
+        entries.iter().enumerate().map(|(at, e)| (session.entries[*e].inode, at)).collect();
     // What each names, by places in `entries`.
     let names = |e: &usize| {
         let start = session.entries[*e].inode as usize * width;
-        let mut named: Vec<usize> = [width - 4, 20].iter().filter_map(|at| place.get(&word(table, start + at)).copied()).collect();
+        let mut named: Vec<usize> =
+            [width - 4, 20].iter().filter_map(|at| place.get(&word(table, start + at)).copied()).collect();
         named.dedup();
         named
     };
@@ -111,5 +116,8 @@ pub fn as_json(volume: &str, session: &Session, ages: &Ages) -> String {
         ])
     };
     let told = remark(session).map_or("null".into(), |line| json::text(&line));
-    json::answer("age", &[("volume", json::text(volume)), ("remark", told), ("entries", json::list(ages.lines.iter().map(line)))])
+    json::answer(
+        "age",
+        &[("volume", json::text(volume)), ("remark", told), ("entries", json::list(ages.lines.iter().map(line)))],
+    )
 }

@@ -146,7 +146,10 @@ fn the_lists_tell_the_age() {
         b.host(name, b"bytes");
         b.done(&["put", "v", name, "/"]);
     }
-    assert_eq!(b.done(&["age", "v"]), "3 entries, the newest first  v\n      0  /\n      0  /two  over /one\n      1  /one\n");
+    assert_eq!(
+        b.done(&["age", "v"]),
+        "3 entries, the newest first  v\n      0  /\n      0  /two  over /one\n      1  /one\n"
+    );
     assert!(!b.done(&["check", "v"]).contains("circle"));
     // The bucket says that the first is the newer one, the directory's list that the second is.
     b.poke("v/file_hash.bin", 0, &[1, 0, 0, 0]);
@@ -156,7 +159,9 @@ fn the_lists_tell_the_age() {
     assert!(b.done(&["check", "v"]).contains(line), "a remark, and no refusal");
     let out = b.run(&["age", "v"]);
     assert_eq!(out.status.code(), Some(4));
-    let expected = format!("3 entries, the newest first  v\n{line}      0  /\n      ?  /one  over /two\n      ?  /two  over /one\n");
+    let expected = format!(
+        "3 entries, the newest first  v\n{line}      0  /\n      ?  /one  over /two\n      ?  /two  over /one\n"
+    );
     assert_eq!(String::from_utf8(out.stdout).unwrap(), expected);
     b.poke("v/fat.bin", 0, &[1]);
     assert!(b.fails(&["age", "v"], 4).contains("[BrokenFat 4]"));

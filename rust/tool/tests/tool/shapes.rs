@@ -72,7 +72,7 @@ fn answers_have_the_shapes_of_the_paper() {
     b.poke("v/fat.bin", 0, &[1]);
     answers.push(answer(&b, &["check", "v"]));
     let examples = examples();
-    assert_eq!(examples.len(), 13);
+    assert_eq!(examples.len(), 14);
     for answer in &answers {
         let of_error = |v: &Value| matches!(v, Value::Object(o) if o.iter().any(|(k, _)| k == "error"));
         let Value::Text(name) = command(answer) else { panic!("a text") };
