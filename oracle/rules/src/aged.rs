@@ -1,4 +1,4 @@
-//! "Aged": whether the orders of the lists are those of one past (RULES 5.8, 6.18).
+//! "Aged": whether the orders of the lists are those of one past (RULES 5.8, 6.19).
 
 use crate::answer::Outcome;
 use crate::entries::{Held, Kind, View};

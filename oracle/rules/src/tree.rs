@@ -23,13 +23,7 @@ pub(crate) fn sizes(four: Four) -> Outcome<()> {
     Ok(())
 }
 
-/// Sizes and the list of openone table.
-pub(crate) struct Opens {
-    kind: Kind,
-    len: usize,
-}
-
-/// records, work list, soundness. Once the first two have passed, the named work places are 0.
+/// Sizes and the list of open records, work list, soundness. Once the first two have passed, the named work places are 0.
 pub(crate) fn gate(four: Four, work: &mut [u32], opens: Option<&Packed>) -> Outcome<Tree> {
     sizes(four)?;
     refuse(opens.is_some_and(|opens| !opens.in_order()), InvalidValue)?;
