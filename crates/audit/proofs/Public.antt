@@ -16,7 +16,7 @@ use Rattle.fat_node.specs.Entry.{Bytes}
 use Rattle.fat_node.specs.Sizes.{blocks}
 use Rattle.fat_node.proofs.Sizes.{fit, inside}
 use Rattle.fat_node.proofs.Nodes.{le-or-lt}
-use Rattle.fat_inner.specs.Volume.{Volume}
+use Rattle.fat_walk.specs.Volume.{Volume}
 use Rattle.tree_sound.specs.Sizes.{rooms}
 use Rattle.tree_sound.specs.Tables.{Tables, tables, MisfitIn, OutsideIn, roomsIn, SoundIn}
 use Rattle.volume_gate.specs.Gate.{places, Uneven, Unfit, brokenRows, volumeGate, Opened, VolumeGateOf}

@@ -25,7 +25,7 @@ use Rattle.tree_sound.specs.Tables.{Tables, files}
 use Rattle.audit_inner.specs.Findings.{Subject, Finding, finding, full, names, named, starts, astray, shared, over, lost, when, fileFindings, blockFindings, findings}
 use Rattle.audit_inner.specs.Volume.{recordBlock, recordSize, countOf, removedFiles, isLive, chainOf, subject}
 use Rattle.audit_inner.proofs.Chains.{chain-file, chain-none}
-use Rattle.fat_inner.proofs.Few.{file-chain}
+use Rattle.fat_walk.proofs.Chains.{file-chain}
 use Rattle.audit.specs.Reader.{Full, Clean, times, bit}
 use Rattle.audit.proofs.Times.{times-astray, times-shared, times-over, times-lost}
 

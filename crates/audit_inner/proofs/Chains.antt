@@ -22,7 +22,7 @@ use Rattle.fat_table.proofs.Sounds.{node-size, node-in, in-node, node-of, in-or
 use Rattle.fat_table.proofs.Counting.{scan-read}
 use Rattle.fat_table.proofs.Files.{Whole, seen}
 use Rattle.fat_table.proofs.Decided.{file-decided}
-use Rattle.fat_inner.proofs.Few.{file-chain}
+use Rattle.fat_walk.proofs.Chains.{file-chain}
 use Rattle.tree_table.specs.Chain.{member}
 use Rattle.tree_table.proofs.Chain.{member-in, in-member}
 use Rattle.audit_inner.specs.Volume.{firstsOf, firsts, chainOf}

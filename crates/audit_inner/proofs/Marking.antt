@@ -23,10 +23,10 @@ use Rattle.fat_table.specs.Sound.{Starts, begin, after, IsNode, File}
 use Rattle.fat_table.specs.Chain.{total, sizeAt, headAt, chainAt, fileAt}
 use Rattle.fat_table.proofs.Sounds.{node-size}
 use Rattle.fat_table.proofs.Files.{Whole}
-use Rattle.fat_inner.specs.Volume.{Volume}
-use Rattle.fat_inner.specs.inner.Chains.{Standing, ChainFrom}
-use Rattle.fat_inner.proofs.Hops.{whole-of, starts-after, node-standing}
-use Rattle.fat_inner.proofs.Found.{file-from}
+use Rattle.fat_walk.specs.Volume.{Volume}
+use Rattle.fat_walk.specs.inner.Chains.{Standing, ChainFrom}
+use Rattle.fat_walk.proofs.Hops.{whole-of, starts-after, node-standing}
+use Rattle.fat_walk.proofs.Found.{file-from}
 use Rattle.tree_table.specs.Chain.{linkAt, member}
 use Rattle.tree_table.specs.Field.{field, collisionField}
 use Rattle.tree_table.proofs.Chain.{member-in, not-member}

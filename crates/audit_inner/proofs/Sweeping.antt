@@ -21,7 +21,7 @@ use Rattle.audit_inner.specs.Calls.{Audit, auditGives, AuditSound}
 use Rattle.audit_inner.specs.inner.Marks.{Files, Ready, Chains, mark, Marked, Behind, Start, Looked, FileJudged, FileSays, Wrote, Put, told, PutFile, FilesSay, LostSays, BlocksSay, SweepSays, ReportSays}
 use Rattle.audit_inner.specs.declared.Judged.{Judged}
 use Rattle.words.proofs.Laws as words
-use Rattle.fat_inner.proofs.Hops.{whole-of}
+use Rattle.fat_walk.proofs.Hops.{whole-of}
 use Rattle.audit_inner.proofs.Chains.{chains-of}
 use Rattle.audit_inner.proofs.Writing.{length-flat, put-none, put-then, when-most}
 use Rattle.audit_inner.proofs.Judging.{mark-plain, mark-rest, behind-set, dead-behind, count-word}

@@ -7,7 +7,7 @@ use native.Mathlib.Omega.{arith}
 use lib.ListN.{length, set, length-set, length-append}
 use lib.Seq.{sets}
 use borrow.Author.Tests.{not-true, not-false}
-use Rattle.fat_inner.proofs.Lists.{sets-append}
+use Rattle.fat_walk.proofs.Blocks.{sets-append}
 use Rattle.audit_inner.specs.Findings.{Finding, finding, when, flat}
 use Rattle.audit_inner.specs.inner.Marks.{Wrote, Put, told, PutFile}
 use Rattle.audit_inner.specs.declared.Judged.{Judged}

@@ -1,6 +1,6 @@
 // The audit of the two layers together, on sound tables: it requires soundness and tests nothing. Each chain's length is counted once, each inode and
 // each block looked at twice: the findings are counted, and then written.
-use fat_inner::walk::Sought;
+use fat_walk::Sought;
 use order::Answer;
 ghost use mathlib.Core.Path.{_≡_};
 ghost use mathlib.Core.Bool.{false};
@@ -9,8 +9,8 @@ ghost use Prim.Native.Nat.{ℕ, _+_, _*_, _/_, _≤_, _<_};
 ghost use lib.ListN.{length};
 ghost use Rattle.fat_table.specs.Sound.{IsNode};
 ghost use Rattle.fat_table.specs.Chain.{headAt, total, chainAt};
-ghost use Rattle.fat_inner.specs.Volume.{Volume};
-ghost use Rattle.fat_inner.specs.inner.Chains.{ChainFrom};
+ghost use Rattle.fat_walk.specs.Volume.{Volume};
+ghost use Rattle.fat_walk.specs.inner.Chains.{ChainFrom};
 ghost use Rattle.audit_inner.specs.Findings.{Finding, finding, when};
 ghost use Rattle.audit_inner.specs.Volume.{recordSize, countOf, chainOf};
 ghost use Rattle.audit_inner.specs.Calls.{auditGives};
@@ -33,7 +33,7 @@ fn count_of(table: &[u8], n: usize, first: usize) -> usize
     requires { ⌜ ChainFrom n (now table) first ⌝ }
     ensures { λ r. ⌜ r ≡ total (chainAt (now (table .entry)) n first) ⌝ }
 {
-    let sought = fat_inner::walk::seek(table, n, first, n + 1);
+    let sought = fat_walk::seek(table, n, first, n + 1);
     match sought {
         Sought::Within { node: _, part: _ } => 0,
         Sought::Past { last: _, part } => n + 1 - part,
@@ -63,11 +63,11 @@ fn mark_chains(table: &[u8], n: usize, work: &mut [u32])
     requires { ⌜ Clear 0 (now work) ⌝ }
     ensures { λ _. ⌜ Lengths n (now (table .entry)) (now (work .entry)) (now (work .exit)) ⌝ }
 {
-    let head = fat_inner::walk::head_of(table);
+    let head = fat_walk::head_of(table);
     let mut b: usize = 0;
     while b < n {
         work[b] = chain_at(table, n, head, b);
-        b += fat_inner::walk::size_at(table, n, b);
+        b += fat_walk::size_at(table, n, b);
     }
 }
 

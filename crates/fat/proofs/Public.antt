@@ -49,7 +49,7 @@ use Rattle.fat_promises.specs.Calls.{
   writeDone,
   WritePromise,
 }
-use Rattle.fat_inner.specs.Volume.{Volume, Data}
+use Rattle.fat_walk.specs.Volume.{Volume, Data}
 
 -- what an open gate says of the sizes; more are its rows after soundness
 module _ (t : Bytes) (d l : ℕ) (more : List (Row Answer)) (work work′ : List ℕ) (free files : ℕ) (g : OpenedWith (Uneven t d l) t l more work work′ free files) where

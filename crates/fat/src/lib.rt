@@ -5,15 +5,15 @@ ghost use lib.ListN.{length};
 ghost use Rattle.fat_promises.specs.Promise.{beside};
 ghost use Rattle.fat_promises.specs.Calls.{CreatePromise, DeletePromise, createGives, changeGives, ResizePromise, listGives, ListPromise};
 ghost use Rattle.fat_promises.specs.Calls.{carryGives, ReadPromise, WritePromise};
-use fat_inner::copy::read_sound;
-use fat_inner::copy::write_sound;
-use fat_inner::list::Listed;
-use fat_inner::list::open_list_sound;
-use fat_inner::step::Answered;
-use fat_inner::step::Created;
-use fat_inner::step::create_sound;
-use fat_inner::step::delete_sound;
-use fat_inner::step::resize_sound;
+use fat_copy::read_sound;
+use fat_copy::write_sound;
+use fat_judge::Answered;
+use fat_list::Listed;
+use fat_list::open_list_sound;
+use fat_step::Created;
+use fat_step::create_sound;
+use fat_step::delete_sound;
+use fat_step::resize_sound;
 use fat_test::Gated;
 
 // Deletes the file whose first block is given: all its nodes go before the free front, in their order. Answers its number alone; ReadOnlyVolume where the

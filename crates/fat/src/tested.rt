@@ -2,15 +2,15 @@
 // block length: ReadOnlyVolume where it is not in use, before the call's own refusals.
 ghost use lib.ListN.{length};
 ghost use Rattle.order.specs.First.{First};
-ghost use Rattle.fat_inner.specs.Volume.{Volume, Data};
+ghost use Rattle.fat_walk.specs.Volume.{Volume, Data};
 ghost use Rattle.fat_promises.specs.Promise.{changeRows};
 ghost use Rattle.fat_promises.specs.Calls.{createRows, createDone, createGives, resizeRows, resizeDone, deleteRows, deleteDone, changeGives, carryRows, writeDone, carryGives};
-use fat_inner::copy::write_sound;
-use fat_inner::step::Answered;
-use fat_inner::step::Created;
-use fat_inner::step::create_sound;
-use fat_inner::step::delete_sound;
-use fat_inner::step::resize_sound;
+use fat_copy::write_sound;
+use fat_judge::Answered;
+use fat_step::Created;
+use fat_step::create_sound;
+use fat_step::delete_sound;
+use fat_step::resize_sound;
 use order::Answer;
 
 // Creates a file of so many blocks.

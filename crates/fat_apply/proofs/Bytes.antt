@@ -9,7 +9,7 @@ use lib.ListN.{length, getD, set, take, drop, length-set, length-drop}
 use lib.Seq.{sets, getD-set-same, getD-set-other, getD-take, getD-drop, ext-getD, length-take-le}
 use Rattle.fat_node.specs.Entry.{Bytes}
 use Rattle.fat_promises.specs.Blocks.{placeOf, bytesAt}
-use Rattle.fat_inner.proofs.InRow.{InRow}
+use Rattle.fat_copy.proofs.InRow.{InRow}
 
 -- a byte outside the row stays
 pub sets-other : (vs l : Bytes) (i j : ℕ) → (j < i) ⊎ (i + length vs ≤ j) → getD (sets l i vs) j 0 ≡ getD l j 0

@@ -11,9 +11,9 @@ use lib.ListN.{length, getD, set, take, drop, length-set, length-drop}
 use lib.Seq.{sets, length-sets, take-suc, length-take-le, getD-drop}
 use Rattle.fat_node.specs.Entry.{Bytes}
 use Rattle.fat_promises.specs.Blocks.{bytesAt}
-use Rattle.fat_inner.specs.Volume.{Data}
-use Rattle.fat_inner.proofs.Lists.{sets-append}
-use Rattle.fat_inner.proofs.InRow.{length-bytes, bytes-split, bytes-row}
+use Rattle.fat_walk.specs.Volume.{Data}
+use Rattle.fat_walk.proofs.Blocks.{sets-append}
+use Rattle.fat_copy.proofs.InRow.{length-bytes, bytes-split, bytes-row}
 use Rattle.fat_plan.specs.inner.Moves.{Wide}
 use Rattle.fat_apply.specs.inner.Moving.{sourcesOf, Apart, Movable}
 use Rattle.fat_apply.proofs.Bytes.{sets-other, part-same, block-row}

@@ -15,10 +15,10 @@ use Rattle.fat_table.specs.Layout.{hits, covers, joined}
 use Rattle.fat_table.proofs.Layouts.{hits-most, covers-append}
 use Rattle.fat_table.proofs.Files.{Whole, seen-file}
 use Rattle.fat_promises.specs.Blocks.{blocksOf, placeOf, bytesAt}
-use Rattle.fat_inner.specs.Volume.{Volume}
-use Rattle.fat_inner.proofs.Lists.{length-blocks}
-use Rattle.fat_inner.proofs.InRow.{length-bytes, place-at}
-use Rattle.fat_inner.proofs.Over.{outside}
+use Rattle.fat_walk.specs.Volume.{Volume}
+use Rattle.fat_walk.proofs.Blocks.{length-blocks}
+use Rattle.fat_copy.proofs.InRow.{length-bytes, place-at}
+use Rattle.fat_step.proofs.Over.{outside}
 use Rattle.fat_history.proofs.Places.{occurs, occurs-at, occurs-blocks}
 use Rattle.fat_history.proofs.Apart.{below-end}
 use Rattle.fat_carve.specs.Carve.{Window}

@@ -11,7 +11,7 @@ use Rattle.fat_test.specs.declared.Gated.{Gated}
 use Rattle.fat_test.specs.declared.Gated.the-variants as gate
 use Rattle.fat_promises.specs.Promise.{Beside, beside, ChangePromise}
 use Rattle.fat_promises.proofs.Unique.{one-change}
-use Rattle.fat_inner.specs.Volume.{Data}
+use Rattle.fat_walk.specs.Volume.{Data}
 use Rattle.fat.proofs.Public.{call-data}
 use Rattle.fat_plan.proofs.Public.{went}
 use Rattle.fat_apply.specs.Apply.{Apply, applyGives, applyRows, applyDone, ApplySound, ApplyPromise}

@@ -22,10 +22,10 @@ use Rattle.fat_table.proofs.Laying.{inside-of}
 use Rattle.fat_table.proofs.Files.{Whole, seen-file}
 use Rattle.fat_promises.specs.Blocks.{blocksOf, bytesAt}
 use Rattle.fat_promises.specs.Calls.{Change, changeGives, DeleteSound}
-use Rattle.fat_inner.specs.Volume.{Volume}
-use Rattle.fat_inner.proofs.Hops.{whole-of}
-use Rattle.fat_inner.proofs.Lists.{length-blocks}
-use Rattle.fat_inner.proofs.Over.{outside}
+use Rattle.fat_walk.specs.Volume.{Volume}
+use Rattle.fat_walk.proofs.Hops.{whole-of}
+use Rattle.fat_walk.proofs.Blocks.{length-blocks}
+use Rattle.fat_step.proofs.Over.{outside}
 use Rattle.fat_history.proofs.Places.{occurs, occurs-at, occurs-blocks}
 use Rattle.fat_history.proofs.Apart.{blocks-low}
 use Rattle.fat_carve.specs.Carve.{Window}

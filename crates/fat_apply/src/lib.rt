@@ -7,7 +7,7 @@ pub mod step;
 pub mod tested;
 
 use crate::step::apply_sound;
-use fat_inner::step::Created;
+use fat_step::Created;
 use fat_test::Gated;
 
 // Applies a plan for the file whose first block is given: its bytes are copied to the targets, which become its one node, and its old nodes go before the

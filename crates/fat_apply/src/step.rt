@@ -4,15 +4,15 @@ ghost use Prim.Native.Nat.{ℕ, _+_, _*_, _≤_};
 ghost use lib.ListN.{length, take, drop, replicate};
 ghost use lib.Seq.{sets};
 ghost use Rattle.fat_promises.specs.Blocks.{bytesAt};
-ghost use Rattle.fat_inner.specs.Volume.{Volume, Data};
+ghost use Rattle.fat_walk.specs.Volume.{Volume, Data};
 ghost use Rattle.fat_plan.specs.Promise.{MayCheck};
 ghost use Rattle.fat_apply.specs.Apply.{applyGives, ApplySound};
 ghost use Rattle.fat_apply.specs.inner.Moving.{sourcesOf, Apart, Movable, AppliedBy};
-use fat_inner::step::Created;
-use fat_inner::step::delete_sound;
 use fat_place::place_step;
 use fat_plan::judge::check_sound;
 use fat_plan::judge::wide;
+use fat_step::Created;
+use fat_step::delete_sound;
 use order::Answer;
 
 // Copies len bytes of the data from place `from` on over those from place `to` on. The two stretches share no byte.

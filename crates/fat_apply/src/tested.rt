@@ -2,10 +2,10 @@
 // length: ReadOnlyVolume where it is not in use, before the call's own refusals.
 ghost use mathlib.Core.Path.{_≡_};
 ghost use lib.ListN.{length, replicate};
-ghost use Rattle.fat_inner.specs.Volume.{Volume, Data};
+ghost use Rattle.fat_walk.specs.Volume.{Volume, Data};
 ghost use Rattle.fat_apply.specs.Apply.{applyGives, ApplyTested};
 use crate::step::apply_sound;
-use fat_inner::step::Created;
+use fat_step::Created;
 use order::Answer;
 
 // Applies a plan for the file at a block, with a work list of one place a block, which are 0 before and after it.

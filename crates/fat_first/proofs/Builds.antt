@@ -23,9 +23,9 @@ use Rattle.fat_table.specs.Sound.{Starts, begin, after, IsNode, File}
 use Rattle.fat_table.specs.Chain.{sizeAt, headAt}
 use Rattle.fat_table.proofs.Sounds.{node-size}
 use Rattle.fat_table.proofs.Files.{Whole}
-use Rattle.fat_inner.specs.Volume.{Volume}
-use Rattle.fat_inner.specs.inner.Chains.{Standing}
-use Rattle.fat_inner.proofs.Hops.{whole-of, starts-after, node-standing}
+use Rattle.fat_walk.specs.Volume.{Volume}
+use Rattle.fat_walk.specs.inner.Chains.{Standing}
+use Rattle.fat_walk.proofs.Hops.{whole-of, starts-after, node-standing}
 use Rattle.map_inner.proofs.Moves.{none-words}
 use Rattle.fat_first.specs.Firsts.{firstAt, firstsOf}
 use Rattle.fat_first.specs.inner.Below.{firstsBelow}

@@ -25,9 +25,9 @@ use Rattle.fat_test.proofs.Change.{not-in-use}
 use Rattle.fat_promises.specs.Calls.{Create, createGives, CreateSound, MayCreate, Change, changeGives, ResizeSound, MayResize, DeleteSound, Carry, carryGives, carryRows, writeDone, WriteSound}
 use Rattle.fat_promises.specs.Promise.{changeRows}
 use Rattle.fat_promises.proofs.May.{may-create, may-resize}
-use Rattle.fat_inner.specs.Volume.{Volume}
-use Rattle.fat_inner.proofs.Hops.{whole-of}
-use Rattle.fat_inner.proofs.Found.{head-chain, first-below}
+use Rattle.fat_walk.specs.Volume.{Volume}
+use Rattle.fat_walk.proofs.Hops.{whole-of}
+use Rattle.fat_walk.proofs.Found.{head-chain, first-below}
 use Rattle.map_inner.specs.Map.{mapOf}
 use Rattle.map_inner.specs.Sounds.{CreateMapped, ResizeMapped, DeleteMapped}
 use Rattle.fat_first.specs.Firsts.{firstAt, firstsOf}

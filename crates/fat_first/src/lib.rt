@@ -10,19 +10,19 @@ ghost use Rattle.fat_table.specs.Sound.{IsNode, File};
 ghost use Rattle.fat_table.specs.Chain.{headAt};
 ghost use Rattle.fat_promises.specs.Promise.{changeRows};
 ghost use Rattle.fat_promises.specs.Calls.{createGives, changeGives, listGives, ListSound, carryGives, ReadSound, carryRows, writeDone};
-ghost use Rattle.fat_inner.specs.Volume.{Volume, Data};
+ghost use Rattle.fat_walk.specs.Volume.{Volume, Data};
 ghost use Rattle.map_inner.specs.Map.{mapOf};
 ghost use Rattle.fat_first.specs.Firsts.{firstsOf};
 ghost use Rattle.fat_first.specs.Calls.{CreateFirst, ResizeFirst, DeleteFirst};
 ghost use Rattle.fat_first.specs.inner.Below.{firstsBelow};
-use fat_inner::copy::read_told;
-use fat_inner::copy::write_told;
-use fat_inner::list::Listed;
-use fat_inner::list::open_list_told;
-use fat_inner::step::Answered;
-use fat_inner::step::Created;
-use fat_inner::walk::head_of;
-use fat_inner::walk::size_at;
+use fat_copy::read_told;
+use fat_copy::write_told;
+use fat_judge::Answered;
+use fat_list::Listed;
+use fat_list::open_list_told;
+use fat_step::Created;
+use fat_walk::head_of;
+use fat_walk::size_at;
 use order::Answer;
 
 // Puts block b in, where the node there begins a file, into a map of the first blocks below it.

@@ -31,7 +31,7 @@ use Rattle.fat_table.proofs.Files.{
 use Rattle.fat_promises.specs.Promise.{Beside}
 use Rattle.fat_promises.specs.Blocks.{blocksOf, placeOf, written}
 use Rattle.fat_promises.specs.Calls.{Create, Change, Carry}
-use Rattle.fat_inner.proofs.Lists.{length-blocks}
+use Rattle.fat_walk.proofs.Blocks.{length-blocks}
 use Rattle.fat_history.specs.Away.{Away, none, creates, resizes, deletes, writes}
 use Rattle.fat_history.proofs.Means.{create-keeps, resize-keeps, delete-keeps, write-keeps}
 use Rattle.fat_history.proofs.Honest.{blocks-of}

@@ -15,7 +15,7 @@ use Rattle.order.specs.declared.Answer.the-variants.{Done, SizeMismatch, Invali
 use Rattle.fat_node.specs.Entry.{Bytes}
 use Rattle.fat_node.proofs.Nodes.{le-or-lt}
 use Rattle.fat_test.specs.Gate.{InUse}
-use Rattle.fat_inner.specs.Volume.{Data}
+use Rattle.fat_walk.specs.Volume.{Data}
 use Rattle.fat_promises.specs.Blocks.{bytesAt, written}
 use Rattle.fat_promises.specs.Calls.{Carry, carryGives}
 use Rattle.order.specs.Tells.{Tells}

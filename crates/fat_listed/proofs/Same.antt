@@ -29,12 +29,11 @@ use Rattle.fat_test.specs.Gate.{InUse, blockGate, changeGate}
 use Rattle.fat_promises.specs.Blocks.{blocksFrom, blocksOf, bytesAt, written}
 use Rattle.fat_promises.specs.Promise.{Beside, beside, Promise, ChangePromise, changeRows}
 use Rattle.fat_promises.specs.Calls.{Carry, carryGives, carryRows, readDone, writeDone, sizeOf, ReadPromise, WritePromise, Listing, listGives, listDone, ListPromise}
-use Rattle.fat_inner.specs.Volume.{Volume}
-use Rattle.fat_inner.specs.inner.Chains.{Chain}
-use Rattle.fat_inner.specs.Volume.{Data}
-use Rattle.fat_inner.proofs.Lists.{length-from, length-blocks}
-use Rattle.fat_inner.proofs.Joins.{mid-within}
-use Rattle.fat_inner.proofs.Found.{file-from}
+use Rattle.fat_walk.specs.Volume.{Volume, Data}
+use Rattle.fat_walk.specs.inner.Chains.{Chain}
+use Rattle.fat_walk.proofs.Blocks.{length-from, length-blocks}
+use Rattle.fat_walk.proofs.Nodes.{mid-within}
+use Rattle.fat_walk.proofs.Found.{file-from}
 use Rattle.fat_listed.proofs.Tests.{fit-none}
 use Rattle.fat_listed.specs.Listed.{Uneven, Unfit, Foreign, listedOwn, listedTests, writeTests, ReadBlocksPromise, WriteBlocksPromise}
 

@@ -7,7 +7,7 @@ use native.Mathlib.Omega.{arith}
 use native.Mathlib.Nat.{suc-mul}
 use lib.ListN.{length, getD}
 use Rattle.fat_node.proofs.Nodes.{le-or-lt}
-use Rattle.fat_inner.specs.inner.Chains.{Least}
+use Rattle.fat_walk.specs.inner.Chains.{Least}
 use Rattle.fat_listed.specs.Listed.{Foreign}
 use Rattle.fat_listed.proofs.Shares.{At, at-begin, at-div, at-in}
 

@@ -10,11 +10,11 @@ use lib.Seq.{sets, length-sets, length-take-le, take-length, take-add}
 use Rattle.fat_node.specs.Entry.{Bytes}
 use Rattle.fat_node.proofs.Nodes.{le-or-lt}
 use Rattle.fat_promises.specs.Blocks.{placeOf, bytesAt, written}
-use Rattle.fat_inner.specs.inner.Chains.{Least}
-use Rattle.fat_inner.proofs.Lists.{sets-append}
-use Rattle.fat_inner.proofs.Puts.{lent-back, sets-whole}
-use Rattle.fat_inner.proofs.InRow.{length-bytes, bytes-split, bytes-row, written-append, written-row, InRow}
-use Rattle.fat_inner.proofs.Carries.{part-length}
+use Rattle.fat_walk.specs.inner.Chains.{Least}
+use Rattle.fat_walk.proofs.Blocks.{sets-append}
+use Rattle.fat_copy.proofs.Puts.{lent-back, sets-whole}
+use Rattle.fat_copy.proofs.InRow.{length-bytes, bytes-split, bytes-row, written-append, written-row, InRow}
+use Rattle.fat_copy.proofs.Carries.{part-length}
 use Rattle.fat_listed.specs.Shares.{Domestic, ShareOf}
 
 -- byte p of what is listed is byte f of the block at place i

@@ -13,7 +13,7 @@ use Rattle.order.specs.First.{Row, First}
 use Rattle.order.specs.Given.{Given, None}
 use Rattle.order.specs.Giving.{giving}
 use Rattle.order.specs.declared.Answer.{Answer}
-use Rattle.fat_inner.specs.inner.Chains.{Least}
+use Rattle.fat_walk.specs.inner.Chains.{Least}
 use Rattle.order.specs.Tells.{Tells}
 use Rattle.fat_listed.specs.Listed.{Uneven, Unfit}
 

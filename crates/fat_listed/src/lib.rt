@@ -2,14 +2,14 @@
 ghost use mathlib.Core.Path.{_≡_};
 ghost use Prim.Native.Nat.{_+_, _*_, _/_, _≤_, _<_};
 ghost use lib.ListN.{length, getD};
-ghost use Rattle.fat_inner.specs.Volume.{Data};
+ghost use Rattle.fat_walk.specs.Volume.{Data};
 ghost use Rattle.fat_promises.specs.Calls.{carryGives};
 ghost use Rattle.fat_promises.specs.Blocks.{bytesAt, written};
 ghost use Rattle.order.specs.Tells.{Tells};
 ghost use Rattle.fat_listed.specs.Listed.{Uneven, Unfit, Foreign, listedTests, writeTests, ReadBlocksPromise, WriteBlocksPromise};
 ghost use Rattle.fat_listed.specs.Shares.{Domestic, ShareOf, JudgeSays};
-use fat_inner::step::Answered;
-use fat_inner::walk::least;
+use fat_judge::Answered;
+use fat_walk::least;
 use order::Answer;
 
 // Copies one part over another of the same length.

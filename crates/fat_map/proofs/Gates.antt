@@ -26,7 +26,7 @@ use Rattle.fat_test.specs.inner.Gated.{OpenedWith, GateOf}
 use Rattle.fat_test.specs.declared.Gated.{Gated}
 use Rattle.fat_test.specs.declared.Gated.the-variants.{Open, Refused}
 use Rattle.fat_test.proofs.Change.{not-in-use}
-use Rattle.fat_inner.specs.Volume.{Volume}
+use Rattle.fat_walk.specs.Volume.{Volume}
 use Rattle.map_bits.specs.Bits.{wordsIn}
 use Rattle.fat_map.specs.Gate.{Short, IsMap, mapGate, mapRows}
 use Rattle.fat_map.specs.inner.Gated.{OpenedMap, MapGateOf, BuildGateOf, ChangeGateOf}

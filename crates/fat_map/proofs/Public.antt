@@ -21,7 +21,7 @@ use Rattle.fat_test.specs.Gate.{unsound, Uneven, Unfit}
 use Rattle.fat_test.specs.declared.Gated.{Gated}
 use Rattle.fat_test.specs.declared.Gated.the-variants.{Open, Refused}
 use Rattle.fat_promises.specs.Calls.{Create, createGives, createTests, createDone, Change, changeGives, resizeTests, resizeDone, deleteTests, deleteDone}
-use Rattle.fat_inner.specs.Volume.{Volume}
+use Rattle.fat_walk.specs.Volume.{Volume}
 use Rattle.map_bits.specs.Bits.{wordsIn}
 use Rattle.map_inner.specs.Map.{mapOf}
 use Rattle.map_inner.specs.Sounds.{CreateMapped, ResizeMapped, DeleteMapped}

@@ -26,8 +26,8 @@ use Rattle.fat_fault.specs.Fault.{faultOf}
 use Rattle.fat_test.specs.Promise.{TestPromise, testDone}
 use Rattle.fat_test.specs.declared.Tested.{Tested}
 use Rattle.fat_carve.proofs.Totals.{sumTo, total-sum}
-use Rattle.fat_inner.specs.inner.Chains.{Chain}
-use Rattle.fat_inner.proofs.Few.{free-chain}
+use Rattle.fat_walk.specs.inner.Chains.{Chain}
+use Rattle.fat_walk.proofs.Chains.{free-chain}
 use Rattle.map_bits.specs.Bits.{wordsFrom, wordsIn, bit, sumFrom, countedIn}
 use Rattle.map_bits.proofs.Words.{bit-words}
 use Rattle.map_bits.proofs.Counts.{sum-same, sum-split}

@@ -1,12 +1,12 @@
 // The calls that keep a map, for a side that has tested its table and built the map once. Each requires what these tell and tests nothing but the block
 // length: ReadOnlyVolume where it is not in use, before the call's own refusals. Only the words of the blocks that move are written.
 ghost use mathlib.Core.Path.{_≡_};
-ghost use Rattle.fat_inner.specs.Volume.{Volume};
+ghost use Rattle.fat_walk.specs.Volume.{Volume};
 ghost use Rattle.fat_promises.specs.Calls.{createGives, changeGives};
 ghost use Rattle.map_inner.specs.Map.{mapOf};
 ghost use Rattle.fat_map.specs.inner.Gated.{TestedCreate, TestedResize, TestedDelete};
-use fat_inner::step::Answered;
-use fat_inner::step::Created;
+use fat_judge::Answered;
+use fat_step::Created;
 use order::Answer;
 
 // Creates a file of so many blocks.

@@ -22,11 +22,11 @@ use Rattle.fat_table.proofs.Resizes.{last-inside}
 use Rattle.fat_table.proofs.Unchanged.{total-append}
 use Rattle.fat_table.proofs.Sounds.{run-node, in-order}
 use Rattle.fat_table.proofs.Files.{Whole, seen}
-use Rattle.fat_inner.specs.Volume.{Volume}
-use Rattle.fat_inner.specs.inner.Chains.{Chain, ChainFrom}
-use Rattle.fat_inner.proofs.Joins.{mid-next}
-use Rattle.fat_inner.proofs.Found.{head-chain}
-use Rattle.fat_inner.proofs.Walks.{Named, named, ended}
+use Rattle.fat_walk.specs.Volume.{Volume}
+use Rattle.fat_walk.specs.inner.Chains.{Chain, ChainFrom}
+use Rattle.fat_walk.proofs.Nodes.{mid-next}
+use Rattle.fat_walk.proofs.Found.{head-chain}
+use Rattle.fat_walk.proofs.Walks.{Named, named, ended}
 use Rattle.fat_merge.specs.inner.Sweep.{marks, Ahead, end, node}
 
 -- what a mark says ------------------------------------------------------------------------------------------

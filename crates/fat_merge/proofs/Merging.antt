@@ -14,8 +14,8 @@ use Rattle.fat_table.specs.Chain.{freeAt}
 use Rattle.fat_table.specs.Layout.{covers}
 use Rattle.fat_table.specs.Steps.{first, lay}
 use Rattle.fat_table.proofs.Laying.{length-lay}
-use Rattle.fat_inner.specs.Volume.{Volume}
-use Rattle.fat_inner.proofs.Hops.{whole-of}
+use Rattle.fat_walk.specs.Volume.{Volume}
+use Rattle.fat_walk.proofs.Hops.{whole-of}
 use Rattle.fat_merge.specs.Merge.{stretches, tidied, merged}
 use Rattle.fat_merge.specs.inner.Sweep.{marks, Ahead, Reading, LaidFrom, IndexIs}
 use Rattle.fat_merge.proofs.Sweeps.{first-index}

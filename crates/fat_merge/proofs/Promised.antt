@@ -25,7 +25,7 @@ use Rattle.fat_test.specs.declared.Gated.{Gated}
 use Rattle.fat_test.specs.declared.Gated.the-variants.{Open, Refused}
 use Rattle.fat_test.proofs.Change.{not-in-use}
 use Rattle.fat_promises.specs.Calls.{Change, changeGives}
-use Rattle.fat_inner.specs.Volume.{Volume}
+use Rattle.fat_walk.specs.Volume.{Volume}
 use Rattle.fat_merge.specs.Merge.{merged}
 use Rattle.fat_merge.specs.Promise.{mergeDone, MergeSound, MergePromise}
 

@@ -6,14 +6,14 @@ ghost use Rattle.fat_node.specs.Node.{NodeAt};
 ghost use Rattle.fat_table.specs.Chain.{freeAt};
 ghost use Rattle.order.specs.Beside.{beside};
 ghost use Rattle.fat_promises.specs.Calls.{changeGives};
-ghost use Rattle.fat_inner.specs.Volume.{Volume};
+ghost use Rattle.fat_walk.specs.Volume.{Volume};
 ghost use Rattle.fat_merge.specs.Merge.{merged};
 ghost use Rattle.fat_merge.specs.Promise.{MergeSound, MergePromise};
 ghost use Rattle.fat_merge.specs.inner.Sweep.{marks, Ahead, Here, Reading, Skipped, PassedOver, LaidFrom, IndexIs};
-use fat_inner::step::Answered;
-use fat_inner::walk::head_of;
+use fat_judge::Answered;
 use fat_node::Node;
 use fat_test::Gated;
+use fat_walk::head_of;
 use order::Answer;
 
 // Marks the first block of every free node, along the free chain.

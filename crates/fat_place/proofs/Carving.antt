@@ -15,10 +15,10 @@ use Rattle.fat_table.proofs.Layouts.{hits-most}
 use Rattle.fat_table.proofs.Laying.{inside-of, first-inside}
 use Rattle.fat_table.proofs.Stepped.{read-prev, read-next, read-size, chain-read}
 use Rattle.fat_table.proofs.Sounds.{holds-node}
-use Rattle.fat_inner.specs.Volume.{Volume}
-use Rattle.fat_inner.specs.inner.Chains.{Standing, ChainFrom}
-use Rattle.fat_inner.proofs.Found.{head-chain}
-use Rattle.fat_inner.proofs.Walks.{Named, named, ended}
+use Rattle.fat_walk.specs.Volume.{Volume}
+use Rattle.fat_walk.specs.inner.Chains.{Standing, ChainFrom}
+use Rattle.fat_walk.proofs.Found.{head-chain}
+use Rattle.fat_walk.proofs.Walks.{Named, named, ended}
 use Rattle.fat_carve.specs.Carve.{carved}
 use Rattle.fat_place.specs.inner.Carving.{nodeOf, firstOf, Waits, PartsSay, CarvedBy}
 

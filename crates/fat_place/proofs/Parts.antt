@@ -13,7 +13,7 @@ use Rattle.fat_table.specs.Steps.{first, lay}
 use Rattle.fat_table.specs.Holds.{Laid}
 use Rattle.fat_table.proofs.Layouts.{hits-lo, hits-hi, hits-split, taken-whole, taken-part, left-whole, left-part}
 use Rattle.fat_table.proofs.Writes.{keep-laid}
-use Rattle.fat_inner.specs.inner.Chains.{Least}
+use Rattle.fat_walk.specs.inner.Chains.{Least}
 use Rattle.fat_place.specs.inner.Carving.{nodeOf, firstOf, Wrote, unwritten, written, PutSays, PartsSay}
 
 pub last-laid : (t : Bytes) (s b p : ℕ) (t′ : Bytes) → (s ≡ 0 → ⊥) → t′ ≡ setNode t (run b s) p 0 → t′ ≡ lay (nodeOf s b) p t

@@ -15,8 +15,8 @@ use Rattle.fat_table.proofs.Layouts.{hits-most, covers-append, empties-append}
 use Rattle.fat_table.proofs.Laying.{length-lay, first-inside}
 use Rattle.fat_table.proofs.Overwrites.{lay-setNode}
 use Rattle.fat_table.proofs.Files.{seen}
-use Rattle.fat_inner.specs.Volume.{Volume}
-use Rattle.fat_inner.proofs.Hops.{whole-of}
+use Rattle.fat_walk.specs.Volume.{Volume}
+use Rattle.fat_walk.proofs.Hops.{whole-of}
 use Rattle.fat_carve.specs.Carve.{carved, Window}
 use Rattle.fat_carve.proofs.Carves.{covers-carved, empties-carved}
 use Rattle.fat_place.specs.Place.{placed}

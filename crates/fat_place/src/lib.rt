@@ -6,14 +6,14 @@ ghost use lib.ListN.{length};
 ghost use Rattle.fat_node.specs.Node.{run};
 ghost use Rattle.fat_table.specs.Chain.{freeAt};
 ghost use Rattle.fat_table.specs.Steps.{lay};
-ghost use Rattle.fat_inner.specs.Volume.{Volume};
+ghost use Rattle.fat_walk.specs.Volume.{Volume};
 ghost use Rattle.fat_carve.specs.Carve.{Window};
 ghost use Rattle.fat_place.specs.Place.{placed};
 ghost use Rattle.fat_place.specs.inner.Carving.{nodeOf, firstOf, Waits, PutSays, PartsSay, CarvedBy};
-use fat_inner::walk::head_of;
-use fat_inner::walk::least;
-use fat_inner::walk::size_at;
 use fat_node::Node;
+use fat_walk::head_of;
+use fat_walk::least;
+use fat_walk::size_at;
 
 // A node that is to be written when the next is known: none where its size is 0. Index `prev` stands before it, `first` names the first of its chain.
 struct Waiting {

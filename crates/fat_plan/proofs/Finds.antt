@@ -21,9 +21,9 @@ use Rattle.fat_table.specs.Sound.{File}
 use Rattle.fat_table.specs.Chain.{total, fileAt, chainAt}
 use Rattle.fat_promises.specs.Blocks.{blocksOf}
 use Rattle.fat_promises.specs.Calls.{listGives}
-use Rattle.fat_inner.specs.Volume.{Volume}
-use Rattle.fat_inner.proofs.Hops.{whole-of}
-use Rattle.fat_inner.proofs.Lists.{length-blocks}
+use Rattle.fat_walk.specs.Volume.{Volume}
+use Rattle.fat_walk.proofs.Hops.{whole-of}
+use Rattle.fat_walk.proofs.Blocks.{length-blocks}
 use Rattle.fat_plan.specs.Plan.{moves, lowest}
 use Rattle.fat_plan.specs.Promise.{findTests, findDone, FindSound}
 use Rattle.fat_plan.specs.inner.Moves.{BlocksIn}

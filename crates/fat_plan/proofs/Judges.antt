@@ -23,11 +23,11 @@ use Rattle.fat_table.proofs.Layouts.{covers-append}
 use Rattle.fat_table.proofs.Files.{seen}
 use Rattle.fat_promises.specs.Blocks.{blocksOf}
 use Rattle.fat_promises.specs.Calls.{Listing, listGives, ListSound}
-use Rattle.fat_inner.specs.Volume.{Volume}
-use Rattle.fat_inner.specs.inner.Chains.{ChainFrom}
-use Rattle.fat_inner.proofs.Found.{file-from}
-use Rattle.fat_inner.proofs.Hops.{whole-of}
-use Rattle.fat_inner.proofs.Lists.{length-blocks}
+use Rattle.fat_walk.specs.Volume.{Volume}
+use Rattle.fat_walk.specs.inner.Chains.{ChainFrom}
+use Rattle.fat_walk.proofs.Found.{file-from}
+use Rattle.fat_walk.proofs.Hops.{whole-of}
+use Rattle.fat_walk.proofs.Blocks.{length-blocks}
 use Rattle.fat_merge.specs.Merge.{stretches, tidied}
 use Rattle.fat_merge.specs.inner.Sweep.{marks, Ahead}
 use Rattle.fat_merge.proofs.Stretches.{stretch-covers}

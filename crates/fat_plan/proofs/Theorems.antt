@@ -23,9 +23,9 @@ use Rattle.fat_promises.specs.Blocks.{blocksOf}
 use Rattle.fat_promises.specs.Calls.{Listing, listGives}
 use Rattle.fat_promises.proofs.Unique.{one-promise}
 use Rattle.fat_promises.specs.Promise.{Beside, beside, Promise}
-use Rattle.fat_inner.specs.Volume.{Volume}
-use Rattle.fat_inner.proofs.Hops.{whole-of}
-use Rattle.fat_inner.proofs.Lists.{length-blocks}
+use Rattle.fat_walk.specs.Volume.{Volume}
+use Rattle.fat_walk.proofs.Hops.{whole-of}
+use Rattle.fat_walk.proofs.Blocks.{length-blocks}
 use Rattle.fat_history.proofs.Passes.{are-bytes, Passed}
 use Rattle.fat_history.proofs.Means.{means, goes-by}
 use Rattle.fat_plan.specs.Plan.{moves, targetOf, Accepted, lowest}

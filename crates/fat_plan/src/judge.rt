@@ -3,17 +3,17 @@ ghost use mathlib.Core.Path.{_≡_};
 ghost use Prim.Native.Nat.{ℕ, _+_, _*_, _≤_, _<_};
 ghost use lib.ListN.{length, getD, replicate};
 ghost use Rattle.fat_table.specs.Sound.{File};
-ghost use Rattle.fat_inner.specs.Volume.{Volume};
+ghost use Rattle.fat_walk.specs.Volume.{Volume};
 ghost use Rattle.fat_merge.specs.inner.Sweep.{Ahead, Reading, Passed};
 ghost use Rattle.fat_plan.specs.Plan.{Accepted, lowest};
 ghost use Rattle.fat_plan.specs.Promise.{CheckSound};
 ghost use Rattle.fat_plan.specs.inner.Moves.{Says, Wide, BlocksIn, Moves, Open, StandsSaid, LowestSaid};
-use fat_inner::list::open_list_sound;
-use fat_inner::step::Answered;
-use fat_inner::walk::is_file;
+use fat_judge::Answered;
+use fat_list::open_list_sound;
 use fat_merge::mark;
 use fat_merge::size_at;
 use fat_merge::skip;
+use fat_walk::is_file;
 use order::Answer;
 
 // The end of the stretch of free blocks that starts at a marked block, hopping by node.

@@ -9,8 +9,8 @@ pub mod planner;
 
 use crate::judge::check_sound;
 use crate::planner::find_sound;
-use fat_inner::list::Listed;
-use fat_inner::step::Answered;
+use fat_judge::Answered;
+use fat_list::Listed;
 use fat_test::Gated;
 
 // Checks a plan for the file whose first block is given. Answers its number alone; NotAFile where the block is not the first of a chain other than the free

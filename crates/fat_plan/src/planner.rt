@@ -5,16 +5,16 @@ ghost use lib.ListN.{length, take, replicate};
 ghost use lib.Seq.{sets};
 ghost use Rattle.fat_table.specs.Chain.{total, chainAt};
 ghost use Rattle.fat_promises.specs.Calls.{listGives};
-ghost use Rattle.fat_inner.specs.Volume.{Volume};
-ghost use Rattle.fat_inner.specs.inner.Chains.{ChainFrom};
+ghost use Rattle.fat_walk.specs.Volume.{Volume};
+ghost use Rattle.fat_walk.specs.inner.Chains.{ChainFrom};
 ghost use Rattle.fat_plan.specs.Plan.{moves};
 ghost use Rattle.fat_plan.specs.Promise.{FindSound};
 ghost use Rattle.fat_plan.specs.inner.Finds.{FindPlanned, FindAt, Planned};
 use crate::judge::find_lowest;
 use crate::judge::list_blocks;
-use fat_inner::list::Listed;
-use fat_inner::walk::Sought;
-use fat_inner::walk::is_file;
+use fat_list::Listed;
+use fat_walk::Sought;
+use fat_walk::is_file;
 use order::Answer;
 
 // What a find will do: the file's blocks, `count` of them, move to those from `target` on. Or its refusal.
@@ -28,7 +28,7 @@ fn count_of(table: &[u8], n: usize, first: usize) -> usize
     requires { ⌜ ChainFrom n (now table) first ⌝ }
     ensures { λ r. ⌜ r ≡ total (chainAt (now (table .entry)) n first) ⌝ }
 {
-    let sought = fat_inner::walk::seek(table, n, first, n + 1);
+    let sought = fat_walk::seek(table, n, first, n + 1);
     match sought {
         Sought::Within { node: _, part: _ } => 0,
         Sought::Past { last: _, part } => n + 1 - part,

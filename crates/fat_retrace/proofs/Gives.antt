@@ -10,8 +10,8 @@ use Rattle.fat_table.specs.Chain.{total, sizeAt, chainAt}
 use Rattle.fat_table.specs.Steps.{first}
 use Rattle.fat_table.proofs.Writes.{lastOf}
 use Rattle.fat_table.proofs.Unchanged.{total-append}
-use Rattle.fat_inner.specs.inner.Chains.{Standing, Chain, ChainFrom, LastIs, LastAt, none, node}
-use Rattle.fat_inner.proofs.Joins.{mid-prev, mid-size, mid-standing, mid-within}
+use Rattle.fat_walk.specs.inner.Chains.{Standing, Chain, ChainFrom, LastIs, LastAt, none, node}
+use Rattle.fat_walk.proofs.Nodes.{mid-prev, mid-size, mid-standing, mid-within}
 use Rattle.fat_retrace.specs.History.{Call, delete, gives}
 use Rattle.fat_retrace.specs.inner.Written.{Written, GivenUp}
 use Rattle.fat_retrace.proofs.Puts.{written-none, written-long, written-on}

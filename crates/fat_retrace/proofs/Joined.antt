@@ -12,10 +12,10 @@ use Rattle.fat_table.specs.Sound.{IsNode, File}
 use Rattle.fat_table.specs.Chain.{total, headAt, chainAt, fileAt}
 use Rattle.fat_table.specs.Counts.{starts}
 use Rattle.fat_table.specs.Steps.{first}
-use Rattle.fat_inner.specs.Volume.{Volume}
-use Rattle.fat_inner.specs.inner.Chains.{Chain, ChainFrom}
-use Rattle.fat_inner.proofs.Joins.{mid-next}
-use Rattle.fat_inner.proofs.Found.{file-from}
+use Rattle.fat_walk.specs.Volume.{Volume}
+use Rattle.fat_walk.specs.inner.Chains.{Chain, ChainFrom}
+use Rattle.fat_walk.proofs.Nodes.{mid-next}
+use Rattle.fat_walk.proofs.Found.{file-from}
 use Rattle.fat_retrace.specs.History.{Call, create, gives, joins, joinsAll, marked}
 use Rattle.fat_retrace.specs.inner.Written.{Written, GivenUp, joinsAt}
 use Rattle.fat_retrace.proofs.Found.{starts-yes, starts-later, starts-free}

@@ -14,7 +14,7 @@ use Rattle.fat_table.proofs.Chains.{In, mem-perm}
 use Rattle.fat_table.proofs.Layouts.{EndToEnd}
 use Rattle.fat_table.proofs.Sounds.{run-node}
 use Rattle.fat_table.proofs.Files.{Whole}
-use Rattle.fat_inner.proofs.Hops.{starts-after}
+use Rattle.fat_walk.proofs.Hops.{starts-after}
 use Rattle.fat_retrace.specs.History.{filesIn}
 use Rattle.fat_retrace.proofs.Found.{Read, read}
 

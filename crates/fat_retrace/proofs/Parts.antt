@@ -8,10 +8,10 @@ use Rattle.words.proofs.Laws as words
 use Rattle.fat_node.specs.Entry.{Bytes}
 use Rattle.fat_table.specs.Chain.{headAt, chainAt, freeAt}
 use Rattle.fat_table.specs.Counts.{nodes}
-use Rattle.fat_inner.specs.Volume.{Volume}
-use Rattle.fat_inner.specs.inner.Chains.{ChainFrom}
-use Rattle.fat_inner.proofs.Hops.{whole-of}
-use Rattle.fat_inner.proofs.Found.{head-chain}
+use Rattle.fat_walk.specs.Volume.{Volume}
+use Rattle.fat_walk.specs.inner.Chains.{ChainFrom}
+use Rattle.fat_walk.proofs.Hops.{whole-of}
+use Rattle.fat_walk.proofs.Found.{head-chain}
 use Rattle.fat_retrace.specs.History.{Call, makes, gives, joinsAll, filesIn, history}
 use Rattle.fat_retrace.specs.inner.Written.{Written, GivenUp}
 use Rattle.fat_retrace.proofs.Few.{Short, short, length-makes}

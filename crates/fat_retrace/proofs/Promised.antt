@@ -20,7 +20,7 @@ use Rattle.fat_node.specs.Sizes.{blocks}
 use Rattle.fat_test.specs.Gate.{testGate}
 use Rattle.fat_test.specs.Promise.{testRefused, testDone, TestPromise}
 use Rattle.fat_test.specs.declared.Tested.{Tested}
-use Rattle.fat_inner.specs.Volume.{Volume}
+use Rattle.fat_walk.specs.Volume.{Volume}
 use Rattle.fat_history.proofs.Means.{test-means}
 use Rattle.fat_retrace.specs.History.{history, encoded}
 use Rattle.fat_retrace.specs.inner.Written.{Written}

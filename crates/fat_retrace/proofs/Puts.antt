@@ -6,7 +6,7 @@ use native.Mathlib.Omega.{arith}
 use native.Mathlib.Numerals.{add-one}
 use lib.ListN.{length, set, length-append}
 use lib.Seq.{sets, length-sets}
-use Rattle.fat_inner.proofs.Lists.{sets-append}
+use Rattle.fat_walk.proofs.Blocks.{sets-append}
 use Rattle.fat_retrace.specs.History.{Call, create, delete, encoded}
 use Rattle.fat_retrace.specs.inner.Written.{Written}
 

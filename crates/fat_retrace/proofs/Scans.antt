@@ -11,8 +11,8 @@ use Rattle.fat_table.specs.Sound.{Starts, begin, after, IsNode}
 use Rattle.fat_table.specs.Chain.{sizeAt}
 use Rattle.fat_table.specs.Counts.{scan, nodes}
 use Rattle.fat_table.proofs.Sounds.{node-size}
-use Rattle.fat_inner.specs.Volume.{Volume}
-use Rattle.fat_inner.specs.inner.Chains.{Standing}
+use Rattle.fat_walk.specs.Volume.{Volume}
+use Rattle.fat_walk.specs.inner.Chains.{Standing}
 use Rattle.fat_retrace.specs.History.{Call}
 use Rattle.fat_retrace.specs.inner.Written.{Written}
 use Rattle.fat_retrace.proofs.Puts.{written-none, written-long, written-on}

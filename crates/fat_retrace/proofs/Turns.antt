@@ -9,8 +9,8 @@ use Rattle.fat_node.specs.Node.{Run, run}
 use Rattle.fat_table.specs.Sound.{IsNode}
 use Rattle.fat_table.specs.Chain.{sizeAt, fileAt}
 use Rattle.fat_table.specs.Counts.{nodes, starts}
-use Rattle.fat_inner.specs.Volume.{Volume}
-use Rattle.fat_inner.specs.inner.Chains.{Standing}
+use Rattle.fat_walk.specs.Volume.{Volume}
+use Rattle.fat_walk.specs.inner.Chains.{Standing}
 use Rattle.fat_retrace.specs.History.{Call, create, makes, joins, joinsAll, marked, filesIn}
 use Rattle.fat_retrace.specs.inner.Written.{Written, joinsAt}
 use Rattle.fat_retrace.proofs.Few.{length-makes}

@@ -6,15 +6,15 @@ ghost use lib.ListN.{length};
 ghost use Rattle.fat_table.specs.Sound.{IsNode};
 ghost use Rattle.fat_table.specs.Chain.{chainAt};
 ghost use Rattle.fat_table.specs.Counts.{nodes};
-ghost use Rattle.fat_inner.specs.Volume.{Volume};
-ghost use Rattle.fat_inner.specs.inner.Chains.{ChainFrom, LastIs};
+ghost use Rattle.fat_walk.specs.Volume.{Volume};
+ghost use Rattle.fat_walk.specs.inner.Chains.{ChainFrom, LastIs};
 ghost use Rattle.fat_retrace.specs.History.{create, delete, makes, joinsAll, filesIn, history};
 ghost use Rattle.order.specs.Beside.{beside};
 ghost use Rattle.fat_retrace.specs.Promise.{retraceGives, RetracePromise};
 ghost use Rattle.fat_retrace.specs.inner.Written.{Written, GivenUp, joinsAt};
-use fat_inner::walk::head_of;
-use fat_inner::walk::last_of;
-use fat_inner::walk::size_at;
+use fat_walk::head_of;
+use fat_walk::last_of;
+use fat_walk::size_at;
 use order::Answer;
 
 // Writes a create of so many blocks as the k-th call of a history.

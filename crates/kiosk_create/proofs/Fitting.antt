@@ -11,11 +11,11 @@ use Rattle.fat_table.specs.Chain.{total, sizeAt, headAt, chainAt, freeAt}
 use Rattle.fat_table.specs.Layout.{empties}
 use Rattle.fat_table.specs.Steps.{first}
 use Rattle.fat_table.proofs.Stepped.{chain-read}
-use Rattle.fat_inner.specs.Volume.{Volume}
-use Rattle.fat_inner.specs.inner.Chains.{Standing, Chain, ChainFrom}
-use Rattle.fat_inner.proofs.Found.{head-chain}
-use Rattle.fat_inner.proofs.Joins.{mid-size, mid-next, mid-standing, mid-pos, mid-laid, mid-empties, mid-covers, mid-within}
-use Rattle.fat_inner.proofs.Walks.{Named, named, ended}
+use Rattle.fat_walk.specs.Volume.{Volume}
+use Rattle.fat_walk.specs.inner.Chains.{Standing, Chain, ChainFrom}
+use Rattle.fat_walk.proofs.Found.{head-chain}
+use Rattle.fat_walk.proofs.Nodes.{mid-size, mid-next, mid-standing, mid-pos, mid-laid, mid-empties, mid-covers, mid-within}
+use Rattle.fat_walk.proofs.Walks.{Named, named, ended}
 use Rattle.fat_carve.specs.Carve.{fit}
 use Rattle.fat_carve.proofs.Carves.{fit-whole, fit-past}
 

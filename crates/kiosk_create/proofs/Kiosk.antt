@@ -13,10 +13,10 @@ use Rattle.fat_table.specs.Layout.{hits, covers}
 use Rattle.fat_table.proofs.Laying.{inside-of}
 use Rattle.fat_table.proofs.Files.{Whole}
 use Rattle.fat_promises.specs.Calls.{Create, createGives}
-use Rattle.fat_inner.specs.Volume.{Volume}
-use Rattle.fat_inner.specs.inner.Chains.{ChainFrom}
-use Rattle.fat_inner.proofs.Found.{head-chain}
-use Rattle.fat_inner.proofs.Hops.{whole-of}
+use Rattle.fat_walk.specs.Volume.{Volume}
+use Rattle.fat_walk.specs.inner.Chains.{ChainFrom}
+use Rattle.fat_walk.proofs.Found.{head-chain}
+use Rattle.fat_walk.proofs.Hops.{whole-of}
 use Rattle.fat_carve.specs.Carve.{fit, Window}
 use Rattle.fat_carve.proofs.Carves.{fit-none, none-fits, fit-found, fit-window}
 use Rattle.fat_place.specs.Place.{placed}

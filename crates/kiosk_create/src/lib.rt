@@ -5,13 +5,13 @@ ghost use Rattle.fat_table.specs.Chain.{freeAt};
 ghost use Rattle.fat_carve.specs.Carve.{fit};
 ghost use Rattle.fat_promises.specs.Promise.{beside};
 ghost use Rattle.fat_promises.specs.Calls.{createGives};
-ghost use Rattle.fat_inner.specs.Volume.{Volume};
+ghost use Rattle.fat_walk.specs.Volume.{Volume};
 ghost use Rattle.kiosk_create.specs.Create.{KioskSound, KioskTested, KioskPromise};
-use fat_inner::step::Created;
-use fat_inner::walk::head_of;
-use fat_inner::walk::size_at;
 use fat_place::place_step;
+use fat_step::Created;
 use fat_test::Gated;
+use fat_walk::head_of;
+use fat_walk::size_at;
 use order::Answer;
 
 // The index of the first node along the free chain that has so many blocks, 0 where none has.

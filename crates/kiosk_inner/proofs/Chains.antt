@@ -19,11 +19,11 @@ use Rattle.fat_table.specs.Sound.{Starts, begin, after, IsNode, File}
 use Rattle.fat_table.specs.Chain.{sizeAt, headAt, fileAt}
 use Rattle.fat_table.specs.Steps.{first}
 use Rattle.fat_table.proofs.Sounds.{node-size}
-use Rattle.fat_inner.specs.Volume.{Volume}
-use Rattle.fat_inner.specs.inner.Chains.{Standing, Chain, ChainFrom}
-use Rattle.fat_inner.proofs.Few.{file-chain}
-use Rattle.fat_inner.proofs.Hops.{whole-of, starts-after, node-standing}
-use Rattle.fat_inner.proofs.Joins.{mid-next}
+use Rattle.fat_walk.specs.Volume.{Volume}
+use Rattle.fat_walk.specs.inner.Chains.{Standing, Chain, ChainFrom}
+use Rattle.fat_walk.proofs.Chains.{file-chain}
+use Rattle.fat_walk.proofs.Hops.{whole-of, starts-after, node-standing}
+use Rattle.fat_walk.proofs.Nodes.{mid-next}
 use Rattle.kiosk_inner.specs.Profile.{Scattered}
 use Rattle.kiosk_inner.specs.inner.Judge.{Decides, GoesOn}
 

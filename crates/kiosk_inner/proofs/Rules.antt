@@ -8,8 +8,8 @@ use native.Mathlib.Omega.{arith}
 use lib.ListN.{length, replicate}
 use Rattle.words.proofs.Laws as words
 use Rattle.fat_node.specs.Entry.{Bytes}
-use Rattle.fat_inner.specs.Volume.{Volume}
-use Rattle.fat_inner.proofs.Hops.{whole-of}
+use Rattle.fat_walk.specs.Volume.{Volume}
+use Rattle.fat_walk.proofs.Hops.{whole-of}
 use Rattle.audit_inner.specs.Findings.{Finding, findings}
 use Rattle.audit_inner.specs.Volume.{countOf, chainOf, subject}
 use Rattle.audit_inner.specs.inner.Marks.{Ready, Start, SweepSays}

@@ -6,7 +6,7 @@ ghost use Prim.Native.Nat.{ℕ, _+_, _*_, _/_, _≤_, _<_};
 ghost use lib.ListN.{length, drop};
 ghost use Rattle.fat_table.specs.Sound.{IsNode, File};
 ghost use Rattle.fat_table.specs.Chain.{headAt};
-ghost use Rattle.fat_inner.specs.Volume.{Volume};
+ghost use Rattle.fat_walk.specs.Volume.{Volume};
 ghost use Rattle.audit_inner.specs.Findings.{findings};
 ghost use Rattle.audit_inner.specs.Volume.{countOf, isLive, subject};
 ghost use Rattle.audit_inner.specs.inner.Marks.{Files, Ready, Clear, Dead};
@@ -76,13 +76,13 @@ fn is_scattered(table: &[u8], n: usize) -> bool
     requires { ⌜ Volume n (now table) ⌝ }
     ensures { λ r. ⌜ Decides r (Scattered n (now (table .entry))) ⌝ }
 {
-    let head = fat_inner::walk::head_of(table);
+    let head = fat_walk::head_of(table);
     let mut b: usize = 0;
     while b < n {
         if goes_on(table, head, b) {
             return true;
         }
-        b += fat_inner::walk::size_at(table, n, b);
+        b += fat_walk::size_at(table, n, b);
     }
     false
 }

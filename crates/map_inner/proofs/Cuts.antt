@@ -9,7 +9,7 @@ use Rattle.fat_node.proofs.Nodes.{le-or-lt}
 use Rattle.fat_table.specs.Chain.{total}
 use Rattle.fat_table.specs.Layout.{taken, left, hits, covers, empties}
 use Rattle.fat_table.proofs.Layouts.{taken-whole, taken-part, covers-cut, hits-split}
-use Rattle.fat_inner.proofs.Few.{cut-second}
+use Rattle.fat_step.proofs.Few.{cut-second}
 
 taken-none : (B : List Run) (c : ℕ) → c ≡ 0 → taken B c ≡ []
 taken-none [] c e = refl

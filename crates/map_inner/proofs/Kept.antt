@@ -20,21 +20,21 @@ use Rattle.fat_table.proofs.Stepped.{free-read, holds-create, holds-delete}
 use Rattle.fat_table.proofs.Files.{Whole, seen, seen-file, holds-resize-less, holds-resize-more}
 use Rattle.fat_table.proofs.Unchanged.{total-append}
 use Rattle.fat_promises.specs.Calls.{createGives, CreateSound, changeGives, ResizeSound, DeleteSound}
-use Rattle.fat_inner.specs.Volume.{Volume}
-use Rattle.fat_inner.specs.inner.Chains.{Inside}
-use Rattle.fat_inner.specs.inner.Plans.{TakeAt, CreateAt, CreatePlanned, ShrinkAt, GrowAt, ResizePlanned, RecutAt, DeletePlanned}
-use Rattle.fat_inner.specs.declared.walk.Sought.{Sought}
-use Rattle.fat_inner.specs.declared.walk.Sought.the-variants.{Within, Past}
-use Rattle.fat_inner.specs.declared.judge.CreatePlan.{CreatePlan}
-use Rattle.fat_inner.specs.declared.judge.CreatePlan.the-variants as create-plan
-use Rattle.fat_inner.specs.declared.judge.ResizePlan.{ResizePlan}
-use Rattle.fat_inner.specs.declared.judge.ResizePlan.the-variants as resize-plan
-use Rattle.fat_inner.specs.declared.judge.DeletePlan.{DeletePlan}
-use Rattle.fat_inner.specs.declared.judge.DeletePlan.the-variants as delete-plan
-use Rattle.fat_inner.proofs.Hops.{whole-of}
-use Rattle.fat_inner.proofs.Found.{inside-count, inside-first}
-use Rattle.fat_inner.proofs.Few.{free-chain, file-chain}
-use Rattle.fat_inner.proofs.Steps.{create-refused, create-goes, create-done, resize-refused, resize-kept, shrink-goes, shrink-done, grow-goes, grow-done, delete-refused, delete-goes, delete-done}
+use Rattle.fat_walk.specs.Volume.{Volume}
+use Rattle.fat_walk.specs.inner.Chains.{Inside}
+use Rattle.fat_judge.specs.inner.Plans.{TakeAt, CreateAt, CreatePlanned, ShrinkAt, GrowAt, ResizePlanned, RecutAt, DeletePlanned}
+use Rattle.fat_walk.specs.declared.Sought.{Sought}
+use Rattle.fat_walk.specs.declared.Sought.the-variants.{Within, Past}
+use Rattle.fat_judge.specs.declared.CreatePlan.{CreatePlan}
+use Rattle.fat_judge.specs.declared.CreatePlan.the-variants as create-plan
+use Rattle.fat_judge.specs.declared.ResizePlan.{ResizePlan}
+use Rattle.fat_judge.specs.declared.ResizePlan.the-variants as resize-plan
+use Rattle.fat_judge.specs.declared.DeletePlan.{DeletePlan}
+use Rattle.fat_judge.specs.declared.DeletePlan.the-variants as delete-plan
+use Rattle.fat_walk.proofs.Hops.{whole-of}
+use Rattle.fat_walk.proofs.Found.{inside-count, inside-first}
+use Rattle.fat_walk.proofs.Chains.{free-chain, file-chain}
+use Rattle.fat_step.proofs.Steps.{create-refused, create-goes, create-done, resize-refused, resize-kept, shrink-goes, shrink-done, grow-goes, grow-done, delete-refused, delete-goes, delete-done}
 use Rattle.map_inner.specs.Map.{mapOf}
 use Rattle.map_inner.specs.Sounds.{CreateMapped, ResizeMapped, DeleteMapped}
 use Rattle.map_inner.specs.inner.Moves.{CutAt, TakenIn, TakenAll, TakeSays}

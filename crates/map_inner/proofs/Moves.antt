@@ -18,13 +18,13 @@ use Rattle.fat_table.specs.Layout.{left, hits, covers, empties}
 use Rattle.fat_table.specs.Steps.{first}
 use Rattle.fat_table.proofs.Layouts.{hits-most, covers-append, empties-append, hits-split}
 use Rattle.fat_table.proofs.Files.{Whole}
-use Rattle.fat_inner.specs.Volume.{Volume}
-use Rattle.fat_inner.specs.inner.Chains.{Standing, Chain, ChainFrom, Inside}
-use Rattle.fat_inner.specs.inner.Plans.{TakeAt}
-use Rattle.fat_inner.proofs.Few.{free-chain, file-chain, file-beside}
-use Rattle.fat_inner.proofs.Found.{inside-standing, inside-part, inside-size}
-use Rattle.fat_inner.proofs.Hops.{whole-of}
-use Rattle.fat_inner.proofs.Joins.{mid-within, mid-next, mid-empties}
+use Rattle.fat_walk.specs.Volume.{Volume}
+use Rattle.fat_walk.specs.inner.Chains.{Standing, Chain, ChainFrom, Inside}
+use Rattle.fat_judge.specs.inner.Plans.{TakeAt}
+use Rattle.fat_walk.proofs.Chains.{free-chain, file-chain, file-beside}
+use Rattle.fat_walk.proofs.Found.{inside-standing, inside-part, inside-size}
+use Rattle.fat_walk.proofs.Hops.{whole-of}
+use Rattle.fat_walk.proofs.Nodes.{mid-within, mid-next, mid-empties}
 use Rattle.map_inner.specs.Map.{mapOf}
 use Rattle.map_inner.specs.inner.Moves.{Segment, Moved, Move, Going, Moves, CutAt}
 use Rattle.map_inner.proofs.Segments.{hits-between}

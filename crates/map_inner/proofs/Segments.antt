@@ -18,8 +18,8 @@ use Rattle.fat_table.proofs.Stepped.{chain-read}
 use Rattle.fat_table.proofs.Writes.{lastOf, laid-suffix}
 use Rattle.fat_table.proofs.Resizes.{last-inside}
 use Rattle.fat_table.proofs.Unchanged.{total-append}
-use Rattle.fat_inner.specs.inner.Chains.{Standing, Chain}
-use Rattle.fat_inner.proofs.Joins.{mid-covers, mid-empties, mid-pos, mid-within, mid-size, mid-next, mid-standing}
+use Rattle.fat_walk.specs.inner.Chains.{Standing, Chain}
+use Rattle.fat_walk.proofs.Nodes.{mid-covers, mid-empties, mid-pos, mid-within, mid-size, mid-next, mid-standing}
 use Rattle.map_inner.specs.inner.Moves.{Segment, Moved, Move, Going}
 
 -- a run as a stretch of blocks

@@ -18,12 +18,12 @@ use Rattle.fat_table.specs.Layout.{left, hits, covers, empties}
 use Rattle.fat_table.specs.Steps.{first}
 use Rattle.fat_table.proofs.Layouts.{hits-most, covers-append}
 use Rattle.fat_table.proofs.Unchanged.{total-append}
-use Rattle.fat_inner.specs.Volume.{Volume}
-use Rattle.fat_inner.specs.inner.Chains.{Standing, Chain, Inside, Seeking, none, node}
-use Rattle.fat_inner.proofs.Few.{free-chain}
-use Rattle.fat_inner.proofs.Hops.{whole-of}
-use Rattle.fat_inner.proofs.Joins.{mid-within, mid-size, mid-next, mid-empties}
-use Rattle.fat_inner.proofs.Walks.{Named, named, ended, seek-past, seek-at, seek-within, seek-less, seek-room}
+use Rattle.fat_walk.specs.Volume.{Volume}
+use Rattle.fat_walk.specs.inner.Chains.{Standing, Chain, Inside, Seeking, none, node}
+use Rattle.fat_walk.proofs.Chains.{free-chain}
+use Rattle.fat_walk.proofs.Hops.{whole-of}
+use Rattle.fat_walk.proofs.Nodes.{mid-within, mid-size, mid-next, mid-empties}
+use Rattle.fat_walk.proofs.Walks.{Named, named, ended, seek-past, seek-at, seek-within, seek-less, seek-room}
 use Rattle.map_inner.specs.Map.{mapOf}
 use Rattle.map_inner.specs.inner.Moves.{TakenIn, TakenAll}
 use Rattle.map_inner.proofs.Segments.{hits-between}

@@ -11,7 +11,7 @@ use Rattle.map_bits.proofs.Words.{words-same}
 use Rattle.fat_node.specs.Entry.{Bytes}
 use Rattle.fat_node.specs.Node.{Run, nextAt}
 use Rattle.fat_table.specs.Chain.{sizeAt, chainAt}
-use Rattle.fat_inner.specs.inner.Chains.{Standing}
+use Rattle.fat_walk.specs.inner.Chains.{Standing}
 use Rattle.map_inner.specs.inner.Moves.{Segment, Moved, Move, Going, Moves}
 use Rattle.map_inner.proofs.Segments.{Step, step, segment-end}
 

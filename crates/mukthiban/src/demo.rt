@@ -2,7 +2,7 @@
 ghost use Prim.Native.Nat.{_+_, _/_, _≤_};
 ghost use lib.ListN.{length};
 ghost use Rattle.fat_promises.specs.Calls.{createGives};
-ghost use Rattle.fat_inner.specs.Volume.{Volume};
+ghost use Rattle.fat_walk.specs.Volume.{Volume};
 ghost use Rattle.tree_sound.specs.Tables.{tables};
 ghost use Rattle.audit_inner.specs.inner.Marks.{Clear};
 ghost use Rattle.kiosk_create.specs.Create.{KioskTested, KioskPromise};

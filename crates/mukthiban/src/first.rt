@@ -5,7 +5,7 @@ ghost use lib.ListN.{length};
 ghost use Rattle.order.specs.First.{First};
 ghost use Rattle.fat_promises.specs.Promise.{changeRows};
 ghost use Rattle.fat_promises.specs.Calls.{createGives, changeGives, listRows, listDone, listGives, carryRows, readDone, writeDone, carryGives};
-ghost use Rattle.fat_inner.specs.Volume.{Volume, Data};
+ghost use Rattle.fat_walk.specs.Volume.{Volume, Data};
 ghost use Rattle.map_bits.specs.Bits.{wordsIn};
 ghost use Rattle.map_inner.specs.Map.{mapOf};
 ghost use Rattle.fat_first.specs.Firsts.{firstsOf};

@@ -3,8 +3,8 @@
 mod blocks;
 mod by_list;
 mod change;
-mod first;
 mod demo;
+mod first;
 mod look;
 mod map;
 mod merge;

@@ -2,7 +2,7 @@
 ghost use mathlib.Core.Path.{_≡_};
 ghost use lib.ListN.{length};
 ghost use Rattle.fat_promises.specs.Calls.{createGives, changeGives};
-ghost use Rattle.fat_inner.specs.Volume.{Volume};
+ghost use Rattle.fat_walk.specs.Volume.{Volume};
 ghost use Rattle.map_bits.specs.Bits.{wordsIn};
 ghost use Rattle.map_inner.specs.Map.{mapOf};
 ghost use Rattle.fat_map.specs.Promise.{beside, mapped, BuildPromise};

@@ -3,7 +3,7 @@ ghost use mathlib.Core.Path.{_≡_};
 ghost use lib.ListN.{replicate};
 ghost use Rattle.fat_promises.specs.Promise.{beside};
 ghost use Rattle.fat_promises.specs.Calls.{changeGives};
-ghost use Rattle.fat_inner.specs.Volume.{Volume};
+ghost use Rattle.fat_walk.specs.Volume.{Volume};
 ghost use Rattle.fat_merge.specs.Promise.{MergeSound, MergePromise};
 ghost use Rattle.mukthiban.specs.Export.{Located};
 use crate::Answered;

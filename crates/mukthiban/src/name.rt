@@ -98,7 +98,7 @@ fn name_in(hash: &[u8], table: &[u8], w: usize, x: u32, at: usize) -> Named
     requires { ⌜ Single (now hash) (now table) w ⌝ }
     ensures { λ p. ⌜ Exported (p .answer) (λ a. First (row (LiveAt w (now (table .entry)) x → ⊥) (namedGives NotFound 0) ∷ []) (namedGives Done at) (namedGives a (p .offset))) ⌝ }
 {
-    if !tree_inner::look::live(hash, table, w, x) {
+    if !tree_look::live(hash, table, w, x) {
         return named(Answer::NotFound, 0);
     }
     named(Answer::Done, at)

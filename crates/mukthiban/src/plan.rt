@@ -3,7 +3,7 @@ ghost use mathlib.Core.Path.{_≡_};
 ghost use lib.ListN.{length, replicate};
 ghost use Rattle.fat_promises.specs.Promise.{beside};
 ghost use Rattle.fat_promises.specs.Calls.{listGives};
-ghost use Rattle.fat_inner.specs.Volume.{Volume, Data};
+ghost use Rattle.fat_walk.specs.Volume.{Volume, Data};
 ghost use Rattle.fat_plan.specs.Promise.{CheckSound, CheckPromise, FindSound, FindPromise};
 ghost use Rattle.fat_apply.specs.Apply.{applyGives, ApplyTested, ApplyPromise};
 ghost use Rattle.mukthiban.specs.Export.{Located};

@@ -2,7 +2,7 @@
 // tests nothing but, where it changes something, that the block length is in use.
 ghost use lib.ListN.{length};
 ghost use Rattle.order.specs.First.{First};
-ghost use Rattle.fat_inner.specs.Volume.{Volume, Data};
+ghost use Rattle.fat_walk.specs.Volume.{Volume, Data};
 ghost use Rattle.fat_promises.specs.Promise.{changeRows};
 ghost use Rattle.fat_promises.specs.Calls.{createRows, createDone, createGives, resizeRows, resizeDone, deleteRows, deleteDone, changeGives, listRows, listDone, listGives, carryRows, readDone, writeDone, carryGives};
 ghost use Rattle.mukthiban.specs.Export.{Located};
@@ -82,7 +82,7 @@ pub extern "C" fn mukthiban_tested_fat_open_list(
     requires { ⌜ Volume n (now table) ⌝ }
     ensures { λ p. ⌜ Located (p .answer) (p .entry) (p .rule) (λ a. First (listRows n (now (table .entry)) «first_block» (now (list .entry))) (listDone n (now (table .entry)) «first_block» (now (list .entry))) (listGives a (p .count) (now (list .exit)))) ⌝ }
 {
-    let r = fat_inner::list::open_list_sound(table, n, first_block, list);
+    let r = fat_list::open_list_sound(table, n, first_block, list);
     let answer = r.answer;
     let found = order::broken_at(answer);
     Opened {
@@ -107,7 +107,7 @@ pub extern "C" fn mukthiban_tested_fat_read(
     requires { ⌜ Data n (length (now «data»)) «block_len» ⌝ }
     ensures { λ p. ⌜ Located (p .answer) (p .entry) (p .rule) (λ a. First (carryRows n (now (table .entry)) «block_len» «first_block» pos (length (now (buf .entry))) (now (buf .entry))) (readDone n (now (table .entry)) (now («data» .entry)) «block_len» «first_block» pos (now (buf .entry))) (carryGives a (now (buf .exit)))) ⌝ }
 {
-    let r = fat_inner::copy::read_sound(table, data, block_len, n, first_block, pos, buf);
+    let r = fat_copy::read_sound(table, data, block_len, n, first_block, pos, buf);
     let answer = r.answer;
     let found = order::broken_at(answer);
     Answered {

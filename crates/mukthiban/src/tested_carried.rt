@@ -20,7 +20,7 @@ pub extern "C" fn mukthiban_tested_tree_carried_dir(
     requires { ⌜ Ready (tables (now «dir_hash») (now «dir_table») (now «file_hash») (now «file_table»)) ⌝ }
     ensures { λ p. ⌜ Exported (p .answer) (λ a. First (shownRows (dirs (tables (now («dir_hash» .entry)) (now («dir_table» .entry)) (now («file_hash» .entry)) (now («file_table» .entry)))) inode (replicate 4 0)) (carriedDone Directory (tables (now («dir_hash» .entry)) (now («dir_table» .entry)) (now («file_hash» .entry)) (now («file_table» .entry))) inode) (shownGives a (now (carried .exit)))) ⌝ }
 {
-    let r = tree_inner::carry::carried_dir(dir_hash, dir_table, inode);
+    let r = tree_carry::carried_dir(dir_hash, dir_table, inode);
     let bytes = r.bytes;
     *carried = bytes;
     let answer = r.answer;
@@ -41,7 +41,7 @@ pub extern "C" fn mukthiban_tested_tree_carried_file(
     requires { ⌜ Ready (tables (now «dir_hash») (now «dir_table») (now «file_hash») (now «file_table»)) ⌝ }
     ensures { λ p. ⌜ Exported (p .answer) (λ a. First (shownRows (files (tables (now («dir_hash» .entry)) (now («dir_table» .entry)) (now («file_hash» .entry)) (now («file_table» .entry)))) inode (replicate 20 0)) (carriedDone File (tables (now («dir_hash» .entry)) (now («dir_table» .entry)) (now («file_hash» .entry)) (now («file_table» .entry))) inode) (shownGives a (now (carried .exit)))) ⌝ }
 {
-    let r = tree_inner::carry::carried_file(file_hash, file_table, inode);
+    let r = tree_carry::carried_file(file_hash, file_table, inode);
     let bytes = r.bytes;
     *carried = bytes;
     let answer = r.answer;
@@ -63,7 +63,7 @@ pub extern "C" fn mukthiban_tested_tree_set_carried_dir(
     ensures { λ p. ⌜ Exported (p .answer) (λ a. First (carryRows (tables (now («dir_hash» .entry)) (now («dir_table» .entry)) (now («file_hash» .entry)) (now («file_table» .entry))) (dirs (tables (now («dir_hash» .entry)) (now («dir_table» .entry)) (now («file_hash» .entry)) (now («file_table» .entry)))) inode) (carryDone Directory (tables (now («dir_hash» .entry)) (now («dir_table» .entry)) (now («file_hash» .entry)) (now («file_table» .entry))) inode (now (carried .entry))) (carryGives a (tables (now («dir_hash» .entry)) (now («dir_table» .exit)) (now («file_hash» .entry)) (now («file_table» .entry))))) ⌝ }
 {
     let bytes = *carried;
-    let answer = tree_inner::carry::set_carried_dir(dir_hash, dir_table, inode, bytes);
+    let answer = tree_carry::set_carried_dir(dir_hash, dir_table, inode, bytes);
     Plain {
         answer: order::number(answer),
     }
@@ -82,7 +82,7 @@ pub extern "C" fn mukthiban_tested_tree_set_carried_file(
     ensures { λ p. ⌜ Exported (p .answer) (λ a. First (carryRows (tables (now («dir_hash» .entry)) (now («dir_table» .entry)) (now («file_hash» .entry)) (now («file_table» .entry))) (files (tables (now («dir_hash» .entry)) (now («dir_table» .entry)) (now («file_hash» .entry)) (now («file_table» .entry)))) inode) (carryDone File (tables (now («dir_hash» .entry)) (now («dir_table» .entry)) (now («file_hash» .entry)) (now («file_table» .entry))) inode (now (carried .entry))) (carryGives a (tables (now («dir_hash» .entry)) (now («dir_table» .entry)) (now («file_hash» .entry)) (now («file_table» .exit))))) ⌝ }
 {
     let bytes = *carried;
-    let answer = tree_inner::carry::set_carried_file(file_hash, file_table, inode, bytes);
+    let answer = tree_carry::set_carried_file(file_hash, file_table, inode, bytes);
     Plain {
         answer: order::number(answer),
     }

@@ -24,7 +24,7 @@ pub extern "C" fn mukthiban_tested_tree_make_dir(
     requires { ⌜ ReadyOpens (tables (now «dir_hash») (now «dir_table») (now «file_hash») (now «file_table»)) (packed.opens (now opened) (now opens)) ⌝ }
     ensures { λ p. ⌜ Exported (p .answer) (λ a. Inside (tables (now («dir_hash» .entry)) (now («dir_table» .entry)) (now («file_hash» .entry)) (now («file_table» .entry))) (packed.opens (now (opened .entry)) (now (opens .entry))) (makeTests Directory (tables (now («dir_hash» .entry)) (now («dir_table» .entry)) (now («file_hash» .entry)) (now («file_table» .entry))) (packed.opens (now (opened .entry)) (now (opens .entry))) parent (now (name .entry))) (makeDone Directory (tables (now («dir_hash» .entry)) (now («dir_table» .entry)) (now («file_hash» .entry)) (now («file_table» .entry))) (packed.opens (now (opened .entry)) (now (opens .entry))) parent (now (name .entry)) (now (carried .entry))) (gives a (p .inode) (tables (now («dir_hash» .exit)) (now («dir_table» .exit)) (now («file_hash» .entry)) (now («file_table» .entry))) (packed.opens (now (opened .exit)) (now (opens .exit))))) ⌝ }
 {
-    let r = tree_inner::make::make_dir(
+    let r = tree_make::make_dir(
         dir_hash,
         dir_table,
         file_hash,
@@ -57,7 +57,7 @@ pub extern "C" fn mukthiban_tested_tree_make_file(
     requires { ⌜ ReadyOpens (tables (now «dir_hash») (now «dir_table») (now «file_hash») (now «file_table»)) (packed.opens (now opened) (now opens)) ⌝ }
     ensures { λ p. ⌜ Exported (p .answer) (λ a. Inside (tables (now («dir_hash» .entry)) (now («dir_table» .entry)) (now («file_hash» .entry)) (now («file_table» .entry))) (packed.opens (now (opened .entry)) (now (opens .entry))) (makeTests File (tables (now («dir_hash» .entry)) (now («dir_table» .entry)) (now («file_hash» .entry)) (now («file_table» .entry))) (packed.opens (now (opened .entry)) (now (opens .entry))) parent (now (name .entry))) (makeDone File (tables (now («dir_hash» .entry)) (now («dir_table» .entry)) (now («file_hash» .entry)) (now («file_table» .entry))) (packed.opens (now (opened .entry)) (now (opens .entry))) parent (now (name .entry)) (now (carried .entry))) (gives a (p .inode) (tables (now («dir_hash» .entry)) (now («dir_table» .exit)) (now («file_hash» .exit)) (now («file_table» .exit))) (packed.opens (now (opened .exit)) (now (opens .exit))))) ⌝ }
 {
-    let r = tree_inner::make::make_file(
+    let r = tree_make::make_file(
         dir_hash,
         dir_table,
         file_hash,
@@ -91,7 +91,7 @@ pub extern "C" fn mukthiban_tested_tree_rename_dir(
     ensures { λ p. ⌜ Exported (p .answer) (λ a. Inside (tables (now («dir_hash» .entry)) (now («dir_table» .entry)) (now («file_hash» .entry)) (now («file_table» .entry))) (packed.opens (now (opened .entry)) (now (opens .entry))) (renameTests Directory (tables (now («dir_hash» .entry)) (now («dir_table» .entry)) (now («file_hash» .entry)) (now («file_table» .entry))) (packed.opens (now (opened .entry)) (now (opens .entry))) inode parent (now (name .entry))) (renameDone Directory (tables (now («dir_hash» .entry)) (now («dir_table» .entry)) (now («file_hash» .entry)) (now («file_table» .entry))) (packed.opens (now (opened .entry)) (now (opens .entry))) inode parent (now (name .entry))) (gives a 0 (tables (now («dir_hash» .exit)) (now («dir_table» .exit)) (now («file_hash» .entry)) (now («file_table» .entry))) (packed.opens (now (opened .entry)) (now (opens .entry))))) ⌝ }
 {
     let k = *opened;
-    let answer = tree_inner::change::rename_dir(
+    let answer = tree_change::rename_dir(
         dir_hash,
         dir_table,
         file_hash,
@@ -123,7 +123,7 @@ pub extern "C" fn mukthiban_tested_tree_rename_file(
     ensures { λ p. ⌜ Exported (p .answer) (λ a. Inside (tables (now («dir_hash» .entry)) (now («dir_table» .entry)) (now («file_hash» .entry)) (now («file_table» .entry))) (packed.opens (now (opened .entry)) (now (opens .entry))) (renameTests File (tables (now («dir_hash» .entry)) (now («dir_table» .entry)) (now («file_hash» .entry)) (now («file_table» .entry))) (packed.opens (now (opened .entry)) (now (opens .entry))) inode parent (now (name .entry))) (renameDone File (tables (now («dir_hash» .entry)) (now («dir_table» .entry)) (now («file_hash» .entry)) (now («file_table» .entry))) (packed.opens (now (opened .entry)) (now (opens .entry))) inode parent (now (name .entry))) (gives a 0 (tables (now («dir_hash» .entry)) (now («dir_table» .exit)) (now («file_hash» .exit)) (now («file_table» .exit))) (packed.opens (now (opened .entry)) (now (opens .entry))))) ⌝ }
 {
     let k = *opened;
-    let answer = tree_inner::change::rename_file(
+    let answer = tree_change::rename_file(
         dir_hash,
         dir_table,
         file_hash,
@@ -152,7 +152,7 @@ pub extern "C" fn mukthiban_tested_tree_delete_dir(
     requires { ⌜ ReadyOpens (tables (now «dir_hash») (now «dir_table») (now «file_hash») (now «file_table»)) (packed.opens (now opened) (now opens)) ⌝ }
     ensures { λ p. ⌜ Exported (p .answer) (λ a. Inside (tables (now («dir_hash» .entry)) (now («dir_table» .entry)) (now («file_hash» .entry)) (now («file_table» .entry))) (packed.opens (now (opened .entry)) (now (opens .entry))) (deleteTests Directory (tables (now («dir_hash» .entry)) (now («dir_table» .entry)) (now («file_hash» .entry)) (now («file_table» .entry))) (packed.opens (now (opened .entry)) (now (opens .entry))) inode) (deleteDone Directory (tables (now («dir_hash» .entry)) (now («dir_table» .entry)) (now («file_hash» .entry)) (now («file_table» .entry))) (packed.opens (now (opened .entry)) (now (opens .entry))) inode) (gives a 0 (tables (now («dir_hash» .exit)) (now («dir_table» .exit)) (now («file_hash» .entry)) (now («file_table» .entry))) (packed.opens (now (opened .exit)) (now (opens .exit))))) ⌝ }
 {
-    let answer = tree_inner::change::delete_dir(
+    let answer = tree_change::delete_dir(
         dir_hash,
         dir_table,
         file_hash,
@@ -179,7 +179,7 @@ pub extern "C" fn mukthiban_tested_tree_delete_file(
     requires { ⌜ ReadyOpens (tables (now «dir_hash») (now «dir_table») (now «file_hash») (now «file_table»)) (packed.opens (now opened) (now opens)) ⌝ }
     ensures { λ p. ⌜ Exported (p .answer) (λ a. Inside (tables (now («dir_hash» .entry)) (now («dir_table» .entry)) (now («file_hash» .entry)) (now («file_table» .entry))) (packed.opens (now (opened .entry)) (now (opens .entry))) (deleteTests File (tables (now («dir_hash» .entry)) (now («dir_table» .entry)) (now («file_hash» .entry)) (now («file_table» .entry))) (packed.opens (now (opened .entry)) (now (opens .entry))) inode) (deleteDone File (tables (now («dir_hash» .entry)) (now («dir_table» .entry)) (now («file_hash» .entry)) (now («file_table» .entry))) (packed.opens (now (opened .entry)) (now (opens .entry))) inode) (gives a 0 (tables (now («dir_hash» .entry)) (now («dir_table» .exit)) (now («file_hash» .exit)) (now («file_table» .exit))) (packed.opens (now (opened .exit)) (now (opens .exit))))) ⌝ }
 {
-    let answer = tree_inner::change::delete_file(
+    let answer = tree_change::delete_file(
         dir_hash,
         dir_table,
         file_hash,

@@ -27,7 +27,7 @@ pub extern "C" fn mukthiban_tested_tree_lookup_dir(
     ensures { λ p. ⌜ Exported (p .answer) (λ a. First (lookupRows (dirs (tables (now («dir_hash» .entry)) (now («dir_table» .entry)) (now («file_hash» .entry)) (now («file_table» .entry)))) (nameKey parent (now (name .entry)))) (lookupDone (dirs (tables (now («dir_hash» .entry)) (now («dir_table» .entry)) (now («file_hash» .entry)) (now («file_table» .entry)))) (nameKey parent (now (name .entry)))) (lookupGives a (p .inode) (p .compared))) ⌝ }
 {
     let key = SaveExtKey::new(parent, name);
-    let r = tree_inner::look::lookup(dir_hash, dir_table, SaveExtDirEntry::WIDTH, key);
+    let r = tree_look::lookup(dir_hash, dir_table, SaveExtDirEntry::WIDTH, key);
     let answer = r.answer;
     Found {
         answer: order::number(answer),
@@ -49,7 +49,7 @@ pub extern "C" fn mukthiban_tested_tree_lookup_file(
     ensures { λ p. ⌜ Exported (p .answer) (λ a. First (lookupRows (files (tables (now («dir_hash» .entry)) (now («dir_table» .entry)) (now («file_hash» .entry)) (now («file_table» .entry)))) (nameKey parent (now (name .entry)))) (lookupDone (files (tables (now («dir_hash» .entry)) (now («dir_table» .entry)) (now («file_hash» .entry)) (now («file_table» .entry)))) (nameKey parent (now (name .entry)))) (lookupGives a (p .inode) (p .compared))) ⌝ }
 {
     let key = SaveExtKey::new(parent, name);
-    let r = tree_inner::look::lookup(file_hash, file_table, SaveExtFileEntry::WIDTH, key);
+    let r = tree_look::lookup(file_hash, file_table, SaveExtFileEntry::WIDTH, key);
     let answer = r.answer;
     Found {
         answer: order::number(answer),
@@ -70,7 +70,7 @@ pub extern "C" fn mukthiban_tested_tree_list_dirs(
     requires { ⌜ Ready (tables (now «dir_hash») (now «dir_table») (now «file_hash») (now «file_table»)) ⌝ }
     ensures { λ p. ⌜ Exported (p .answer) (λ a. ListDirs (tables (now («dir_hash» .entry)) (now («dir_table» .entry)) (now («file_hash» .entry)) (now («file_table» .entry))) inode (now (list .entry)) (listGives a (p .count) (now (list .exit)))) ⌝ }
 {
-    let r = tree_inner::look::list_dirs(dir_hash, dir_table, file_hash, file_table, inode, list);
+    let r = tree_look::list_dirs(dir_hash, dir_table, file_hash, file_table, inode, list);
     let answer = r.answer;
     Listed {
         answer: order::number(answer),
@@ -90,7 +90,7 @@ pub extern "C" fn mukthiban_tested_tree_list_files(
     requires { ⌜ Ready (tables (now «dir_hash») (now «dir_table») (now «file_hash») (now «file_table»)) ⌝ }
     ensures { λ p. ⌜ Exported (p .answer) (λ a. ListFiles (tables (now («dir_hash» .entry)) (now («dir_table» .entry)) (now («file_hash» .entry)) (now («file_table» .entry))) inode (now (list .entry)) (listGives a (p .count) (now (list .exit)))) ⌝ }
 {
-    let r = tree_inner::look::list_files(dir_hash, dir_table, file_hash, file_table, inode, list);
+    let r = tree_look::list_files(dir_hash, dir_table, file_hash, file_table, inode, list);
     let answer = r.answer;
     Listed {
         answer: order::number(answer),
@@ -108,7 +108,7 @@ pub extern "C" fn mukthiban_tested_tree_stat(
     requires { ⌜ Ready (tables (now «dir_hash») (now «dir_table») (now «file_hash») (now «file_table»)) ⌝ }
     ensures { λ p. ⌜ Exported (p .answer) (λ a. (statGives a (p .«dir_total») (p .«dir_free») (p .«file_total») (p .«file_free») ≡ statDone (tables (now («dir_hash» .entry)) (now («dir_table» .entry)) (now («file_hash» .entry)) (now («file_table» .entry))))) ⌝ }
 {
-    let r = tree_inner::look::stat(dir_hash, dir_table, file_hash, file_table);
+    let r = tree_look::stat(dir_hash, dir_table, file_hash, file_table);
     let answer = r.answer;
     Stat {
         answer: order::number(answer),

@@ -26,7 +26,7 @@ pub extern "C" fn mukthiban_tested_tree_open_dir(
     ensures { λ p. ⌜ Exported (p .answer) (λ a. OpenIn (dirs (tables (now («dir_hash» .entry)) (now («dir_table» .entry)) (now («file_hash» .entry)) (now («file_table» .entry)))) (packed.opens (now (opened .entry)) (now (opens .entry))) inode (wantOf kind) (openingIn a (packed.opens (now (opened .exit)) (now (opens .exit))))) ⌝ }
 {
     let want = want_of(kind);
-    let answer = tree_inner::look::open(
+    let answer = tree_look::open(
         dir_hash,
         dir_table,
         SaveExtDirEntry::WIDTH,
@@ -55,7 +55,7 @@ pub extern "C" fn mukthiban_tested_tree_open_file(
     ensures { λ p. ⌜ Exported (p .answer) (λ a. OpenIn (files (tables (now («dir_hash» .entry)) (now («dir_table» .entry)) (now («file_hash» .entry)) (now («file_table» .entry)))) (packed.opens (now (opened .entry)) (now (opens .entry))) inode (wantOf kind) (openingIn a (packed.opens (now (opened .exit)) (now (opens .exit))))) ⌝ }
 {
     let want = want_of(kind);
-    let answer = tree_inner::look::open(
+    let answer = tree_look::open(
         file_hash,
         file_table,
         SaveExtFileEntry::WIDTH,
@@ -84,7 +84,7 @@ pub extern "C" fn mukthiban_tested_tree_close_dir(
     ensures { λ p. ⌜ Exported (p .answer) (λ a. CloseIn (dirs (tables (now («dir_hash» .entry)) (now («dir_table» .entry)) (now («file_hash» .entry)) (now («file_table» .entry)))) (packed.opens (now (opened .entry)) (now (opens .entry))) inode (wantOf kind) (openingIn a (packed.opens (now (opened .exit)) (now (opens .exit))))) ⌝ }
 {
     let want = want_of(kind);
-    let answer = tree_inner::look::close(
+    let answer = tree_look::close(
         dir_hash,
         dir_table,
         SaveExtDirEntry::WIDTH,
@@ -113,7 +113,7 @@ pub extern "C" fn mukthiban_tested_tree_close_file(
     ensures { λ p. ⌜ Exported (p .answer) (λ a. CloseIn (files (tables (now («dir_hash» .entry)) (now («dir_table» .entry)) (now («file_hash» .entry)) (now («file_table» .entry)))) (packed.opens (now (opened .entry)) (now (opens .entry))) inode (wantOf kind) (openingIn a (packed.opens (now (opened .exit)) (now (opens .exit))))) ⌝ }
 {
     let want = want_of(kind);
-    let answer = tree_inner::look::close(
+    let answer = tree_look::close(
         file_hash,
         file_table,
         SaveExtFileEntry::WIDTH,

@@ -11,7 +11,7 @@ use Rattle.fat_node.proofs.Nodes.{node-one}
 use Rattle.fat_table.specs.Chain.{total}
 use Rattle.fat_table.proofs.Unchanged.{total-append}
 use Rattle.fat_promises.specs.Blocks.{blocksFrom, blocksOf}
-use Rattle.fat_inner.proofs.Lists.{sets-append, length-from}
+use Rattle.fat_walk.proofs.Blocks.{sets-append, length-from}
 use Rattle.salvage.specs.Follow.{salvaged}
 use Rattle.salvage.proofs.Bounds.{apart-none}
 use Rattle.salvage.proofs.Follows.{Stands, stop, node, left}

@@ -21,7 +21,7 @@ use Rattle.fat_node.specs.Sizes.{blocks, Misfit, Outside}
 use Rattle.fat_node.proofs.Sizes.{denied}
 use Rattle.fat_table.specs.Chain.{total}
 use Rattle.fat_promises.specs.Blocks.{blocksOf}
-use Rattle.fat_inner.proofs.Lists.{listed-is}
+use Rattle.fat_list.proofs.Lists.{listed-is}
 use Rattle.salvage.specs.Follow.{salvaged}
 use Rattle.salvage.specs.Calls.{Followed, chainGives, chainRows, chainDone, salvageGate, ChainPromise}
 use Rattle.salvage.specs.inner.Walks.{Tells, WalkSays, ChainSays}

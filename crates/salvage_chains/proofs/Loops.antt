@@ -13,7 +13,7 @@ use Rattle.fat_node.specs.Entry.{Bytes}
 use Rattle.fat_node.proofs.Nodes.{le-or-lt}
 use Rattle.fat_table.specs.Chain.{total}
 use Rattle.fat_promises.specs.Blocks.{blocksOf}
-use Rattle.fat_inner.proofs.Lists.{sets-append, length-blocks}
+use Rattle.fat_walk.proofs.Blocks.{sets-append, length-blocks}
 use Rattle.salvage.specs.Follow.{Salvage, salvage, salvaged}
 use Rattle.salvage.specs.inner.Walks.{WalkSays}
 use Rattle.salvage.proofs.Walks.{look-out, clear-below}

@@ -17,7 +17,7 @@ use Rattle.fat_node.proofs.Cases.{untrue}
 use Rattle.fat_node.proofs.Sizes.{denied, fit, inside}
 use Rattle.fat_table.specs.Chain.{total}
 use Rattle.fat_promises.specs.Blocks.{blocksOf}
-use Rattle.fat_inner.proofs.Lists.{length-blocks}
+use Rattle.fat_walk.proofs.Blocks.{length-blocks}
 use Rattle.salvage.specs.Follow.{Salvage}
 use Rattle.salvage_shared.specs.Calls.{sharedGate}
 use Rattle.salvage_shared.specs.inner.Says.{Sized}

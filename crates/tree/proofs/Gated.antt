@@ -21,10 +21,10 @@ use Rattle.tree_promises.specs.Packed.{Outcome, gives, openTests, openDone, clo
 use Rattle.tree_promises.specs.Steps.{withCarried}
 use Rattle.tree_promises.specs.Calls.{carryGives, carryRows, carryDone}
 use Rattle.tree_promises.specs.Public.{SetCarriedDirPromise, SetCarriedFilePromise}
-use Rattle.tree_inner.proofs.Opens.{seen, set-dir, set-file}
+use Rattle.tree_look.proofs.Opens.{seen, set-dir, set-file}
 use Rattle.tree_promises.specs.declared.Kind.{Kind}
 use Rattle.tree_promises.proofs.Gated.{tree-passed, tree-ready, packed-passed, packed-ready}
-use Rattle.tree_inner.proofs.Lists.{dir-single, file-single}
+use Rattle.tree_look.proofs.Lists.{dir-single, file-single}
 use Rattle.tree.specs.Name.{kindName, nameTests, NameAnswerPromise, NamePromise}
 
 module _ (dh d fh f work work′ : List ℕ) (g : Gated) (e : g ≡ Open) where

@@ -4,8 +4,8 @@ ghost use Rattle.tree_sound.specs.Tables.{Tables, tables};
 ghost use Rattle.tree_promises.specs.Calls.{shownGives, carryGives};
 ghost use Rattle.tree_promises.specs.Public.{CarriedDirPromise, CarriedFilePromise, SetCarriedDirPromise, SetCarriedFilePromise};
 use order::Answer;
-use tree_inner::carry::CarriedDir;
-use tree_inner::carry::CarriedFile;
+use tree_carry::CarriedDir;
+use tree_carry::CarriedFile;
 use tree_test::Gated;
 
 // Reads the 4 bytes that directory `inode` carries for the caller. Done: the bytes; refused: zeros.
@@ -26,7 +26,7 @@ pub fn carried_dir(
             answer,
             bytes: [0u8; 4],
         },
-        Gated::Open => tree_inner::carry::carried_dir(dir_hash, dir_table, inode),
+        Gated::Open => tree_carry::carried_dir(dir_hash, dir_table, inode),
     }
 }
 
@@ -48,7 +48,7 @@ pub fn carried_file(
             answer,
             bytes: [0u8; 20],
         },
-        Gated::Open => tree_inner::carry::carried_file(file_hash, file_table, inode),
+        Gated::Open => tree_carry::carried_file(file_hash, file_table, inode),
     }
 }
 
@@ -69,7 +69,7 @@ pub fn set_carried_dir(
     let gated = tree_test::gate(dir_hash, dir_table, file_hash, file_table, work);
     match gated {
         Gated::Refused { answer } => answer,
-        Gated::Open => tree_inner::carry::set_carried_dir(dir_hash, dir_table, inode, padding),
+        Gated::Open => tree_carry::set_carried_dir(dir_hash, dir_table, inode, padding),
     }
 }
 
@@ -90,6 +90,6 @@ pub fn set_carried_file(
     let gated = tree_test::gate(dir_hash, dir_table, file_hash, file_table, work);
     match gated {
         Gated::Refused { answer } => answer,
-        Gated::Open => tree_inner::carry::set_carried_file(file_hash, file_table, inode, carried),
+        Gated::Open => tree_carry::set_carried_file(file_hash, file_table, inode, carried),
     }
 }

@@ -1,5 +1,5 @@
 // The public calls that change the entry tables: make, rename and delete. Every call takes all four tables, a work list and the packed list of its own table's
-// open records with the number of records in it; it tests sizes and soundness, and then does its work by the call of tree_inner that requires soundness. What
+// open records with the number of records in it; it tests sizes and soundness, and then does its work by the call inside that requires soundness. What
 // each promises on all inputs stands in tree_promises's specs/Packed.antt. A refusal gives its number and changes nothing but the work list.
 ghost use Rattle.order.specs.Beside.{beside};
 ghost use Rattle.tree_sound.specs.Tables.{Tables, tables};
@@ -7,7 +7,7 @@ ghost use Rattle.tree_packed.specs.Opens.{opens};
 ghost use Rattle.tree_promises.specs.declared.Kind.the-variants.{Directory, File};
 ghost use Rattle.tree_promises.specs.Packed.{gives, PackedMake, PackedRename, PackedDelete};
 use order::Answer;
-use tree_inner::make::Made;
+use tree_make::Made;
 use tree_test::Gated;
 
 // Makes a directory in a parent. Done: its inode; it is the first of its parent and of its bucket, has no children, carries the padding, and is held by its writer.
@@ -31,7 +31,7 @@ pub fn make_dir(
     let gated = tree_test::open_gate(dir_hash, dir_table, file_hash, file_table, list, k, work);
     match gated {
         Gated::Refused { answer } => Made { answer, inode: 0 },
-        Gated::Open => tree_inner::make::make_dir(
+        Gated::Open => tree_make::make_dir(
             dir_hash,
             dir_table,
             file_hash,
@@ -66,7 +66,7 @@ pub fn make_file(
     let gated = tree_test::open_gate(dir_hash, dir_table, file_hash, file_table, list, k, work);
     match gated {
         Gated::Refused { answer } => Made { answer, inode: 0 },
-        Gated::Open => tree_inner::make::make_file(
+        Gated::Open => tree_make::make_file(
             dir_hash,
             dir_table,
             file_hash,
@@ -108,7 +108,7 @@ pub fn rename_dir(
     );
     match gated {
         Gated::Refused { answer } => answer,
-        Gated::Open => tree_inner::change::rename_dir(
+        Gated::Open => tree_change::rename_dir(
             dir_hash,
             dir_table,
             file_hash,
@@ -150,7 +150,7 @@ pub fn rename_file(
     );
     match gated {
         Gated::Refused { answer } => answer,
-        Gated::Open => tree_inner::change::rename_file(
+        Gated::Open => tree_change::rename_file(
             dir_hash,
             dir_table,
             file_hash,
@@ -183,7 +183,7 @@ pub fn delete_dir(
     let gated = tree_test::open_gate(dir_hash, dir_table, file_hash, file_table, list, k, work);
     match gated {
         Gated::Refused { answer } => answer,
-        Gated::Open => tree_inner::change::delete_dir(
+        Gated::Open => tree_change::delete_dir(
             dir_hash,
             dir_table,
             file_hash,
@@ -214,7 +214,7 @@ pub fn delete_file(
     let gated = tree_test::open_gate(dir_hash, dir_table, file_hash, file_table, list, k, work);
     match gated {
         Gated::Refused { answer } => answer,
-        Gated::Open => tree_inner::change::delete_file(
+        Gated::Open => tree_change::delete_file(
             dir_hash,
             dir_table,
             file_hash,

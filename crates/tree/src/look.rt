@@ -3,12 +3,12 @@ ghost use Rattle.order.specs.Beside.{beside};
 ghost use Rattle.tree_sound.specs.Tables.{Tables, tables, dirs, files};
 ghost use Rattle.tree_promises.specs.Calls.{lookupGives, listGives, statGives};
 ghost use Rattle.tree_promises.specs.Public.{LookupPromise, ListPromise, StatPromise};
-use tree_inner::look::Listed;
-use tree_inner::look::Looked;
-use tree_inner::look::MetaStat;
 use tree_key::SaveExtDirEntry;
 use tree_key::SaveExtFileEntry;
 use tree_key::SaveExtKey;
+use tree_look::Listed;
+use tree_look::Looked;
+use tree_look::MetaStat;
 use tree_test::Gated;
 
 // Looks up a directory by its parent and its name. Done: its inode, and its place in its bucket as the number of entries compared.
@@ -32,7 +32,7 @@ pub fn lookup_dir(
             inode: 0,
             compared: 0,
         },
-        Gated::Open => tree_inner::look::lookup(
+        Gated::Open => tree_look::lookup(
             dir_hash,
             dir_table,
             SaveExtDirEntry::WIDTH,
@@ -62,7 +62,7 @@ pub fn lookup_file(
             inode: 0,
             compared: 0,
         },
-        Gated::Open => tree_inner::look::lookup(
+        Gated::Open => tree_look::lookup(
             file_hash,
             file_table,
             SaveExtFileEntry::WIDTH,
@@ -88,7 +88,7 @@ pub fn list_dirs(
     let gated = tree_test::gate(dir_hash, dir_table, file_hash, file_table, work);
     match gated {
         Gated::Refused { answer } => Listed { answer, count: 0 },
-        Gated::Open => tree_inner::look::list_dirs(
+        Gated::Open => tree_look::list_dirs(
             dir_hash,
             dir_table,
             file_hash,
@@ -116,7 +116,7 @@ pub fn list_files(
     let gated = tree_test::gate(dir_hash, dir_table, file_hash, file_table, work);
     match gated {
         Gated::Refused { answer } => Listed { answer, count: 0 },
-        Gated::Open => tree_inner::look::list_files(
+        Gated::Open => tree_look::list_files(
             dir_hash,
             dir_table,
             file_hash,
@@ -148,6 +148,6 @@ pub fn stat(
             file_total: 0,
             file_free: 0,
         },
-        Gated::Open => tree_inner::look::stat(dir_hash, dir_table, file_hash, file_table),
+        Gated::Open => tree_look::stat(dir_hash, dir_table, file_hash, file_table),
     }
 }

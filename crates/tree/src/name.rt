@@ -24,7 +24,7 @@ fn answer_in(hash: &[u8], table: &[u8], w: usize, x: u32) -> NameAnswer
     requires { ⌜ Single (now hash) (now table) w ⌝ }
     ensures { λ r. ⌜ First (giving (λ a. a) (liveTests (alone w (now (table .entry))) x)) Done (r .answer) ⌝ }
 {
-    if !tree_inner::look::live(hash, table, w, x) {
+    if !tree_look::live(hash, table, w, x) {
         return NameAnswer {
             answer: Answer::NotFound,
         };
@@ -39,10 +39,10 @@ fn part_in<'a>(hash: &[u8], table: &'a [u8], w: usize, x: u32) -> &'a [u8]
     requires { ⌜ Single (now hash) (now table) w ⌝ }
     ensures { λ r. ⌜ First (giving (λ a. []) (liveTests (alone w (now (table .entry))) x)) (part w (now (table .entry)) x 4 16) (now r) ⌝ }
 {
-    if !tree_inner::look::live(hash, table, w, x) {
+    if !tree_look::live(hash, table, w, x) {
         return &table[..0];
     }
-    tree_inner::carry::name_part(table, w, x)
+    tree_carry::name_part(table, w, x)
 }
 
 // Whether there is a name to show. Done: entry `inode` of that kind is live.

@@ -30,7 +30,7 @@ pub fn open_dir(
     let gated = tree_test::open_gate(dir_hash, dir_table, file_hash, file_table, list, k, work);
     match gated {
         Gated::Refused { answer } => answer,
-        Gated::Open => tree_inner::look::open(
+        Gated::Open => tree_look::open(
             dir_hash,
             dir_table,
             SaveExtDirEntry::WIDTH,
@@ -62,7 +62,7 @@ pub fn open_file(
     let gated = tree_test::open_gate(dir_hash, dir_table, file_hash, file_table, list, k, work);
     match gated {
         Gated::Refused { answer } => answer,
-        Gated::Open => tree_inner::look::open(
+        Gated::Open => tree_look::open(
             file_hash,
             file_table,
             SaveExtFileEntry::WIDTH,
@@ -94,7 +94,7 @@ pub fn close_dir(
     let gated = tree_test::open_gate(dir_hash, dir_table, file_hash, file_table, list, k, work);
     match gated {
         Gated::Refused { answer } => answer,
-        Gated::Open => tree_inner::look::close(
+        Gated::Open => tree_look::close(
             dir_hash,
             dir_table,
             SaveExtDirEntry::WIDTH,
@@ -126,7 +126,7 @@ pub fn close_file(
     let gated = tree_test::open_gate(dir_hash, dir_table, file_hash, file_table, list, k, work);
     match gated {
         Gated::Refused { answer } => answer,
-        Gated::Open => tree_inner::look::close(
+        Gated::Open => tree_look::close(
             file_hash,
             file_table,
             SaveExtFileEntry::WIDTH,

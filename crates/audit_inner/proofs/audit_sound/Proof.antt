@@ -1,5 +1,5 @@
 use Rattle.audit_inner.proofs.Sweeping.{audit-says, audit-clear}
-use Rattle.fat_inner.proofs.Found.{are-bytes}
+use Rattle.fat_walk.proofs.Found.{are-bytes}
 use borrow.Author.Needs.{needs}
 use Rattle.audit_inner.proofs.audit_sound.Statement.{statement}
 use Rattle.audit_inner.proofs.audit_sound.Tie as tie

@@ -1,5 +1,5 @@
 use Rattle.audit_inner.proofs.Marking.{node-behind, node-free, node-file, node-fits, node-chain}
-use Rattle.fat_inner.proofs.Found.{file-from, are-bytes}
+use Rattle.fat_walk.proofs.Found.{file-from, are-bytes}
 use borrow.Author.Needs.{needs}
 use Rattle.audit_inner.proofs.chain_at.Statement.{statement}
 use Rattle.audit_inner.proofs.chain_at.Tie as tie

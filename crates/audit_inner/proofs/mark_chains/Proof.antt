@@ -1,6 +1,6 @@
 use Rattle.audit_inner.proofs.Marking.{Going, going-begin, going-node, going-standing, going-fits, going-less, going-on, going-end}
 use native.Mathlib.Omega.{arith}
-use Rattle.fat_inner.proofs.Found.{are-bytes}
+use Rattle.fat_walk.proofs.Found.{are-bytes}
 use Prim.Native.Nat.{_-_}
 use borrow.Author.Needs.{needs}
 use Rattle.audit_inner.proofs.mark_chains.Statement.{statement}
@@ -8,8 +8,8 @@ use Rattle.audit_inner.proofs.mark_chains.Tie as tie
 use Rattle.audit_inner.proofs.mark_chains.Reads as reads
 use Rattle.audit_inner.proofs.mark_chains.Lts as lts
 use Rattle.audit_inner.proofs.chain_at.Reads as chain-at-reads
-use Rattle.fat_inner.proofs.walk.head_of.Reads as head-of-reads
-use Rattle.fat_inner.proofs.walk.size_at.Reads as size-at-reads
+use Rattle.fat_walk.proofs.head_of.Reads as head-of-reads
+use Rattle.fat_walk.proofs.size_at.Reads as size-at-reads
 
 abbrev Inv-loop : tie.InvT-loop
 Inv-loop table n work₀ head b₀ work b = Going n table work₀ work b

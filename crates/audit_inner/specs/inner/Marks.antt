@@ -9,7 +9,7 @@ use lib.ListN.{length, getD, replicate}
 use lib.Seq.{sets}
 use Rattle.links.specs.Links.{_∈_, Links}
 use Rattle.fat_node.specs.Entry.{Bytes, top}
-use Rattle.fat_inner.specs.Volume.{Volume}
+use Rattle.fat_walk.specs.Volume.{Volume}
 use Rattle.tree_table.specs.Field.{field, collisionField}
 use Rattle.tree_marks.specs.inner.Marks.{gone}
 use Rattle.audit_inner.specs.Findings.{Subject, Finding, finding, named, astray, shared, over, when, fileFindings, blockFindings, findings, flat}

@@ -1,5 +1,5 @@
 use borrow.Author.Needs.{needs}
-use Rattle.fat_inner.proofs.Found.{are-bytes}
+use Rattle.fat_walk.proofs.Found.{are-bytes}
 use Rattle.fat_first.proofs.Gives.{create-shut, create-left, create-turnable, create-done}
 use Rattle.fat_first.proofs.create.Statement.{statement}
 use Rattle.fat_first.proofs.create.Tie as tie

@@ -1,5 +1,5 @@
 use borrow.Author.Needs.{needs}
-use Rattle.fat_inner.proofs.Found.{are-bytes}
+use Rattle.fat_walk.proofs.Found.{are-bytes}
 use Rattle.fat_first.proofs.Gives.{delete-shut, delete-left, delete-turnable, delete-done}
 use Rattle.fat_first.proofs.delete.Statement.{statement}
 use Rattle.fat_first.proofs.delete.Tie as tie

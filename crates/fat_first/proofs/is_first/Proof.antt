@@ -1,5 +1,5 @@
-use Rattle.fat_inner.proofs.Hops.{file-out}
-use Rattle.fat_inner.proofs.Found.{are-bytes}
+use Rattle.fat_walk.proofs.Hops.{file-out}
+use Rattle.fat_walk.proofs.Found.{are-bytes}
 use Rattle.fat_first.proofs.Builds.{first-long, first-says}
 use Rattle.fat_first.proofs.is_first.Statement.{statement}
 use Rattle.fat_first.proofs.is_first.Tie as tie

@@ -1,5 +1,5 @@
 use borrow.Author.Needs.{needs}
-use Rattle.fat_inner.proofs.Found.{are-bytes}
+use Rattle.fat_walk.proofs.Found.{are-bytes}
 use Rattle.fat_first.proofs.Builds.{node-fits, node-room, mark-later, mark-free, mark-turnable, mark-done}
 use Rattle.fat_first.proofs.mark_first.Statement.{statement}
 use Rattle.fat_first.proofs.mark_first.Tie as tie

@@ -1,7 +1,7 @@
 use native.Mathlib.Omega.{arith}
 use Prim.Native.Nat.{_-_}
 use borrow.Author.Needs.{needs}
-use Rattle.fat_inner.proofs.Found.{are-bytes}
+use Rattle.fat_walk.proofs.Found.{are-bytes}
 use Rattle.fat_first.proofs.Builds.{Building, building-begin, building-node, building-shows, building-standing, building-fits, building-less, building-on, building-end}
 use Rattle.fat_first.proofs.mark_firsts.Statement.{statement}
 use Rattle.fat_first.proofs.mark_firsts.Tie as tie

@@ -1,5 +1,5 @@
 use borrow.Author.Needs.{needs}
-use Rattle.fat_inner.proofs.Found.{are-bytes}
+use Rattle.fat_walk.proofs.Found.{are-bytes}
 use Rattle.fat_first.proofs.Gives.{resize-shut, resize-first}
 use Rattle.fat_first.proofs.resize.Statement.{statement}
 use Rattle.fat_first.proofs.resize.Tie as tie

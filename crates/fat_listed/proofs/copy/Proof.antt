@@ -3,7 +3,7 @@ use Prim.Native.Nat.{_-_}
 use native.Mathlib.Omega.{arith}
 use borrow.Author.Needs.{needs}
 use lib.ListN.{length}
-use Rattle.fat_inner.proofs.Copied.{Copied, copied-turn, copied-end}
+use Rattle.fat_copy.proofs.Copied.{Copied, copied-turn, copied-end}
 use Rattle.fat_listed.proofs.copy.Statement.{statement}
 use Rattle.fat_listed.proofs.copy.Tie as tie
 

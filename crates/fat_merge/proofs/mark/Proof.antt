@@ -2,7 +2,7 @@ use native.Mathlib.Omega.{arith}
 use borrow.Author.Needs.{needs}
 use lib.ListN.{length}
 use Rattle.fat_table.specs.Chain.{chainAt}
-use Rattle.fat_inner.proofs.Found.{are-bytes}
+use Rattle.fat_walk.proofs.Found.{are-bytes}
 use Rattle.fat_merge.proofs.Marked.{Walking, walk-begin, walk-next, walk-less, walk-end}
 use Rattle.fat_merge.proofs.mark.Statement.{statement}
 use Rattle.fat_merge.proofs.mark.Tie as tie

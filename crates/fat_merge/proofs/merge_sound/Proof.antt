@@ -1,6 +1,6 @@
 use native.Mathlib.Omega.{arith}
 use borrow.Author.Needs.{needs}
-use Rattle.fat_inner.proofs.Found.{are-bytes}
+use Rattle.fat_walk.proofs.Found.{are-bytes}
 use Rattle.fat_merge.proofs.Merging.{merge-long, merge-reading, merge-from, merge-met, merge-low, merge-room, merge-done, merge-clear, index-small}
 use Rattle.fat_merge.proofs.merge_sound.Statement.{statement}
 use Rattle.fat_merge.proofs.merge_sound.Tie as tie

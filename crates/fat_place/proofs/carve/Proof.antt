@@ -2,7 +2,7 @@ use native.Mathlib.Omega.{arith}
 use borrow.Author.Needs.{needs}
 use lib.ListN.{length}
 use Rattle.fat_table.specs.Chain.{chainAt}
-use Rattle.fat_inner.proofs.Found.{are-bytes}
+use Rattle.fat_walk.proofs.Found.{are-bytes}
 use Rattle.fat_place.proofs.Carving.{Carving, carve-begin, carve-end, carve-standing, carve-fits, carve-next, carve-less}
 use Rattle.fat_place.proofs.carve.Statement.{statement}
 use Rattle.fat_place.proofs.carve.Tie as tie

@@ -1,7 +1,7 @@
 use mathlib.Core.Path.{refl}
 use native.Mathlib.Omega.{arith}
 use borrow.Author.Needs.{needs}
-use Rattle.fat_inner.proofs.Found.{are-bytes}
+use Rattle.fat_walk.proofs.Found.{are-bytes}
 use Rattle.fat_place.proofs.Placing.{place-low, place-long, place-done}
 use Rattle.fat_place.proofs.place_step.Statement.{statement}
 use Rattle.fat_place.proofs.place_step.Tie as tie

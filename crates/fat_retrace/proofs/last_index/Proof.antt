@@ -1,6 +1,6 @@
 use native.Mathlib.Omega.{arith}
 use Rattle.fat_retrace.proofs.Gives.{index-none, index-last}
-use Rattle.fat_inner.proofs.Found.{last-standing}
+use Rattle.fat_walk.proofs.Found.{last-standing}
 use borrow.Author.Needs.{needs}
 use Rattle.fat_retrace.proofs.last_index.Statement.{statement}
 use Rattle.fat_retrace.proofs.last_index.Tie as tie

@@ -1,5 +1,5 @@
 use borrow.Author.Needs.{needs}
-use Rattle.fat_inner.proofs.Found.{are-bytes}
+use Rattle.fat_walk.proofs.Found.{are-bytes}
 use Rattle.kiosk_create.proofs.Kiosk.{none-asked, none-fit, fit-opens, fit-inside, fit-done}
 use Rattle.kiosk_create.proofs.create_sound.Statement.{statement}
 use Rattle.kiosk_create.proofs.create_sound.Tie as tie

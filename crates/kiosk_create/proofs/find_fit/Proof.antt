@@ -1,7 +1,7 @@
 use borrow.Author.Needs.{needs}
 use lib.ListN.{length}
 use Rattle.fat_table.specs.Chain.{chainAt}
-use Rattle.fat_inner.proofs.Found.{are-bytes}
+use Rattle.fat_walk.proofs.Found.{are-bytes}
 use Rattle.kiosk_create.proofs.Fitting.{Fitting, at-least, fit-begin, fit-end, fit-standing, fit-room, fit-here, fit-next, fit-less}
 use Rattle.kiosk_create.proofs.find_fit.Statement.{statement}
 use Rattle.kiosk_create.proofs.find_fit.Tie as tie

@@ -1,5 +1,5 @@
 use Rattle.kiosk_inner.proofs.Rules.{swept}
-use Rattle.fat_inner.proofs.Found.{are-bytes}
+use Rattle.fat_walk.proofs.Found.{are-bytes}
 use borrow.Author.Needs.{needs}
 use Rattle.kiosk_inner.proofs.count_findings.Statement.{statement}
 use Rattle.kiosk_inner.proofs.count_findings.Tie as tie

@@ -1,7 +1,7 @@
 use Rattle.kiosk_inner.proofs.Chains.{Going, going-begin, going-standing, going-room, going-few, going-fits, going-less, going-found, going-on, going-end}
 use borrow.Author.Needs.{needs}
 use native.Mathlib.Omega.{arith}
-use Rattle.fat_inner.proofs.Found.{are-bytes}
+use Rattle.fat_walk.proofs.Found.{are-bytes}
 use Prim.Native.Nat.{_-_}
 use Rattle.kiosk_inner.proofs.is_scattered.Statement.{statement}
 use Rattle.kiosk_inner.proofs.is_scattered.Tie as tie

@@ -1,4 +1,4 @@
-use Rattle.fat_inner.proofs.Found.{are-bytes}
+use Rattle.fat_walk.proofs.Found.{are-bytes}
 use Rattle.map_inner.proofs.Kept.{create-zero, all-out, create-full, cut-at, front-some, create-cut}
 use borrow.Author.Needs.{needs}
 use Rattle.map_inner.proofs.create_mapped.Statement.{statement}

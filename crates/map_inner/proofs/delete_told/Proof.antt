@@ -1,5 +1,5 @@
-use Rattle.fat_inner.proofs.Steps.{delete-goes}
-use Rattle.fat_inner.proofs.Found.{are-bytes}
+use Rattle.fat_step.proofs.Steps.{delete-goes}
+use Rattle.fat_walk.proofs.Found.{are-bytes}
 use Rattle.map_inner.proofs.Kept.{delete-left, delete-file, delete-mapped}
 use borrow.Author.Needs.{needs}
 use Rattle.map_inner.proofs.delete_told.Statement.{statement}

@@ -1,4 +1,4 @@
-use Rattle.fat_inner.proofs.Found.{are-bytes}
+use Rattle.fat_walk.proofs.Found.{are-bytes}
 use Rattle.map_inner.proofs.Moves.{give-goes, give-done}
 use borrow.Author.Needs.{needs}
 use Rattle.map_inner.proofs.give.Statement.{statement}

@@ -1,6 +1,6 @@
 use native.Mathlib.Omega.{arith}
 use mathlib.Core.Path.{refl}
-use Rattle.fat_inner.proofs.Found.{are-bytes}
+use Rattle.fat_walk.proofs.Found.{are-bytes}
 use Rattle.map_inner.proofs.Moves.{cut-standing, cut-room, cut-fits, cut-turnable, cut-goes, cut-done}
 use borrow.Author.Needs.{needs}
 use Rattle.map_inner.proofs.give_rest.Statement.{statement}

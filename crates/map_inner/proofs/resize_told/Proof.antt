@@ -1,5 +1,5 @@
-use Rattle.fat_inner.proofs.Steps.{shrink-goes, grow-goes}
-use Rattle.fat_inner.proofs.Found.{are-bytes}
+use Rattle.fat_step.proofs.Steps.{shrink-goes, grow-goes}
+use Rattle.fat_walk.proofs.Found.{are-bytes}
 use Rattle.map_inner.proofs.Kept.{resize-left, resize-same, shrink-cut, shrink-mapped, grow-take, grow-mapped}
 use borrow.Author.Needs.{needs}
 use Rattle.map_inner.proofs.resize_told.Statement.{statement}

@@ -1,5 +1,5 @@
 use borrow.Author.Needs.{needs}
-use Rattle.fat_inner.proofs.Found.{are-bytes}
+use Rattle.fat_walk.proofs.Found.{are-bytes}
 use Rattle.map_inner.proofs.Takes.{Taking, taking-begin, taking-long, taking-past, taking-at, taking-room, taking-size, taking-turnable, taking-less, taking-next, taking-part, taking-cut, taking-within}
 use Rattle.map_inner.proofs.seek_take.Statement.{statement}
 use Rattle.map_inner.proofs.seek_take.Tie as tie

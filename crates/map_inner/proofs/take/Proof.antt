@@ -1,5 +1,5 @@
 use native.Mathlib.Omega.{arith}
-use Rattle.fat_inner.proofs.Found.{are-bytes}
+use Rattle.fat_walk.proofs.Found.{are-bytes}
 use Rattle.map_inner.proofs.Moves.{take-next, take-end, take-goes, take-turnable, take-done}
 use borrow.Author.Needs.{needs}
 use Rattle.map_inner.proofs.take.Statement.{statement}

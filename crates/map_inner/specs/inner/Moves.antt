@@ -11,9 +11,9 @@ use Rattle.fat_table.specs.Sound.{File}
 use Rattle.fat_table.specs.Chain.{freeAt, fileAt}
 use Rattle.fat_table.specs.Layout.{left, covers}
 use Rattle.fat_table.specs.Steps.{first}
-use Rattle.fat_inner.specs.inner.Chains.{Chain, Inside, Beyond}
-use Rattle.fat_inner.specs.declared.walk.Sought.{Sought}
-use Rattle.fat_inner.specs.declared.walk.Sought.the-variants.{Within, Past}
+use Rattle.fat_walk.specs.inner.Chains.{Chain, Inside, Beyond}
+use Rattle.fat_walk.specs.declared.Sought.{Sought}
+use Rattle.fat_walk.specs.declared.Sought.the-variants.{Within, Past}
 
 -- the runs l of a chain of the table, from the node that index i names up to and without the one that index stop names, or to the chain's end
 pub record Segment (n : ℕ) (t : Bytes) (i stop : ℕ) (l : List Run) : Type 0 where

@@ -1,4 +1,4 @@
-use Rattle.fat_inner.proofs.Lists.{Numbering, number-begin, number-turn, number-end}
+use Rattle.fat_list.proofs.Lists.{Numbering, number-begin, number-turn, number-end}
 use native.Mathlib.Omega.{arith}
 use borrow.Author.Needs.{needs}
 use Prim.Native.Nat.{_-_}

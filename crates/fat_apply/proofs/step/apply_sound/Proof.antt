@@ -1,5 +1,5 @@
 use borrow.Author.Needs.{needs}
-use Rattle.fat_inner.proofs.Found.{are-bytes}
+use Rattle.fat_walk.proofs.Found.{are-bytes}
 use Rattle.fat_apply.proofs.Steps.{apply-refused, apply-may, apply-done}
 use Rattle.fat_apply.proofs.step.apply_sound.Statement.{statement}
 use Rattle.fat_apply.proofs.step.apply_sound.Tie as tie

@@ -1,6 +1,6 @@
 use mathlib.Core.Path.{refl}
 use borrow.Author.Needs.{needs}
-use Rattle.fat_inner.proofs.Found.{are-bytes}
+use Rattle.fat_walk.proofs.Found.{are-bytes}
 use Rattle.fat_apply.proofs.Steps.{step-long, step-movable, step-window, step-within, step-volume, step-done}
 use Rattle.fat_apply.proofs.step.apply_step.Statement.{statement}
 use Rattle.fat_apply.proofs.step.apply_step.Tie as tie

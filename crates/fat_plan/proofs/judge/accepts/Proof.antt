@@ -1,6 +1,6 @@
 use native.Mathlib.Omega.{arith}
 use borrow.Author.Needs.{needs}
-use Rattle.fat_inner.proofs.Found.{are-bytes}
+use Rattle.fat_walk.proofs.Found.{are-bytes}
 use Rattle.fat_merge.proofs.Merging.{merge-long}
 use Rattle.fat_plan.proofs.Judges.{accept-not, accept-long, accept-says, blocks-clear}
 use Rattle.fat_plan.proofs.judge.accepts.Statement.{statement}

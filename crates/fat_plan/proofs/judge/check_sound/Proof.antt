@@ -1,6 +1,6 @@
 use native.Mathlib.Omega.{arith}
 use borrow.Author.Needs.{needs}
-use Rattle.fat_inner.proofs.Found.{are-bytes}
+use Rattle.fat_walk.proofs.Found.{are-bytes}
 use Rattle.fat_plan.proofs.Judges.{check-file, check-is, check-refused, check-done}
 use Rattle.fat_plan.proofs.judge.check_sound.Statement.{statement}
 use Rattle.fat_plan.proofs.judge.check_sound.Tie as tie

@@ -1,5 +1,5 @@
 use borrow.Author.Needs.{needs}
-use Rattle.fat_inner.proofs.Found.{are-bytes}
+use Rattle.fat_walk.proofs.Found.{are-bytes}
 use Rattle.fat_merge.proofs.Merging.{merge-long, marked-long, merge-reading}
 use Rattle.fat_plan.proofs.Judges.{open-said, cleared-is}
 use Rattle.fat_plan.proofs.judge.is_open.Statement.{statement}

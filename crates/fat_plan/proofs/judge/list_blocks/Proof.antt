@@ -1,5 +1,5 @@
 use borrow.Author.Needs.{needs}
-use Rattle.fat_inner.proofs.Found.{are-bytes}
+use Rattle.fat_walk.proofs.Found.{are-bytes}
 use Rattle.fat_plan.proofs.Judges.{blocks-in}
 use Rattle.fat_plan.proofs.judge.list_blocks.Statement.{statement}
 use Rattle.fat_plan.proofs.judge.list_blocks.Tie as tie

@@ -1,6 +1,6 @@
 use native.Mathlib.Omega.{arith}
 use borrow.Author.Needs.{needs}
-use Rattle.fat_inner.proofs.Found.{file-fits, file-from, are-bytes}
+use Rattle.fat_walk.proofs.Found.{file-fits, file-from, are-bytes}
 use Rattle.fat_plan.proofs.Finds.{find-file, find-is, find-double, find-space, find-short, find-found}
 use Rattle.fat_plan.proofs.planner.judge_find.Statement.{statement}
 use Rattle.fat_plan.proofs.planner.judge_find.Tie as tie

@@ -1,6 +1,6 @@
 -- `mukthiban_tested_tree_set_carried_dir` meets its contract.
 use Rattle.tree_sound.specs.Tables.{tables}
-use Rattle.tree_inner.proofs.Opens.{set-dir}
+use Rattle.tree_look.proofs.Opens.{set-dir}
 use borrow.Author.Needs.{needs}
 use Rattle.mukthiban.proofs.tested_carried.mukthiban_tested_tree_set_carried_dir.Statement.{
   statement,

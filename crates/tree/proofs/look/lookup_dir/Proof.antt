@@ -1,6 +1,6 @@
 use Rattle.tree_promises.proofs.Gated.{tree-refused, tree-passed}
 use Rattle.tree.proofs.Gated.{tree-dirs}
-use Rattle.tree_inner.proofs.Lookups.{with-key}
+use Rattle.tree_look.proofs.Lookups.{with-key}
 use borrow.Author.Needs.{needs}
 use Rattle.tree.proofs.look.lookup_dir.Statement.{statement}
 use Rattle.tree.proofs.look.lookup_dir.Tie as tie

@@ -1,6 +1,6 @@
 use Rattle.tree_promises.proofs.Gated.{tree-refused, tree-passed}
 use Rattle.tree.proofs.Gated.{tree-files}
-use Rattle.tree_inner.proofs.Lookups.{with-key}
+use Rattle.tree_look.proofs.Lookups.{with-key}
 use borrow.Author.Needs.{needs}
 use Rattle.tree.proofs.look.lookup_file.Statement.{statement}
 use Rattle.tree.proofs.look.lookup_file.Tie as tie

@@ -4,7 +4,7 @@ use mathlib.Core.Logic.{inl, inr}
 use native.Mathlib.Omega.{arith}
 use borrow.Author.Tests.{not-true, not-false}
 use Rattle.tree_test.proofs.Cases.{tells-not}
-use Rattle.tree_inner.proofs.Opens.{live-fits}
+use Rattle.tree_look.proofs.Opens.{live-fits}
 use borrow.Author.Needs.{needs}
 use Rattle.tree.proofs.name.part_in.Statement.{statement}
 use Rattle.tree.proofs.name.part_in.Tie as tie

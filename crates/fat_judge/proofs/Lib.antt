@@ -1,0 +1,4 @@
+pub mod Judges
+pub mod Rooms
+pub mod Cursors
+pub mod Reached

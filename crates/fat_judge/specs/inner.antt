@@ -1,0 +1,3 @@
+-- What the functions inside the calls ask for and say. No promise needs it.
+pub mod Plans
+pub mod Stretches

@@ -1,0 +1,5 @@
+pub mod Over
+pub mod Joins
+pub mod Few
+pub mod Cases
+pub mod Steps

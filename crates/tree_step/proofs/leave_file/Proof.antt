@@ -1,0 +1,28 @@
+use mathlib.Core.Path.{refl}
+use borrow.Author.Tests.{eq-eqb, ne-eqb}
+use borrow.Author.Needs.{needs}
+use Rattle.tree_step.proofs.leave_file.Statement.{statement}
+use Rattle.tree_step.proofs.leave_file.Tie as tie
+
+put-link-requires : tie.Need-put-link-requires
+put-link-requires c κs = search needs
+
+put-link-requires-2 : tie.Need-put-link-requires-2
+put-link-requires-2 c κs = search needs
+
+same-length : tie.Need-same-length
+same-length c = search needs
+
+returns : tie.Need-returns
+returns c = simp (eq-eqb _ _ (c .before .before .before .before .if1 .taken)) (c .before .before .put-link .ensures, refl)
+
+same-length-2 : tie.Need-same-length-2
+same-length-2 c = search needs
+
+returns-2 : tie.Need-returns-2
+returns-2 c = simp (ne-eqb _ _ (c .before .before .before .before .if1 .left)) (refl, c .before .before .put-link2 .ensures)
+
+pub leave-file-spec : {M : Type 1} → statement M
+leave-file-spec =
+    tie.close
+    (tie.spec put-link-requires put-link-requires-2 same-length returns same-length-2 returns-2)
