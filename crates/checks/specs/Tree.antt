@@ -29,7 +29,7 @@ key = nameKey 1 name
 abbrev pub junk : Tables
 junk = tables (replicate 20 0xA5) (replicate 160 0xA5) (replicate 4 0xA5) (replicate 48 0xA5)
 
--- the work list, and the directories' open counts
+-- the work list, and the directories' open records
 abbrev pub work5 : List ℕ
 work5 = replicate 5 0
 
@@ -114,7 +114,7 @@ lookupRoot = lookup 0 (replicate 16 0) (0 ∷ 1 ∷ 2 ∷ [])
 abbrev pub tree : History
 tree = record { State = Tables; start = junk; checks = formatTree ∷ makeDir ∷ lookupDir ∷ lookupRoot ∷ [] }
 
--- beside the P checks: the files' maximum is 1, so the first make of a file is NoSpace, with the tables and the open counts as they were
+-- beside the P checks: the files' maximum is 1, so the first make of a file is NoSpace, with the tables and the open records as they were
 abbrev pub makeFile : Check Tables
 makeFile =
     record {
