@@ -17,7 +17,7 @@ use fat_walk::size_at;
 use order::Answer;
 
 // Writes the numbers of size blocks from block b on into a list, from place at on.
-fn number_run(list: &mut [u32], at: usize, b: usize, size: usize)
+pub fn number_run(list: &mut [u32], at: usize, b: usize, size: usize)
     requires { ⌜ at + size ≤ length (now list) ⌝ }
     requires { ⌜ b + size ≤ 1000000 ⌝ }
     ensures { λ _. ⌜ now (list .exit) ≡ sets (now (list .entry)) at (blocksFrom size b) ⌝ }

@@ -1,6 +1,7 @@
 // One chain of a block table of any bytes, followed as far as it can be trusted.
 //
 // A turn of a loop is a node or a block, and a walk marks no block twice: what a call does is linear in the number of blocks, whatever stands in the table.
+use fat_list::number_run;
 use fat_node::Node;
 use fat_node::NodeRead;
 use order::Answer;
@@ -12,7 +13,7 @@ ghost use lib.Seq.{sets};
 ghost use Rattle.order.specs.Answer.{unbroken};
 ghost use Rattle.order.specs.Beside.{beside};
 ghost use Rattle.fat_table.specs.Chain.{total};
-ghost use Rattle.fat_promises.specs.Blocks.{blocksFrom, blocksOf};
+ghost use Rattle.fat_promises.specs.Blocks.{blocksOf};
 ghost use Rattle.salvage.specs.Follow.{missed, salvaged};
 ghost use Rattle.salvage.specs.Calls.{chainGives, ChainPromise};
 ghost use Rattle.salvage.specs.inner.Walks.{Standing, LookSays, Tells, Below, TakeSays, WalkSays, ChainSays};
@@ -126,19 +127,6 @@ pub fn walk(table: &[u8], n: usize, work: &mut [u32], first: usize, mark: u32) -
     Walked {
         count,
         why: Fault { entry: 0, rule: 0 },
-    }
-}
-
-// Writes the numbers of size blocks from block b on into a list, from place at on.
-fn number_run(list: &mut [u32], at: usize, b: usize, size: usize)
-    requires { ⌜ at + size ≤ length (now list) ⌝ }
-    requires { ⌜ b + size ≤ 1000000 ⌝ }
-    ensures { λ _. ⌜ now (list .exit) ≡ sets (now (list .entry)) at (blocksFrom size b) ⌝ }
-{
-    let mut k: usize = 0;
-    while k < size {
-        list[at + k] = (b + k) as u32;
-        k += 1;
     }
 }
 
