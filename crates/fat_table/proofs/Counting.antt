@@ -21,7 +21,8 @@ use Rattle.fat_table.proofs.Layouts.{EndToEnd, hits-in, hits-most, cove
 use Rattle.fat_table.proofs.Laying.{inside-of, first-inside}
 use Rattle.fat_table.proofs.Chains.{In, mem-perm, pick, mem-hits}
 use Rattle.fat_table.proofs.Stepped.{read-next}
-use Rattle.fat_table.proofs.Sounds.{node-size, holds-node, whole-covers, node-in, in-node, node-of, in-order}
+use Rattle.fat_table.proofs.Sounds.{node-size, holds-node, node-in, in-node, node-of, in-order}
+use Rattle.fat_table.proofs.Laid.{whole-covers}
 use Rattle.fat_table.proofs.Files.{Whole, seen}
 
 -- one sum, one count -----------------------------------------------------------------------------------

@@ -21,7 +21,8 @@ use Rattle.fat_table.specs.Counts.{nodes}
 use Rattle.fat_table.proofs.Layouts.{EndToEnd, covers-append, empties-append, end-after}
 use Rattle.fat_table.proofs.Chains as chains
 use Rattle.fat_table.proofs.Chains.{In, mem-perm, mem-left, zero-or-not, Linked, Named, Namer, path-next, path-prev}
-use Rattle.fat_table.proofs.Sounds.{Tied, tied-holds, node-size, laid-path, place, sound-holds, holds-sound, node-of, in-order, run-node, node-run}
+use Rattle.fat_table.proofs.Sounds.{Tied, tied-holds, node-size, sound-holds, holds-sound, node-of, in-order, run-node, node-run}
+use Rattle.fat_table.proofs.Laid.{laid-path, place}
 use Rattle.fat_table.proofs.Counting.{scan-read}
 use Rattle.fat_table.proofs.Files.{Whole, seen}
 

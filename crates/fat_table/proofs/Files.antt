@@ -20,7 +20,8 @@ use Rattle.fat_table.proofs.Layouts.{hits-in, hits-most, covers-append,
 use Rattle.fat_table.proofs.Laying.{length-lay}
 use Rattle.fat_table.proofs.Stepped.{free-read, file-read, holds-format, holds-create, holds-delete, holds-grow, holds-shrink, holds-order}
 use Rattle.fat_table.proofs.Chains.{mem-right, mem-either, chain-of, Linked, path-prev}
-use Rattle.fat_table.proofs.Sounds.{laid-path, sound-holds, holds-sound, run-node, node-run}
+use Rattle.fat_table.proofs.Sounds.{sound-holds, holds-sound, run-node, node-run}
+use Rattle.fat_table.proofs.Laid.{laid-path}
 
 pub first-covered : (l : List Run) (b : ℕ) → first l ≡ suc b → empties l ≡ 0 → 1 ≤ covers b l
 first-covered [] b e h = omega arith

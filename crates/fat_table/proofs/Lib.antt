@@ -3,6 +3,7 @@ pub mod Chains
 pub mod Laying
 pub mod Stepped
 pub mod Writes
+pub mod Laid
 pub mod Sounds
 pub mod Files
 pub mod Overwrites

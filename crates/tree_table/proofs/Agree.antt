@@ -13,7 +13,8 @@ use Rattle.links.proofs.Laws.{by-eq, kept}
 use Rattle.links.proofs.Held.{upd-same, upd-other, holds-kept}
 use Rattle.tree_key.specs.Hash.{hashOf}
 use Rattle.tree_table.specs.View.{View, parent, place, keyAt, viewOf, Live}
-use Rattle.tree_table.proofs.Table.{Here, Sound, link, not-zero}
+use Rattle.tree_table.proofs.Table.{not-zero}
+use Rattle.tree_table.proofs.Linked.{Here, Sound, link}
 
 pub record Agree (v v′ : View) : Type 0 where
   pub buckets : v′ .buckets ≡ v .buckets

@@ -1,4 +1,5 @@
 pub mod Field
+pub mod Linked
 pub mod Table
 pub mod Agree
 pub mod Steps

@@ -15,7 +15,8 @@ use Rattle.tree_table.specs.Field.{Write, write}
 use Rattle.tree_table.specs.View.{View, parent, place, keyAt, viewOf}
 use Rattle.tree_table.specs.Steps.{takeWrites, enterWrites, cutWrites, copyWrites, giveWrites, bucketBefore, childBefore, taken}
 use Rattle.tree_table.proofs.Field.{putAt, reads}
-use Rattle.tree_table.proofs.Table.{link, unlink, take, give, not-zero}
+use Rattle.tree_table.proofs.Table.{unlink, take, give, not-zero}
+use Rattle.tree_table.proofs.Linked.{link}
 use Rattle.tree_table.proofs.Agree.{Agree, keys5}
 
 pub reads-append : (ws vs : List Write) (m : ℕ → ℕ → ℕ) (y g : ℕ) → reads (ws ++ vs) m y g ≡ reads vs (reads ws m) y g
