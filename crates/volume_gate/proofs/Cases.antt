@@ -9,6 +9,7 @@ use lib.Seq.{length-take-le}
 use Rattle.order.specs.First.{Row, row}
 use Rattle.order.specs.Gate.{later, gate, cleared, Refusal, refusal}
 use Rattle.order.specs.Given.{Given, None}
+use Rattle.order.proofs.Gate.{later-says, later-past, past-later}
 use Rattle.order.specs.Answer.{numberOf}
 use Rattle.order.specs.declared.Answer.{Answer}
 use Rattle.order.specs.declared.Answer.the-variants.{SizeMismatch, InvalidValue, WorkTooShort, BrokenTree}
@@ -37,19 +38,6 @@ module _ (k : ℕ) (work : List ℕ) where
   later-answer [] a w z = absurd z
   later-answer (r ∷ rs) a w (inl p) = inl (p .0, ap (λ (x : Refusal). x .answer) (p .1))
   later-answer (r ∷ rs) a w (inr p) = inr (p .0, later-answer rs a w (p .1))
-
-  answer-later : (after : List (Row Answer)) (a : Answer) → Given after a → Given (later refusal k work after) (refusal a (cleared k work))
-  answer-later [] a z = absurd z
-  answer-later (r ∷ rs) a (inl p) = inl (p .0, ap (λ (x : Answer). refusal x (cleared k work)) (p .1))
-  answer-later (r ∷ rs) a (inr p) = inr (p .0, answer-later rs a (p .1))
-
-  later-none : (after : List (Row Answer)) → None (later refusal k work after) → None after
-  later-none [] n = tt
-  later-none (r ∷ rs) n = (n .0, later-none rs (n .1))
-
-  none-later : (after : List (Row Answer)) → None after → None (later refusal k work after)
-  none-later [] n = tt
-  none-later (r ∷ rs) n = (n .0, none-later rs (n .1))
 
 given-left : (rs qs : List (Row Answer)) (a : Answer) → Given rs a → Given (rs ++ qs) a
 given-left [] qs a z = absurd z
@@ -187,7 +175,7 @@ module _ (t : Bytes) (d l : ℕ) (s : Tables) (f : Fit t d l s) where
       opened = subst (fat.GateOf t d l work work′) e says
 
       sound-rows : None (unsound t)
-      sound-rows = later-none (blocks t) work (unsound t) (opened .none .1 .1 .1)
+      sound-rows = past-later refusal (blocks t) work (unsound t) (opened .none .1 .1 .1)
 
       module _ (work₁ work₂ : List ℕ) (long : length work₁ ≡ length work) (h : tree-gated.Gated) (tells : TreeGateOf s work₁ work₂ h) where
         pub tree-broken : (a : Answer) → h ≡ tree-is.Refused a → Given (brokenRows t s) a
@@ -234,12 +222,12 @@ module _ (t : Bytes) (d l : ℕ) (s : Tables) (work work₁ : List ℕ) (r : ℕ
       told : (g : Gated) → SoundOf t s g → (length work < places t s → ⊥) → VolumeGateOf t d l s work (cleared (places t s) work) g
       unfolding VolumeGateOf
       told Open w long = record {
-        none = (z .fits m, (z .valid m i, (long, none-later (places t s) work (brokenRows t s) (w .none))));
+        none = (z .fits m, (z .valid m i, (long, later-past refusal (places t s) work (brokenRows t s) (w .none))));
         blocks = w .blocks;
         tree = w .tree;
         clear = refl;
       }
-      told (Refused a) w long = inr (z .fits m, inr (z .valid m i, inr (long, answer-later (places t s) work (brokenRows t s) a w)))
+      told (Refused a) w long = inr (z .fits m, inr (z .valid m i, inr (long, later-says refusal (places t s) work (brokenRows t s) a w)))
 
       pub gate-told : (n : ℕ) (v : List ℕ) (g : Gated) → n ≡ blocks t → n + roomsIn s ≤ length work₁ → v ≡ replicate (length (take (n + roomsIn s) work₁)) 0 → SoundOf t s g
           → VolumeGateOf t d l s work (v ++ drop (n + roomsIn s) work₁) g
