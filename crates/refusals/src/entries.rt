@@ -9,7 +9,7 @@ ghost use Prim.Native.Nat.{_≤_};
 ghost use lib.ListN.{length};
 
 // What a line lends from there on: bytes of hashes and tables, places of the work list and of each list of open records, the last of which is the number of
-// recordsrecords.
+// records.
 struct Tree {
     dir_hash: usize,
     dir_table: usize,
@@ -40,7 +40,7 @@ fn byte(table: &mut [u8], i: usize, x: usize) {
     }
 }
 
-// Nothing open record.
+// Nothing open.
 fn none(dir_opens: &mut [u32], file_opens: &mut [u32]) {
     tell::fill(dir_opens, 0);
     tell::fill(file_opens, 0);

@@ -132,7 +132,7 @@ module _ (dh d fh f work : List ℕ) where
             → None (treeGate refusal (tables dh d fh f) work) × Sound (dirView dh d) (fileView d fh f) × (w ≡ cleared (rooms d f) work)
         gate-open S c = ((m, (o, (long, ((λ u. u S), tt)))), S, c)
 
--- ---- the gate over a packed listthat takes no open records, and the test
+-- ---- the gate over a packed list
 
 module _ (dh d fh f work : List ℕ) (k : ℕ) (l : List ℕ) (b : Bool) (F : (b ≡ true → Packed k l) × (Packed k l → b ≡ true)) where
   abbrev s : Tables

@@ -22,6 +22,6 @@ treeGate refuse s work = entryGate refuse s (OutsideIn s) (length work < roomsIn
 abbrev pub packedGate : {A : Type 0} (refuse : Answer → List ℕ → A) (s : Tables) (o : Opens) (work : List ℕ) → List (Row A)
 packedGate refuse s o work = entryGate refuse s (OutsideIn s ⊎ (InOrder o → ⊥)) (length work < roomsIn s) work
 
--- of a call said over one record for each inode: opens is the length of their list, room that of the table that they are of
+-- of a call said over one record for each inode: opens is the length of their list, room that of the table that they are for
 abbrev pub openGate : {A : Type 0} (refuse : Answer → List ℕ → A) (s : Tables) (opens room : ℕ) (work : List ℕ) → List (Row A)
 openGate refuse s opens room work = entryGate refuse s (OutsideIn s) ((length work < roomsIn s) ⊎ (opens < room)) work

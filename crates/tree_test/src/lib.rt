@@ -238,7 +238,7 @@ fn outside(dir_hash: &[u8], dir_table: &[u8], file_hash: &[u8], file_table: &[u8
     false
 }
 
-// The gate of a call that takes noopen records also, a list of length `opens` open records.
+// The gate of a call that takes no open records.
 pub fn gate(
     dir_hash: &[u8],
     dir_table: &[u8],
@@ -271,7 +271,7 @@ pub fn gate(
     Gated::Open
 }
 
-// The gate of a call that takes a packed list of open records also, whose order is judged with the sizesrecords.
+// The gate of a call that takes a packed list of open records also, whose order is judged with the sizes.
 pub fn open_gate(
     dir_hash: &[u8],
     dir_table: &[u8],
