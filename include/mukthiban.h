@@ -374,7 +374,7 @@ mukthiban_plain mukthiban_tree_set_carried_file(const uint8_t *dir_hash, size_t 
                                                 uint32_t inode, const uint8_t carried[20]);
 
 /* Opens a directory once more, for a reader or for the writer. Another kind is 2, with the sizes. opens: the directories'.
- * Answers 1, 2, 3, 9, 10, 17, 12. */
+ * Answers 1, 2, 3, 9, 10, 17 (no place, or the limit), 12. */
 mukthiban_plain mukthiban_tree_open_dir(const uint8_t *dir_hash, size_t dir_hash_len,
                                         const uint8_t *dir_table, size_t dir_table_len,
                                         const uint8_t *file_hash, size_t file_hash_len,
@@ -384,7 +384,7 @@ mukthiban_plain mukthiban_tree_open_dir(const uint8_t *dir_hash, size_t dir_hash
                                         uint32_t inode, uint32_t kind);
 
 /* Opens a file once more, for a reader or for the writer. Another kind is 2, with the sizes. opens: the files'.
- * Answers 1, 2, 3, 9, 10, 17, 12. */
+ * Answers 1, 2, 3, 9, 10, 17 (no place, or the limit), 12. */
 mukthiban_plain mukthiban_tree_open_file(const uint8_t *dir_hash, size_t dir_hash_len,
                                          const uint8_t *dir_table, size_t dir_table_len,
                                          const uint8_t *file_hash, size_t file_hash_len,
@@ -470,9 +470,10 @@ mukthiban_plain mukthiban_salvage_shared(const uint8_t *table, size_t table_len,
 
 /* Follows the chain of each of firsts, as mukthiban_salvage_chain does one, in one call that is linear in the blocks and
  * firsts. Writes three places of ends for each: how many blocks were followed (none where no node can be read there), and
- * the entry and the rule that say why there are no more; rule 9 where the chains before it have more than 4n blocks
- * together, so that it was not followed. Writes to list the blocks of all, one chain behind the other, never more than 5n;
- * count is how many. Places past them stay. Answers 1, 2 (also for more than 1,000,000 firsts), 3, 8 (ends or list). */
+ * the entry and the rule that say why there are no more; rule 7 with entry 0 where there is no such block; rule 9 where the
+ * chains before it have more than 4n blocks together, so that it was not followed. Writes to list the blocks of all, one
+ * chain behind the other, never more than 5n; count is how many. Places past them stay. Answers 1, 2 (also for more than
+ * 1,000,000 firsts), 3, 8 (ends or list). */
 mukthiban_listed mukthiban_salvage_chains(const uint8_t *table, size_t table_len,
                                           uint32_t *work, size_t work_len,
                                           const uint32_t *firsts, size_t firsts_len,

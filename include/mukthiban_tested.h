@@ -19,8 +19,10 @@
  * number of them may follow, as long as nothing else writes to the tables.
  *
  * Each answers what the call of the same name in mukthiban.h answers on such
- * input, with the same bytes changed, in the order that stands at it. There is
- * no work list, but for the merge, the plans and the audit.
+ * input, with the same bytes changed, in the order that stands at it (those
+ * beside both maps, mukthiban_tested_first_.., what mukthiban_fat_.. answers).
+ * There is no work list, but for the merge, the plans, the audit and the
+ * kiosk's test.
  */
 #ifndef MUKTHIBAN_TESTED_H
 #define MUKTHIBAN_TESTED_H
@@ -131,8 +133,8 @@ mukthiban_created mukthiban_tested_kiosk_create(uint8_t *table, size_t table_len
 mukthiban_answered mukthiban_tested_map_build(const uint8_t *table, size_t table_len, size_t n,
                                               uint32_t *map, size_t map_len);
 
-/* Makes a file of block_count blocks and keeps the map: only the words of the blocks that move are written. Answers 20,
- * 2 (count 0), 6.
+/* Makes a file of block_count blocks and keeps the map: only the words of the blocks that move are written, but that with 6 the
+ * map is drawn again and is as it was. Answers 20, 2 (count 0), 6.
  * Requires: a sound table of n blocks; map_len is n / 32, rounded up, and map is the table's, as the call above or an earlier
  * one of these left it, with no change of the table since but by these or by a merge. So of the next two. */
 mukthiban_created mukthiban_tested_map_create(uint8_t *table, size_t table_len, size_t n, size_t block_len,
@@ -151,7 +153,8 @@ mukthiban_answered mukthiban_tested_map_delete(uint8_t *table, size_t table_len,
 /* ---- Both maps ----
  * The map of files' first blocks has a bit a block, the lowest block in the lowest bit of the first word, set where the block is
  * a file's first; unused bits are 0. With it a call sees by one bit whether a block begins a file, and goes over no other file's
- * nodes. The calls below keep both maps, whatever they answer. A merge and an applied plan leave the map of first blocks behind. */
+ * nodes. The calls below keep both maps, whatever they answer. Every other call that changes the table leaves the map of first
+ * blocks behind: build it again, also after a merge, of which it is not promised that the map stays right. */
 
 /* Builds the map of first blocks. Answers nothing but MUKTHIBAN_DONE.
  * Requires: a sound table of n blocks; firsts_len is n / 32, rounded up. */
@@ -217,7 +220,7 @@ mukthiban_found mukthiban_tested_tree_lookup_file(const uint8_t *dir_hash, size_
                                                   const uint8_t *file_table, size_t file_table_len,
                                                   uint32_t parent, const uint8_t name[16]);
 
-/* Makes a directory, held by its writer. Answers 2 (name), 10 (parent), 11, 6.
+/* Makes a directory, held by its writer. Answers 2 (name), 10 (parent), 11, 6, 17 (no place for the new inode).
  * Requires: sound tables, open records in order. */
 mukthiban_made mukthiban_tested_tree_make_dir(uint8_t *dir_hash, size_t dir_hash_len,
                                               uint8_t *dir_table, size_t dir_table_len,
@@ -226,7 +229,7 @@ mukthiban_made mukthiban_tested_tree_make_dir(uint8_t *dir_hash, size_t dir_hash
                                               uint32_t *opens, size_t opens_len, size_t *opened, uint32_t parent,
                                               const uint8_t name[16], const uint8_t carried[4]);
 
-/* Makes a file entry, held by its writer. Answers 2 (name), 10 (parent), 11, 6.
+/* Makes a file entry, held by its writer. Answers 2 (name), 10 (parent), 11, 6, 17 (no place for the new inode).
  * Requires: sound tables, open records in order. */
 mukthiban_made mukthiban_tested_tree_make_file(const uint8_t *dir_hash, size_t dir_hash_len,
                                                uint8_t *dir_table, size_t dir_table_len,
@@ -334,7 +337,7 @@ mukthiban_plain mukthiban_tested_tree_set_carried_file(const uint8_t *dir_hash, 
                                                        uint8_t *file_table, size_t file_table_len,
                                                        uint32_t inode, const uint8_t carried[20]);
 
-/* Opens a directory once more, for a reader or for the writer. Answers 10, 17, 12.
+/* Opens a directory once more, for a reader or for the writer. Answers 10, 17 (no place, or the limit), 12.
  * Requires: sound tables, open records in order, and MUKTHIBAN_READER or MUKTHIBAN_WRITER as the kind. */
 mukthiban_plain mukthiban_tested_tree_open_dir(const uint8_t *dir_hash, size_t dir_hash_len,
                                                const uint8_t *dir_table, size_t dir_table_len,
@@ -343,7 +346,7 @@ mukthiban_plain mukthiban_tested_tree_open_dir(const uint8_t *dir_hash, size_t d
                                                uint32_t *opens, size_t opens_len, size_t *opened, uint32_t inode,
                                                uint32_t kind);
 
-/* Opens a file once more, for a reader or for the writer. Answers 10, 17, 12.
+/* Opens a file once more, for a reader or for the writer. Answers 10, 17 (no place, or the limit), 12.
  * Requires: sound tables, open records in order, and MUKTHIBAN_READER or MUKTHIBAN_WRITER as the kind. */
 mukthiban_plain mukthiban_tested_tree_open_file(const uint8_t *dir_hash, size_t dir_hash_len,
                                                 const uint8_t *dir_table, size_t dir_table_len,

@@ -31,11 +31,13 @@
 enum {
     MUKTHIBAN_DONE = 0,
     MUKTHIBAN_SIZE_MISMATCH = 1,  /* a length that fits no table, or does not fit the others */
-    MUKTHIBAN_INVALID_VALUE = 2,  /* a size, a number or a kind outside its bounds; 0 blocks asked for; a new name that is not legal */
-    MUKTHIBAN_WORK_TOO_SHORT = 3, /* the work list or the open records have too few places */
-    MUKTHIBAN_BROKEN_FAT = 4,     /* the block table is not sound */
+    MUKTHIBAN_INVALID_VALUE = 2,  /* a size, a number or a kind outside its bounds; open records that are not in order;
+                                   * 0 blocks asked for; a new name that is not legal; a plan that is not accepted */
+    MUKTHIBAN_WORK_TOO_SHORT = 3, /* the work list has too few places, or a map too few bits */
+    MUKTHIBAN_BROKEN_FAT = 4,     /* the block table is not sound, or a free map is not the table's */
     MUKTHIBAN_NOT_A_FILE = 5,     /* the block is no file's first block */
-    MUKTHIBAN_NO_SPACE = 6,       /* too few free blocks, or no free entry */
+    MUKTHIBAN_NO_SPACE = 6,       /* too few free blocks (for the kiosk's create in one node, for a plan in a row), or
+                                   * no free entry */
     MUKTHIBAN_OUT_OF_BOUND = 7,   /* position plus length passes the file's end */
     MUKTHIBAN_LIST_TOO_SHORT = 8, /* the lent list can't hold the whole answer */
     MUKTHIBAN_BROKEN_TREE = 9,    /* the entry tables are not sound */
@@ -83,7 +85,7 @@ enum {
  * is MUKTHIBAN_BROKEN_FAT and then say where it is broken. Those of block calls and
  * those of tree calls are separate types. */
 
-/* Format, read and write by a list, and every tree call that gives nothing else. */
+/* Format, read and write by a list, mukthiban_salvage_shared, and every tree call that gives nothing else. */
 typedef struct {
     uint32_t answer;
 } mukthiban_plain;
@@ -104,7 +106,7 @@ typedef struct {
     uint32_t rule;
 } mukthiban_tested;
 
-/* Create: the new file's first block. */
+/* Create and the kiosk's create: the new file's first block. An applied plan: the file's first block from then on. */
 typedef struct {
     uint32_t answer;
     size_t first_block;
@@ -161,7 +163,8 @@ typedef struct {
     uint32_t rule;
 } mukthiban_salvaged;
 
-/* Listing: how many places of the lent list hold the directory's children. */
+/* Listing: how many places of the lent list hold the directory's children. Salvage but of one chain: how many hold blocks or
+ * inodes. */
 typedef struct {
     uint32_t answer;
     size_t count;
@@ -190,8 +193,8 @@ typedef struct {
     size_t file_free;
 } mukthiban_stat;
 
-/* Whether an honest writer can have left the tables: a table (1 directories, 2 files) and an inode of it by which none
- * can; 0 and 0 where there is none. */
+/* Aged: a table (1 directories, 2 files) and an inode of it whose links no honest writer can have left; 0 and 0 where the
+ * lists tell of none. */
 typedef struct {
     uint32_t answer;
     uint32_t table;
