@@ -15,7 +15,7 @@ static inline const char *mukthiban_text(uint32_t answer)
     case MUKTHIBAN_INVALID_VALUE:
         return "a size or a number is outside its bounds, no blocks were asked for, or a new name is not legal";
     case MUKTHIBAN_WORK_TOO_SHORT:
-        return "the work list or the open records have too few places";
+        return "the work list or the map has too few places";
     case MUKTHIBAN_BROKEN_FAT:
         return "the block table is not sound: its chains can't be trusted";
     case MUKTHIBAN_NOT_A_FILE:
@@ -43,7 +43,7 @@ static inline const char *mukthiban_text(uint32_t answer)
     case MUKTHIBAN_NOT_OPEN:
         return "the open that this needs is not held";
     case MUKTHIBAN_TOO_MANY_OPENS:
-        return "it is opened 65,535 times already";
+        return "it is opened 65,535 times already, or the list of open records is full";
     case MUKTHIBAN_READ_ONLY_VOLUME:
         return "blocks of this length are no longer in use: the volume can be read and not be changed";
     default:

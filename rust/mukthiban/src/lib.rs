@@ -3,7 +3,7 @@
 //! The work is done by a static library whose every call is proved to answer as `docs/RULES.md` says and to leave every
 //! other byte as it was. This crate adds names to its numbers, slices to its pointers, and [`Volume`].
 //!
-//! - [`fat`], [`plan`], [`tree`] and, for both layers together, [`mod@volume`] and [`kiosk`] have each call once, over lent
+//! - [`fat`], [`map`], [`plan`], [`tree`] and, for both layers together, [`mod@volume`] and [`kiosk`] have each call once, over lent
 //!   slices, any bytes allowed.
 //! - [`Volume`] owns a whole volume, tests it once, and then works without testing again. It has a walk of its tree,
 //!   lookup by path, and files that are read and written as the standard library's are.

@@ -53,7 +53,7 @@ macro_rules! refusals {
 refusals! {
     SizeMismatch = 1, "a table, the hash buckets or the data have a length that does not fit";
     InvalidValue = 2, "a size or a number is outside its bounds, no blocks were asked for, or a new name is not legal";
-    WorkTooShort = 3, "the work list or the open records have too few places";
+    WorkTooShort = 3, "the work list or the map has too few places";
     BrokenFat = 4, "the block table is not sound: its chains can't be trusted";
     NotAFile = 5, "the block is not the first block of a file";
     NoSpace = 6, "too few free blocks, or no free entry";
@@ -67,7 +67,7 @@ refusals! {
     NotEmpty = 14, "the directory is not empty";
     IntoItself = 15, "a directory can't be moved into itself or below itself";
     NotOpen = 16, "the open that this needs is not held";
-    TooManyOpens = 17, "it is opened 65,535 times already";
+    TooManyOpens = 17, "it is opened 65,535 times already, or the list of open records is full";
     ReadOnlyVolume = 20, "blocks of this length are no longer in use: the volume can be read and not be changed";
 }
 

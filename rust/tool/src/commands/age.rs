@@ -15,7 +15,7 @@ pub const COMMAND: Command = Command {
     short: "list the entries from the newest to the oldest, as far as the lists tell",
     long: "New and renamed entries go to the front of their bucket and of their directory's list, so the lists tell which\n\
            of two entries was linked later. Directories first, then files; each line has a step, the path, and after\n\
-           'over' the entries that it stands before. One entry is certainly newer than another exactly where such\n\
+           'over' the entries that it stands before. One entry is certainly newer than another where such\n\
            words lead from the one to the other; of two with the same step nothing is told. Carried bytes, as a file's\n\
            size, leave no trace. The tables must be sound. The exit code is 4 where no honest writer can have left\n\
            them: then some entries have no step, and stand last with a question mark.",
