@@ -3,13 +3,13 @@ ghost use Rattle.std.specs.Prelude.{◌≡◌, length, replicate};
 ghost use Rattle.order.specs.Answer.{number_of, fault_in};
 
 // Where a block table is broken: an entry, and the rule of RULES 3.6 that it breaks, 1 to 7; 0 and 0 where it is not.
-#[derive(Drop)]
+#[derive(Clone, Copy)]
 pub struct Fault {
     pub entry: usize,
     pub rule: u32,
 }
 
-#[derive(Drop)]
+#[derive(Clone, Copy)]
 pub enum Answer {
     Done,
     SizeMismatch,

@@ -6,7 +6,7 @@ use crate::{line, tell};
 use ask_blocks::{Lent, Said};
 
 // What a line lends from there on: bytes of table and data, the block length, places of the work list.
-#[derive(Drop)]
+#[derive(Clone, Copy)]
 struct Volume {
     table: usize,
     data: usize,

@@ -8,7 +8,7 @@ use tree_promises::Kind;
 
 // What a line lends from there on: bytes of hashes and tables, places of the work list and of each list of open records, the last of which is the number of
 // records.
-#[derive(Drop)]
+#[derive(Clone, Copy)]
 struct Tree {
     dir_hash: usize,
     dir_table: usize,

@@ -3,7 +3,7 @@ use crate::replay::Again;
 use std::num::wrapping_add_u64;
 
 // The tables that were accepted, those that their history made again, the calls in all, and the most calls for a node in thousandths.
-#[derive(Drop)]
+#[derive(Clone, Copy)]
 pub struct Tally {
     pub tables: u64,
     pub remade: u64,

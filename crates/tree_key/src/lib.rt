@@ -4,7 +4,7 @@ ghost use Rattle.tree_key.specs.Hash.{rotated, mix, hash_of};
 ghost use Rattle.tree_key.specs.Key.{key_of, name_key, key_words, same_key};
 
 // The key of an entry: its parent's inode and its sixteen name bytes, which are kept as four words, so that a key is hashed and compared by five words.
-#[derive(Drop)]
+#[derive(Clone, Copy)]
 pub struct SaveExtKey {
     pub parent: u32,
     pub name0: u32,
