@@ -1,1 +1,3 @@
 // Whole histories of the calls on a block table: theorems, and no code.
+
+#![tactic(auto)]

@@ -1,1 +1,3 @@
 // Soundness of the block table, and its layouts.
+
+#![tactic(auto)]

@@ -129,7 +129,7 @@ fn number_at(text: &[u8], at: usize) -> usize
 }
 
 // What a line asks: the number of its name, and its numbers.
-#[derive(Drop)]
+#[derive(Clone, Copy)]
 pub struct Line {
     pub which: u32,
     pub a: usize,

@@ -1,1 +1,3 @@
 // The files of damaged tables, each with its path: theorems alone.
+
+#![tactic(auto)]

@@ -1,1 +1,3 @@
 // Whole histories of the calls on the entry tables: theorems, and no code.
+
+#![tactic(auto)]

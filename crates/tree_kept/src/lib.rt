@@ -1,1 +1,3 @@
 // Every step of the tree calls keeps soundness: theorems alone.
+
+#![tactic(auto)]

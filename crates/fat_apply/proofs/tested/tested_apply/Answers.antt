@@ -1,0 +1,12 @@
+use mathlib.Core.Path.{refl}
+use mathlib.Core.Logic.{inl, inr}
+use Rattle.fat_test.proofs.Change.{not_in_use}
+use Rattle.fat_apply.proofs.tested.tested_apply.Goals as goal
+
+pub returns-then-in_use : goal.returns-then-in_use
+returns-then-in_use c =
+    (inr ((λ z. z (c.in_use.ensures.yes c.if-in_use.true)), c.apply_sound.ensures.0), c.apply_sound.ensures.1)
+
+pub returns : goal.returns
+returns c =
+    (inl (not_in_use _ _ c.in_use.ensures c.if-in_use.false, refl), c.requires.work_value)

@@ -1,0 +1,11 @@
+-- `fat_fault::locate` meets its contract.
+use mathlib.Core.Path.{◌≡◌, ap, ◌∙◌}
+use Prim.Native.Nat.{ℕ}
+use lib.ListN.{length, replicate}
+use native.Mathlib.Omega.{arith}
+use Rattle.fat_fault.proofs.locate.Goals as goal
+
+pub returns : goal.returns
+returns c =
+    let l : length c.find-f.new.1.1.0 ≡ c.args.n = omega (arith, c.find-f.auto.1.1.0) in
+    (c.find-f.ensures, c.clear.ensures ∙ ap (λ (m : ℕ). replicate m 0) l)

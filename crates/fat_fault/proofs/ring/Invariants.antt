@@ -1,0 +1,11 @@
+-- `fat_fault::ring` meets its contract.
+use Prim.Native.Nat.{◌-◌}
+use Rattle.fat_fault.proofs.Colours.{unrounded, Rounding}
+use Rattle.fat_fault.proofs.ring.Given as goal
+
+-- `fat_fault::ring` meets its contract.
+abbrev pub invariant-loop-work : goal.invariant-loop-work
+invariant-loop-work l = Rounding l.n l.table l.j l.initial.work l.work l.i
+
+abbrev pub decreases-loop-work : goal.decreases-loop-work
+decreases-loop-work l = unrounded l.work

@@ -1,0 +1,31 @@
+use Rattle.fat_judge.proofs.Judges.{in_standing, in_amid, resize_same, resize_shrink, past_some, past_last, resize_grow, resize_full}
+use Rattle.fat_walk.proofs.Found.{head_chain, file_from, are_bytes}
+use borrow.Author.Rules.{rules}
+use Rattle.fat_judge.proofs.judge_count.Goals as goal
+
+pub seek-sought-requires : goal.seek-sought-requires
+seek-sought-requires c = (search (file_from, are_bytes), search rules)
+
+pub is_end-requires : goal.is_end-requires
+is_end-requires c = search (in_standing, are_bytes)
+
+pub returns-then-is_end : goal.returns-then-is_end
+returns-then-is_end c = search (resize_same, are_bytes)
+
+pub last_from-last-requires : goal.last_from-last-requires
+last_from-last-requires c = search (in_amid, are_bytes)
+
+pub seek-more-requires : goal.seek-more-requires
+seek-more-requires c = (search (head_chain, are_bytes), search (past_some, are_bytes))
+
+pub overflow_sub-result : goal.overflow_sub-result
+overflow_sub-result c = search (past_last, are_bytes)
+
+pub returns-else-is_end : goal.returns-else-is_end
+returns-else-is_end c = search (resize_shrink, are_bytes)
+
+pub returns-in-Within-more : goal.returns-in-Within-more
+returns-in-Within-more c = search (resize_grow, are_bytes)
+
+pub returns-in-Past-more : goal.returns-in-Past-more
+returns-in-Past-more c = search (resize_full, are_bytes)

@@ -1,0 +1,33 @@
+use Rattle.fat_list.proofs.Lists.{fill_begin, fill_end, fill_count, fill_standing, fill_room, fill_fits, fill_next}
+use native.Mathlib.Omega.{arith}
+use Prim.Native.Nat.{◌-◌}
+use Rattle.fat_list.proofs.number_chain.Goals as goal
+
+pub loop-i-init : goal.loop-i-init
+loop-i-init c = fill_begin _ _ _ c.requires.chain_from.at
+
+pub size_at-size-requires : goal.size_at-size-requires
+size_at-size-requires c = search fill_standing
+
+pub number_run-requires : goal.number_run-requires
+number_run-requires c = let at_pre = c.requires in
+    let z = fill_fits _ _ _ _ _ _ _ at_pre.0.chain c.loop-i.invariant c.loop-i-test.true _ c.size_at-size.ensures at_pre.1 in record { size_in_bounds = z.0; size_bound = z.2 }
+
+pub overflow_add-at : goal.overflow_add-at
+overflow_add-at c =
+    let z = fill_fits _ _ _ _ _ _ _ c.requires.chain_from.chain c.loop-i.invariant c.loop-i-test.true _ c.size_at-size.ensures c.requires.first_in_bounds in
+    omega (arith, z.0)
+
+pub next_of-i-requires : goal.next_of-i-requires
+next_of-i-requires c = search fill_room
+
+pub loop-i-smaller : goal.loop-i-smaller
+loop-i-smaller c =
+    let z = fill_fits _ _ _ _ _ _ _ c.requires.chain_from.chain c.loop-i.invariant c.loop-i-test.true _ c.size_at-size.ensures c.requires.first_in_bounds in
+    omega (arith, z.0, z.1, c.loop-i.invariant.long)
+
+pub loop-i-preserved : goal.loop-i-preserved
+loop-i-preserved c = search fill_next
+
+pub returns : goal.returns
+returns c = (search fill_count, search fill_end)

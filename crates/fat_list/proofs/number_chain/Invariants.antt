@@ -1,0 +1,11 @@
+use Rattle.fat_table.specs.Chain.{chain_at}
+use Rattle.fat_list.proofs.Lists.{Filling}
+use Prim.Native.Nat.{◌-◌}
+use lib.ListN.{length}
+use Rattle.fat_list.proofs.number_chain.Given as goal
+
+abbrev pub invariant-loop-i : goal.invariant-loop-i
+invariant-loop-i l = Filling (chain_at l.table l.n l.first) l.initial.list l.i l.at l.list
+
+abbrev pub decreases-loop-i : goal.decreases-loop-i
+decreases-loop-i l = length l.initial.list - l.at

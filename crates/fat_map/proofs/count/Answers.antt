@@ -1,0 +1,24 @@
+use native.Mathlib.Omega.{arith}
+use Rattle.fat_map.proofs.Counts.{count_outside, count_few, count_short, count_crossed, count_over, count_room, count_done}
+use Rattle.fat_map.proofs.count.Goals as goal
+
+pub returns-then-unfit : goal.returns-then-unfit
+returns-then-unfit c = count_outside _ _ _ _ _ c.unfit.ensures c.if-unfit.true
+
+pub words_in-words-requires : goal.words_in-words-requires
+words_in-words-requires c = omega (arith, (count_few c.args.map.now c.args.n 0 0 _ c.unfit.ensures c.if-unfit.false).1)
+
+pub returns-then-map-words : goal.returns-then-map-words
+returns-then-map-words c = count_short _ _ _ _ _ c.unfit.ensures c.if-unfit.false _ c.words_in-words.ensures c.if-map-words.true
+
+pub returns-then-b-a : goal.returns-then-b-a
+returns-then-b-a c = count_crossed _ _ _ _ _ c.unfit.ensures c.if-unfit.false _ c.words_in-words.ensures (omega arith) c.if-b-a.true
+
+pub returns-then-n-b : goal.returns-then-n-b
+returns-then-n-b c = count_over _ _ _ _ _ c.unfit.ensures c.if-unfit.false _ c.words_in-words.ensures (omega arith) c.if-n-b.true
+
+pub count-free-requires : goal.count-free-requires
+count-free-requires c = (omega arith, count_room c.args.map.now c.args.n c.args.a c.args.b _ c.unfit.ensures c.if-unfit.false _ c.words_in-words.ensures (omega arith) (omega arith))
+
+pub returns : goal.returns
+returns c = count_done _ _ _ _ _ c.unfit.ensures c.if-unfit.false _ c.words_in-words.ensures (omega arith) _ (omega arith) (omega arith) c.count-free.ensures

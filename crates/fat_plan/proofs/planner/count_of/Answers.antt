@@ -1,0 +1,11 @@
+use Rattle.fat_plan.proofs.Counted.{count_in, count_out, count_fits}
+use Rattle.fat_plan.proofs.planner.count_of.Goals as goal
+
+pub overflow_sub-result : goal.overflow_sub-result
+overflow_sub-result c = search count_fits
+
+pub returns-in-Within : goal.returns-in-Within
+returns-in-Within c = search count_in
+
+pub returns-in-Past : goal.returns-in-Past
+returns-in-Past c = search count_out

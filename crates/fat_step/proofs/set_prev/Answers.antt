@@ -1,0 +1,18 @@
+use Rattle.fat_step.proofs.Cases.{fits, at_standing, with_none, with_some}
+use mathlib.Core.Path.{refl}
+use native.Mathlib.Omega.{arith}
+use Rattle.fat_step.proofs.set_prev.Goals as goal
+
+pub returns-then-i-eq0 : goal.returns-then-i-eq0
+returns-then-i-eq0 c = search with_none
+
+pub node_at-node-requires : goal.node_at-node-requires
+node_at-node-requires c = search at_standing
+
+pub set_node-requires : goal.set_node-requires
+set_node-requires c =
+    let w = at_standing _ _ _ c.requires.standing_at c.if-i-eq0.false in
+    fits _ _ _ _ _ _ _ w refl c.node_at-node.ensures.0 (omega arith) (omega (arith, w.next, c.node_at-node.ensures.2))
+
+pub returns : goal.returns
+returns c = search with_some

@@ -1,0 +1,8 @@
+use Rattle.map_bits.proofs.Ones.{one_turnable, one_turned}
+use Rattle.map_bits.proofs.turn_one.Goals as goal
+
+pub turn_part-requires : goal.turn_part-requires
+turn_part-requires c = one_turnable _ _ _ c.requires
+
+pub returns : goal.returns
+returns c = search one_turned

@@ -1,0 +1,6 @@
+-- `every` meets its contract.
+use Rattle.std.proofs.Common.{◌-◌, rules}
+use Rattle.refusals.proofs.blocks.every.Goals as goal
+
+pub loop-which-preserved : goal.loop-which-preserved
+loop-which-preserved c = (search rules, search rules, search rules, search rules, search rules)

@@ -1,0 +1,6 @@
+-- `lines` meets its contract.
+use Rattle.std.proofs.Common.{◌-◌, rules}
+use Rattle.refusals.proofs.blocks.lines.Goals as goal
+
+pub loop-at-preserved : goal.loop-at-preserved
+loop-at-preserved c = (search rules, search rules, search rules, search rules, search rules)

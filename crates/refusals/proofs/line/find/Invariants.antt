@@ -1,0 +1,10 @@
+-- `find` meets its contract.
+use Rattle.std.proofs.Common.{◌-◌, ◌≤◌, length}
+use Rattle.refusals.proofs.line.find.Given as goal
+
+-- `find` meets its contract.
+abbrev pub invariant-loop-i : goal.invariant-loop-i
+invariant-loop-i l = (l.at ≤ l.i) × (l.i ≤ length l.text)
+
+abbrev pub decreases-loop-i : goal.decreases-loop-i
+decreases-loop-i l = length l.text - l.i

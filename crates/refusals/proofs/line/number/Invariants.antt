@@ -1,0 +1,10 @@
+-- `number` meets its contract.
+use Rattle.std.proofs.Common.{◌-◌, ◌≤◌, length}
+use Rattle.refusals.proofs.line.number.Given as goal
+
+-- `number` meets its contract.
+abbrev pub invariant-loop-i : goal.invariant-loop-i
+invariant-loop-i l = l.i ≤ length l.word
+
+abbrev pub decreases-loop-i : goal.decreases-loop-i
+decreases-loop-i l = length l.word - l.i

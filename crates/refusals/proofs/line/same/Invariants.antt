@@ -1,0 +1,10 @@
+-- `same` meets its contract.
+use Rattle.std.proofs.Common.{◌-◌, ◌≤◌, length}
+use Rattle.refusals.proofs.line.same.Given as goal
+
+-- `same` meets its contract.
+abbrev pub invariant-loop-i : goal.invariant-loop-i
+invariant-loop-i l = l.i ≤ length l.one
+
+abbrev pub decreases-loop-i : goal.decreases-loop-i
+decreases-loop-i l = length l.one - l.i

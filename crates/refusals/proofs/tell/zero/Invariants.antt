@@ -1,0 +1,10 @@
+-- `zero` meets its contract.
+use Rattle.std.proofs.Common.{◌≡◌, ◌-◌, length}
+use Rattle.refusals.proofs.tell.zero.Given as goal
+
+-- `zero` meets its contract.
+abbrev pub invariant-loop-i : goal.invariant-loop-i
+invariant-loop-i l = length l.bytes ≡ length l.initial.bytes
+
+abbrev pub decreases-loop-i : goal.decreases-loop-i
+decreases-loop-i l = length l.initial.bytes - l.i

@@ -1,0 +1,12 @@
+-- `salvage_tree::entries_sized` meets its contract.
+use Rattle.salvage_tree.proofs.Outs.{none_marked, still_sized, out_short, out_done}
+use Rattle.salvage_tree.proofs.entries_sized.Goals as goal
+
+pub mark_gone-requires : goal.mark_gone-requires
+mark_gone-requires c = record { sized = still_sized _ _ _ _ _ c.requires c.clear.ensures; marks = search (none_marked) }
+
+pub returns-then-list-count : goal.returns-then-list-count
+returns-then-list-count c = out_short _ _ _ _ _ _ _ _ c.requires c.clear.ensures c.mark_gone.auto.1.1.1.0 c.mark_gone.ensures _ c.count_live-count.ensures c.clear-then-list-count.ensures c.if-list-count.true
+
+pub returns : goal.returns
+returns c = out_done _ _ _ _ _ _ _ _ c.requires c.clear.ensures c.mark_gone.auto.1.1.1.0 c.mark_gone.ensures _ c.count_live-count.ensures c.clear-2.ensures c.if-list-count.false _ c.list_live.ensures

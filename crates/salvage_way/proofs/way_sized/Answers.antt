@@ -1,0 +1,10 @@
+-- `salvage_way::way_sized` meets its contract.
+use mathlib.Core.Path.{◌∙◌}
+use Rattle.salvage_way.proofs.Outs.{out_short, out_done}
+use Rattle.salvage_way.proofs.way_sized.Goals as goal
+
+pub returns-then-list-count : goal.returns-then-list-count
+returns-then-list-count c = out_short _ _ _ _ _ _ (c.count_way-count.auto.1.1.0 ∙ c.ready.auto.1.1.0) c.clear.ensures _ c.count_way-count.ensures c.if-list-count.true
+
+pub returns : goal.returns
+returns c = out_done _ _ _ _ _ _ (c.list_way.auto.1.1.0 ∙ c.ready-2.auto.1.1.0 ∙ c.count_way-count.auto.1.1.0 ∙ c.ready.auto.1.1.0) c.clear-2.ensures _ c.count_way-count.ensures c.if-list-count.false _ c.list_way.ensures

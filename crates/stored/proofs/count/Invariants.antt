@@ -1,0 +1,9 @@
+-- `count` meets its contract.
+use Rattle.stored.proofs.count.Given as goal
+
+-- `count` meets its contract.
+abbrev pub invariant-loop-left : goal.invariant-loop-left
+invariant-loop-left l = Unit {0}
+
+abbrev pub decreases-loop-left : goal.decreases-loop-left
+decreases-loop-left l = l.left

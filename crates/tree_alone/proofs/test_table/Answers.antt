@@ -1,0 +1,52 @@
+-- `test_table` meets its contract.
+use native.Mathlib.Omega.{arith}
+use borrow.Author.Tests.{not-true, not-false}
+use Rattle.tree_alone.proofs.Singles.{single_front, single_lists, single_good, single_bounded, single_beyond, single_far, rooms_fit, count_is}
+use borrow.Author.Rules.{rules}
+use Rattle.tree_alone.proofs.test_table.Goals as goal
+
+pub returns-then-not-front_fits : goal.returns-then-not-front_fits
+returns-then-not-front_fits c =
+    single_front c.args.hash.now c.args.table.now c.args.w c.args.least c.args.off c.args.work.now c.link_of-count.ensures c.link_of-maximum.ensures c.front_fits.ensures (not-true c.front_fits.result c.if-not-front_fits.true-raw)
+
+pub sort_table-longest-requires : goal.sort_table-longest-requires
+sort_table-longest-requires c =
+    let n = c.front_fits.ensures.yes (not-false c.front_fits.result c.if-not-front_fits.false-raw) in (
+      count_is c.args.hash.now c.args.table.now c.args.w c.args.least c.args.off c.args.work.now c.link_of-count.ensures c.link_of-maximum.ensures c.front_fits.ensures,
+      rooms_fit c.args.table.now c.args.w c.link_of-count.result (omega (arith, n.0, n.2)),
+      n.1,
+      omega (arith, n.0, n.2),
+      search rules,
+      search rules,
+      search rules,
+      omega (arith, n.0, n.2),
+      c.requires.6,
+    )
+
+pub returns-then-longest-eq0 : goal.returns-then-longest-eq0
+returns-then-longest-eq0 c =
+    single_lists c.args.hash.now c.args.table.now c.args.w c.args.least c.args.off c.args.work.now c.link_of-count.ensures c.link_of-maximum.ensures c.front_fits.ensures (not-false c.front_fits.result c.if-not-front_fits.false-raw) c.sort_table-longest.ensures c.if-longest-eq0.true
+
+pub test_far-requires : goal.test_far-requires
+test_far-requires c =
+    let n = c.front_fits.ensures.yes (not-false c.front_fits.result c.if-not-front_fits.false-raw) in (
+      single_bounded c.args.hash.now c.args.table.now c.args.w c.args.least c.args.off c.args.work.now c.link_of-count.ensures c.link_of-maximum.ensures c.front_fits.ensures (not-false c.front_fits.result c.if-not-front_fits.false-raw) c.sort_table-longest.ensures (omega arith),
+      search rules,
+      search rules,
+      rooms_fit c.args.table.now c.args.w c.link_of-count.result (omega (arith, n.0, n.2)),
+      omega (arith, n.0, n.2, c.sort_table-longest.ensures.sorted.within.size),
+      single_beyond c.args.hash.now c.args.table.now c.args.w c.args.least c.args.off c.args.work.now c.link_of-count.ensures c.link_of-maximum.ensures c.front_fits.ensures (not-false c.front_fits.result c.if-not-front_fits.false-raw) c.sort_table-longest.ensures c.requires.6,
+    )
+
+pub returns-then-longest-gt-NEAR_ANSWER : goal.returns-then-longest-gt-NEAR_ANSWER
+returns-then-longest-gt-NEAR_ANSWER c =
+    single_far c.args.hash.now c.args.table.now c.args.w c.args.least c.args.off c.args.work.now c.link_of-count.ensures c.link_of-maximum.ensures c.front_fits.ensures (not-false c.front_fits.result c.if-not-front_fits.false-raw) c.sort_table-longest.ensures (omega arith) c.test_far.ensures
+
+pub keep_gone-requires : goal.keep_gone-requires
+keep_gone-requires c =
+    let n = c.front_fits.ensures.yes (not-false c.front_fits.result c.if-not-front_fits.false-raw) in
+    omega (arith, n.0, n.2, c.sort_table-longest.ensures.sorted.within.size)
+
+pub returns : goal.returns
+returns c =
+    single_good c.args.hash.now c.args.table.now c.args.w c.args.least c.args.off c.args.work.now c.link_of-count.ensures c.link_of-maximum.ensures c.front_fits.ensures (not-false c.front_fits.result c.if-not-front_fits.false-raw) c.sort_table-longest.ensures (omega arith) (omega arith) c.keep_gone.ensures

@@ -1,0 +1,59 @@
+-- `check_parents` meets its contract.
+use mathlib.Core.Path.{◌≡◌, refl, ap, ◌∙◌, subst}
+use Prim.Native.Nat.{ℕ, ◌+◌, ◌-◌, ◌*◌, ◌≤◌}
+use native.Mathlib.Omega.{arith}
+use borrow.Author.Rules.{rules}
+use borrow.Author.Tests.{not-true, not-false}
+use lib.ListN.{length}
+use Rattle.tree_table.specs.Chain.{link_at}
+use Rattle.order.specs.Tells.{Tells}
+use Rattle.tree_marks.specs.Inner.Marks.{mark_at}
+use Rattle.tree_marks.specs.Inner.Gather.{ParentMarked}
+use Rattle.tree_marks.proofs.Walks.{entry_in}
+use Rattle.tree_marks.proofs.Gathering.{check_begin, check_on, check_stop, check_done}
+use mathlib.Core.Bool.{Bool}
+use Rattle.tree_marks.proofs.check_parents.Goals as goal
+
+-- the entry lies in the table
+inside : (c : lts.After-index (index_Reads.Asked, index_Reads.Learnt, get-u32-reads.Asked, get-u32-reads.Learnt, named-reads.Asked, named-reads.Learnt) reads.Pre reads.Post invariant-loop decreases-loop)
+    → c.index.result * c.before.before.before.before.before.args.w + c.before.before.before.before.before.args.w ≤ length c.before.before.before.before.before.args.table.now
+inside c = entry_in _ _ c.before.before.before.before.before.args.count _ (omega arith) (omega arith)
+
+-- what is told of the entry, by its number
+told : (root y mark parent i : ℕ) (r : Bool) (W P : ℕ → ℕ) → i ≡ y → mark ≡ W i → parent ≡ P i → Tells (ParentMarked root y mark parent) r → Tells (ParentMarked root y (W y) (P y)) r
+told root y mark parent i r W P e em ep T =
+    let a : mark ≡ W y = em ∙ ap W e in
+    let b : parent ≡ P y = ep ∙ ap P e in
+    subst (λ m. Tells (ParentMarked root y m (P y)) r) a (subst (λ p. Tells (ParentMarked root y mark p) r) b T)
+
+-- src/lib.rt:173:5
+pub loop-y-init : goal.loop-y-init
+loop-y-init c = check_begin _
+
+-- src/lib.rt:175:65
+pub overflow_mul-i : goal.overflow_mul-i
+overflow_mul-i c = omega (arith, inside c.before)
+
+-- src/lib.rt:175:65
+pub overflow_add-i : goal.overflow_add-i
+overflow_add-i c = omega (arith, inside c.before)
+
+-- src/lib.rt:175:43
+pub get_u32-requires : goal.get_u32-requires
+get_u32-requires c = omega (arith, inside c.before)
+
+-- src/lib.rt:176:13
+pub returns-then-not-named : goal.returns-then-not-named
+returns-then-not-named c =
+    check_stop {P = λ z. ParentMarked c.args.root z (mark_at c.args.work.now c.args.off z) (link_at c.args.table.now c.args.w 0 z)} c.loop-y.invariant (search rules)
+    (told _ _ _ _ _ _ (mark_at c.args.work.now c.args.off) (link_at c.args.table.now c.args.w 0) c.index-i.ensures refl c.get_u32.ensures c.named.ensures) (not-true c.named.result c.if-not-named.true-raw)
+
+-- src/lib.rt:173:5
+pub loop-y-preserved : goal.loop-y-preserved
+loop-y-preserved c =
+    check_on {P = λ z. ParentMarked c.args.root z (mark_at c.args.work.now c.args.off z) (link_at c.args.table.now c.args.w 0 z)} c.loop-y.invariant
+    (told _ _ _ _ _ _ (mark_at c.args.work.now c.args.off) (link_at c.args.table.now c.args.w 0) c.index-i.ensures refl c.get_u32.ensures c.named.ensures) (not-false c.named.result c.if-not-named.false-raw)
+
+-- src/lib.rt:168:1
+pub returns : goal.returns
+returns c = check_done {P = λ z. ParentMarked c.args.root z (mark_at c.args.work.now c.args.off z) (link_at c.args.table.now c.args.w 0 z)} c.loop-y.invariant (search rules)
