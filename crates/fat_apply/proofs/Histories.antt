@@ -106,7 +106,7 @@ apart_apply l b t d t' d' g m u s i c =
 -- the test and histories with applied plans --------------------------------------------------------------------------------------------
 
 history_stands : {t : Bytes} → ApplyHistory t → merges-too.Stands t
-history_stands (calls.plain t h) = merges-too.history-stands h
+history_stands (calls.plain t h) = merges-too.history_stands h
 history_stands (calls.creates t v d l work count o p e) =
     let i = history_stands v in
     let w = create_means t d l work count o i.0.bytes p e in
@@ -141,6 +141,6 @@ pub honest_apply : (t : Bytes) (work : List ℕ) (o : Tested × List ℕ) → Ar
     → (o.0.answer ≡ Done → (t' : Bytes) × ApplyHistory t' × Agree (blocks t) t t')
     × ((t' : Bytes) → ApplyHistory t' → Agree (blocks t) t t' → o.0.answer ≡ Done)
 honest_apply t work o g m u h p = (
-  λ e. let r = (merges-too.honest-merge t work o g m u h p).0 e in (r.0, calls.plain r.0 r.1, r.2),
-  λ t' v a. test_accepts t work o (fits t m u) h (merges-too.agrees-sound t t' (history_stands v).0 a) p,
+  λ e. let r = (merges-too.honest_merge t work o g m u h p).0 e in (r.0, calls.plain r.0 r.1, r.2),
+  λ t' v a. test_accepts t work o (fits t m u) h (merges-too.agrees_sound t t' (history_stands v).0 a) p,
 )

@@ -132,7 +132,7 @@ module _ (n : ℕ) (some : 1 ≤ n) (small : n ≤ 1000000) where
       let t : Bytes = m.end in
       let L : Layout = layout free files in
       let o : Beside Create = create_last t (n * 512) 512 (replicate n 0) c in
-      let e : blocks t ≡ n = m.blocks-are in
+      let e : blocks t ≡ n = m.blocks_are in
       let fr : total (free_at (blocks t) t) ≡ total free = ap (λ (x : ℕ). total (free_at x t)) e ∙ ap total (free_read n small t L m.holds) in
       let q : o.given.table ≡ created n t c = ap (λ (x : ℕ). created x t c) e in
       let s : Holds n o.given.table (layout (left free c) (taken free c ∷ files)) =
@@ -153,7 +153,7 @@ module _ (n : ℕ) (some : 1 ≤ n) (small : n ≤ 1000000) where
       let at = some_first f (omega (arith, m.holds.tiled.nonempty)) in
       let b : ℕ = at.0 in
       let o : Beside Change = delete_last t (n * 512) 512 (replicate n 0) b in
-      let e : blocks t ≡ n = m.blocks-are in
+      let e : blocks t ≡ n = m.blocks_are in
       let i : File t (blocks t) b = subst⁻¹ (λ (x : ℕ). File t x b) e (is_file n small t free f files b m.holds at.1) in
       let q : o.given.table ≡ deleted n t b = ap (λ (x : ℕ). deleted x t b) e in
       let s : Holds n o.given.table (layout (f ++ free) files) =
@@ -185,7 +185,7 @@ made t g f (reaches.create {k} {free} {files} c h l r) = made_create (blocks t) 
 made t g f (reaches.delete {k} {free} {f = c} {files} r) = made_delete (blocks t) f.some f.few free c files (made t g f r)
 made t g f (reaches.order {k} {free} {fs} {gs} r p) =
     let m : Made (blocks t) k (layout free fs) = made t g f r in
-    record { end = m.end; run_to = m.run_to; bytes = m.bytes; blocks_are = m.blocks-are; holds = holds_order p m.holds }
+    record { end = m.end; run_to = m.run_to; bytes = m.bytes; blocks_are = m.blocks_are; holds = holds_order p m.holds }
 
 -- a run of k calls after format whose end agrees with t
 pub record Reached (t : Bytes) : Type 0 where

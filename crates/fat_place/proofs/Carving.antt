@@ -78,7 +78,7 @@ module _ (n m e : ℕ) (t₀ t : Bytes) (i s b p f : ℕ) (v : Carving n m e t�
   rest_read : chain_at t n i ≡ v.rest
   rest_read =
       ap (chain_at t n) (sym v.at)
-      ∙ chain_read n v.few t v.rest v.before n v.known v.positive rest_in v.laid v.few-left
+      ∙ chain_read n v.few t v.rest v.before n v.known v.positive rest_in v.laid v.few_left
 
   pub carve_end : i ≡ 0 → (t' : Bytes) (r : ℕ) → t' ≡ lay (node_of s b) p t → r ≡ first_of s f [] → CarvedBy n t₀ m e t' r
   carve_end h t' r q k =
@@ -163,7 +163,7 @@ module _ (n m e : ℕ) (t₀ t : Bytes) (i s b p f : ℕ) (v : Carving n m e t�
               laid = u.keeps A (suc r.start) left_sizes (λ x. omega (arith, cov x, hits_most x (run 0 n))) here_laid.1;
               positive = left_sizes;
               inside = λ x. omega (arith, u.only x, cov x);
-              few_left = omega (arith, v.few-left, ap {B = ℕ} length here.is);
+              few_left = omega (arith, v.few_left, ap {B = ℕ} length here.is);
               lays = v.lays
                   ∙ ap (λ (l : List Run). lay (node_of s b ++ carved m k l) p t) here.is
                   ∙ ap (λ (y : ℕ). lay (node_of s b ++ (taken (r ∷ []) (m - r.start) ++ (left (r ∷ []) (y - r.start) ++ carved m k A))) p t) d
@@ -181,5 +181,5 @@ module _ (n m e : ℕ) (t₀ t : Bytes) (i s b p f : ℕ) (v : Carving n m e t�
             ap (chain_at t' n) (qs ∙ next_is)
             ∙ chain_read n v.few t' A (suc r.start) n (omega (arith, within, pos)) left_sizes (λ x. omega (arith, cov x))
             (u.keeps A (suc r.start) left_sizes (λ x. omega (arith, cov x, hits_most x (run 0 n))) here_laid.1)
-            (omega (arith, v.few-left, ap {B = ℕ} length here.is)) in
+            (omega (arith, v.few_left, ap {B = ℕ} length here.is)) in
             omega (arith, ap {B = ℕ} length a, ap {B = ℕ} length rest_read, ap {B = ℕ} length here.is)

@@ -187,12 +187,12 @@ export_test t work =
 pub export_create : (t : Bytes) (d l : ℕ) (work : List ℕ) (count : ℕ)
     → OneLocated {X = (ℕ × Bytes) × List ℕ} (λ a x. beside (fat.create_gives a x.0.0 x.0.1) x.1) (fat.CreatePromise t d l work count)
 export_create t d l work count =
-    one_located_beside (λ (a : Answer) (x : ℕ × Bytes). fat.create_gives a x.0 x.1) (λ g. g.answer) (λ g. (g.first, g.table)) (fat.CreatePromise t d l work count) (λ a x. refl) (λ a x. refl) (fat-one.one-create t d l work count)
+    one_located_beside (λ (a : Answer) (x : ℕ × Bytes). fat.create_gives a x.0 x.1) (λ g. g.answer) (λ g. (g.first, g.table)) (fat.CreatePromise t d l work count) (λ a x. refl) (λ a x. refl) (fat-one.one_create t d l work count)
 
 pub export_resize : (t : Bytes) (d l : ℕ) (work : List ℕ) (b count : ℕ)
     → OneLocated {X = Bytes × List ℕ} (λ a x. beside (fat.change_gives a x.0) x.1) (fat.ResizePromise t d l work b count)
 export_resize t d l work b count =
-    one_located_beside (λ (a : Answer) (x : Bytes). fat.change_gives a x) (λ g. g.answer) (λ g. g.table) (fat.ResizePromise t d l work b count) (λ a x. refl) (λ a x. refl) (fat-one.one-resize t d l work b count)
+    one_located_beside (λ (a : Answer) (x : Bytes). fat.change_gives a x) (λ g. g.answer) (λ g. g.table) (fat.ResizePromise t d l work b count) (λ a x. refl) (λ a x. refl) (fat-one.one_resize t d l work b count)
 
 pub export_delete : (t : Bytes) (d l : ℕ) (work : List ℕ) (b : ℕ)
     → OneLocated {X = Bytes × List ℕ} (λ a x. beside (fat.change_gives a x.0) x.1) (fat.DeletePromise t d l work b)
@@ -207,12 +207,12 @@ export_open_list t d l work b list =
 pub export_read : (t d : Bytes) (l : ℕ) (work : List ℕ) (b pos : ℕ) (buf : Bytes)
     → OneLocated {X = Bytes × List ℕ} (λ a x. beside (fat.carry_gives a x.0) x.1) (fat.ReadPromise t d l work b pos buf)
 export_read t d l work b pos buf =
-    one_located_beside (λ (a : Answer) (x : Bytes). fat.carry_gives a x) (λ g. g.answer) (λ g. g.bytes) (fat.ReadPromise t d l work b pos buf) (λ a x. refl) (λ a x. refl) (fat-one.one-read t d l work b pos buf)
+    one_located_beside (λ (a : Answer) (x : Bytes). fat.carry_gives a x) (λ g. g.answer) (λ g. g.bytes) (fat.ReadPromise t d l work b pos buf) (λ a x. refl) (λ a x. refl) (fat-one.one_read t d l work b pos buf)
 
 pub export_write : (t d : Bytes) (l : ℕ) (work : List ℕ) (b pos : ℕ) (buf : Bytes)
     → OneLocated {X = Bytes × List ℕ} (λ a x. beside (fat.carry_gives a x.0) x.1) (fat.WritePromise t d l work b pos buf)
 export_write t d l work b pos buf =
-    one_located_beside (λ (a : Answer) (x : Bytes). fat.carry_gives a x) (λ g. g.answer) (λ g. g.bytes) (fat.WritePromise t d l work b pos buf) (λ a x. refl) (λ a x. refl) (fat-one.one-write t d l work b pos buf)
+    one_located_beside (λ (a : Answer) (x : Bytes). fat.carry_gives a x) (λ g. g.answer) (λ g. g.bytes) (fat.WritePromise t d l work b pos buf) (λ a x. refl) (λ a x. refl) (fat-one.one_write t d l work b pos buf)
 
 pub export_read_blocks : (d : Bytes) (l : ℕ) (list : List ℕ) (pos : ℕ) (buf : Bytes)
     → OneExport {X = Bytes} (λ a x. fat.carry_gives a x) (ReadBlocksPromise d l list pos buf)
@@ -271,7 +271,7 @@ export_tree_set_carried kind s work x carried =
 
 pub one_name : (s : Tables) (work : List ℕ) (kind x : ℕ) → One (NamePromise s work kind x)
 one_name s work kind x =
-    tree-one.one-promised
+    tree-one.one_promised
     (entry_gate
     (λ a w. beside (named_gives a 0) w)
     s

@@ -10,16 +10,13 @@ loop-done-init c = ((λ l p h. read_begin _ _ _ _ _ _ _ h.room h.at), refl)
 
 pub overflow_sub-i : goal.overflow_sub-i
 overflow_sub-i c =
-    let at_pre = c.requires in
-    at_some _ _ _ _ _ _ _ at_pre.0.at.stands ((c.loop-done.invariant.0 _ _ at_pre.0.at).at c.loop-done-test.true)
+    at_some _ _ _ _ _ _ _ c.requires.carries.at.stands ((c.loop-done.invariant.0 _ _ c.requires.carries.at).at c.loop-done-test.true)
 
 pub overflow_sub-len : goal.overflow_sub-len
 overflow_sub-len c = omega arith
 
 pub stretch_at-s-requires : goal.stretch_at-s-requires
-stretch_at-s-requires c =
-    let at_pre = c.requires in
-    (at_standing _ _ _ _ _ _ _ at_pre.0.at.stands ((c.loop-done.invariant.0 _ _ at_pre.0.at).at c.loop-done-test.true), (at_pre.1.few, at_fits _ _ _ _ _ _ _ at_pre.0.at.stands ((c.loop-done.invariant.0 _ _ at_pre.0.at).at c.loop-done-test.true)))
+stretch_at-s-requires c = record { standing = at_standing _ _ _ _ _ _ _ c.requires.carries.at.stands ((c.loop-done.invariant.0 _ _ c.requires.carries.at).at c.loop-done-test.true); block_len_bound = (c.requires.fact.few, at_fits _ _ _ _ _ _ _ c.requires.carries.at.stands ((c.loop-done.invariant.0 _ _ c.requires.carries.at).at c.loop-done-test.true)) }
 
 pub overflow_add-to : goal.overflow_add-to
 overflow_add-to c = omega (arith, turn_data _ _ _ _ _ _ _ _ _ _ _ _ c.requires.carries.at.stands c.requires.fact.some c.requires.carries.at.room c.loop-done-test.true ((c.loop-done.invariant.0 _ _ c.requires.carries.at).at c.loop-done-test.true) c.stretch_at-s.ensures, c.requires.fact.fits)

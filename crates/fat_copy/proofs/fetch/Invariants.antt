@@ -8,7 +8,7 @@ use mathlib.Core.Path.{◌≡◌}
 use Rattle.fat_copy.proofs.fetch.Given as goal
 
 abbrev pub invariant-loop-done : goal.invariant-loop-done
-invariant-loop-done l = ((c : List Run) (pos : ℕ) → CarriesAt l.n l.table l.block_len c pos (length l.initial.buf) l.index l.from → Reading c «data» l.block_len pos l.initial.buf l.buf l.i l.f l.done) × (length l.buf ≡ length l.initial.buf)
+invariant-loop-done l = ((c : List Run) (pos : ℕ) → CarriesAt l.n l.table l.block_len c pos (length l.initial.buf) l.index l.from → Reading c l.data l.block_len pos l.initial.buf l.buf l.i l.f l.done) × (length l.buf ≡ length l.initial.buf)
 
 abbrev pub decreases-loop-done : goal.decreases-loop-done
 decreases-loop-done l = l.len - l.done

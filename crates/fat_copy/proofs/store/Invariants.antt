@@ -8,7 +8,7 @@ use mathlib.Core.Path.{◌≡◌}
 use Rattle.fat_copy.proofs.store.Given as goal
 
 abbrev pub invariant-loop-done : goal.invariant-loop-done
-invariant-loop-done l = ((c : List Run) (pos : ℕ) → CarriesAt l.n l.table l.block_len c pos (length l.buf) l.index l.from → Writing c l.buf l.block_len pos l.initial.data «data» l.i l.f l.done) × (length «data» ≡ length l.initial.data)
+invariant-loop-done l = ((c : List Run) (pos : ℕ) → CarriesAt l.n l.table l.block_len c pos (length l.buf) l.index l.from → Writing c l.buf l.block_len pos l.initial.data l.data l.i l.f l.done) × (length l.data ≡ length l.initial.data)
 
 abbrev pub decreases-loop-done : goal.decreases-loop-done
 decreases-loop-done l = l.len - l.done

@@ -16,38 +16,34 @@ returns-in_default c =
     ((λ s. subst (HeadReads c.args.table.now) c.in_default.is c.get_head-head.ensures s.head), refl)
 
 pub tile-r-requires : goal.tile-r-requires
-tile-r-requires c =
-    let at_pre = c.requires in
-    let hd = subst (HeadReads c.args.table.now) c.in-First.is c.get_head-head.ensures in
-    (at_pre.0, (at_pre.1.0, (at_pre.1.1, hd.1)))
+tile-r-requires c = let hd = subst (HeadReads c.args.table.now) c.in-First.is c.get_head-head.ensures in record { table_len = c.requires.table_len; work_nonzero = c.requires.work_nonzero; work_value = c.requires.work_value; h_value = hd.1 }
 
 pub returns-in_default-r : goal.returns-in_default-r
 returns-in_default-r c =
-    ((λ s. subst (TiledAs c.args.table.now (length c.args.work.now) c.tile-r.new.1.0) c.in_default-r.is c.tile-r.ensures s.covered), refl)
+    ((λ s. subst (TiledAs c.args.table.now (length c.args.work.now) c.tile-r.new.work) c.in_default-r.is c.tile-r.ensures s.covered), refl)
 
 pub returns-then-headless : goal.returns-then-headless
 returns-then-headless c =
-    let at_pre = c.requires in
-    let q = subst (TiledAs c.args.table.now (length c.args.work.now) c.tile-r.new.1.0) c.in-Whole.is c.tile-r.ensures in
+    let q = subst (TiledAs c.args.table.now (length c.args.work.now) c.tile-r.new.work) c.in-Whole.is c.tile-r.ensures in
     let hd = subst (HeadReads c.args.table.now) c.in-First.is c.get_head-head.ensures in
-    (headless at_pre.1.0.0 q.2 hd.1 (c.headless.ensures c.if-headless.true), refl)
+    (headless c.requires.work_nonzero.0 q.2 hd.1 (c.headless.ensures c.if-headless.true), refl)
 
 pub links-requires : goal.links-requires
-links-requires c = let l : length c.tile-r.new.1.0 ≡ length c.args.work.now = c.tile-r.auto.1.0 in
-    let q = subst (TiledAs c.args.table.now (length c.args.work.now) c.tile-r.new.1.0) c.in-Whole.is c.tile-r.ensures in record { table_len = omega arith; work_len_bound = omega arith; covered = links_ready l q.0; backs = backs_long l q.1 }
+links-requires c = let l : length c.tile-r.new.work ≡ length c.args.work.now = c.tile-r.auto.work in
+    let q = subst (TiledAs c.args.table.now (length c.args.work.now) c.tile-r.new.work) c.in-Whole.is c.tile-r.ensures in record { table_len = omega arith; work_len_bound = omega arith; covered = links_ready l q.0; backs = backs_long l q.1 }
 
 pub free_of-free-requires : goal.free_of-free-requires
 free_of-free-requires c =
-    let l : length c.tile-r.new.1.0 ≡ length c.args.work.now = c.tile-r.auto.1.0 in
-    let q = subst (TiledAs c.args.table.now (length c.args.work.now) c.tile-r.new.1.0) c.in-Whole.is c.tile-r.ensures in
+    let l : length c.tile-r.new.work ≡ length c.args.work.now = c.tile-r.auto.work in
+    let q = subst (TiledAs c.args.table.now (length c.args.work.now) c.tile-r.new.work) c.in-Whole.is c.tile-r.ensures in
     let f = free_ready l (c.links.ensures.0 c.if-links.true) (head_is l q.0 (c.head_fits.ensures.0 c.if-head_fits.true)) in
     let e = f.0 in
     (omega arith, (omega arith, f.1))
 
 pub returns-then-links : goal.returns-then-links
 returns-then-links c =
-    let l : length c.tile-r.new.1.0 ≡ length c.args.work.now = c.tile-r.auto.1.0 in
-    let q = subst (TiledAs c.args.table.now (length c.args.work.now) c.tile-r.new.1.0) c.in-Whole.is c.tile-r.ensures in
+    let l : length c.tile-r.new.work ≡ length c.args.work.now = c.tile-r.auto.work in
+    let q = subst (TiledAs c.args.table.now (length c.args.work.now) c.tile-r.new.work) c.in-Whole.is c.tile-r.ensures in
     let hd = subst (HeadReads c.args.table.now) c.in-First.is c.get_head-head.ensures in
     let linked = c.links.ensures.0 c.if-links.true in (
       counted (all_good l
@@ -58,12 +54,12 @@ returns-then-links c =
 
 pub returns-else-links : goal.returns-else-links
 returns-else-links c =
-    let l : length c.tile-r.new.1.0 ≡ length c.args.work.now = c.tile-r.auto.1.0 in
+    let l : length c.tile-r.new.work ≡ length c.args.work.now = c.tile-r.auto.work in
     ((λ s. untrue (sym c.if-links.false ∙ c.links.ensures.1 (sound_long l s))), refl)
 
 pub returns-else-head_fits : goal.returns-else-head_fits
 returns-else-head_fits c =
-    let l : length c.tile-r.new.1.0 ≡ length c.args.work.now = c.tile-r.auto.1.0 in
-    let q = subst (TiledAs c.args.table.now (length c.args.work.now) c.tile-r.new.1.0) c.in-Whole.is c.tile-r.ensures in
+    let l : length c.tile-r.new.work ≡ length c.args.work.now = c.tile-r.auto.work in
+    let q = subst (TiledAs c.args.table.now (length c.args.work.now) c.tile-r.new.work) c.in-Whole.is c.tile-r.ensures in
     let hd = subst (HeadReads c.args.table.now) c.in-First.is c.get_head-head.ensures in
     ((λ s. untrue (sym c.if-head_fits.false ∙ c.head_fits.ensures.1 (head_fits l q.0 hd.1 s))), refl)

@@ -19,11 +19,10 @@ size_of-requires c = record { table_len = search rules; b_lt_n = search rules; b
 
 pub overflow_add-e : goal.overflow_add-e
 overflow_add-e c =
-    omega (arith, c.before.type_size.ensures.within)
+    omega (arith, c.size_of.ensures.within)
 
 pub link-k-requires : goal.link-k-requires
-link-k-requires c =
-    let st = c.loop-b.invariant.2 in let l = st.long in (omega arith, (omega arith, (subst⁻¹ (λ (m : ℕ). IsNode c.args.table.now m c.loop-b.b) l (c.loop-b.invariant.1, c.loop-b-test.true), (_, state_long st))))
+link-k-requires c = let st = c.loop-b.invariant.2 in let l = st.long in record { table_len = omega arith; b_in_bounds = omega arith; node = subst⁻¹ (λ (m : ℕ). IsNode c.args.table.now m c.loop-b.b) l (c.loop-b.invariant.1, c.loop-b-test.true); by_index = (_, state_long st) }
 
 pub returns-then-k-eq2 : goal.returns-then-k-eq2
 returns-then-k-eq2 c =
@@ -35,11 +34,11 @@ overflow_add-joins c =
 
 pub loop-b-smaller : goal.loop-b-smaller
 loop-b-smaller c =
-    omega (arith, c.before.before.before.before.before.before.type_size.ensures.some, c.before.before.before.before.before.before.type_size.ensures.within)
+    omega (arith, c.size_of.ensures.some, c.size_of.ensures.within)
 
 pub loop-b-preserved : goal.loop-b-preserved
 loop-b-preserved c =
-    let nd = c.before.before.before.before.before.before.type_size.ensures in
+    let nd = c.size_of.ensures in
     let st = c.loop-b.invariant.2 in
     let sb = c.loop-b.invariant.1 in
     rw c.wide.ensures (

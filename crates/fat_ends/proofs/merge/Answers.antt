@@ -15,19 +15,17 @@ tie_ends-requires c = record { h_in_bounds = omega (arith, places c.requires.joi
 
 pub returns-then-s-lt2048 : goal.returns-then-s-lt2048
 returns-then-s-lt2048 c =
-    let at_pre = c.requires in
-    merged_small at_pre.1.1 refl c.if-s-lt2048.true c.tie_ends.ensures
+    merged_small c.requires.joinable refl c.if-s-lt2048.true c.tie_ends.ensures
 
 pub bounds-work-h : goal.bounds-work-h
 bounds-work-h c = omega (arith, places c.requires.joinable)
 
 pub tie_ends-requires-then-grows : goal.tie_ends-requires-then-grows
-tie_ends-requires-then-grows c = let g = c.grows.ensures c.if-grows.true in (omega (arith, places c.requires.joinable), omega (arith, g.2, c.slice_known-then-grows-1.given c.args.h))
+tie_ends-requires-then-grows c = let g = c.grows.ensures c.if-grows.true in record { h_in_bounds = omega (arith, places c.requires.joinable); p_bound = omega (arith, g.2, c.slice_known-then-grows-1.given c.args.h) }
 
 pub returns-then-grows : goal.returns-then-grows
 returns-then-grows c =
-    let at_pre = c.requires in
-    merged_grown at_pre.1.1 refl (c.grows.ensures c.if-grows.true) c.tie_ends-then-grows.ensures
+    merged_grown c.requires.joinable refl (c.grows.ensures c.if-grows.true) c.tie_ends-then-grows.ensures
 
 pub bounds-work-z : goal.bounds-work-z
 bounds-work-z c = omega (arith, places c.requires.joinable)
@@ -36,14 +34,11 @@ pub overflow_add-l : goal.overflow_add-l
 overflow_add-l c = let g = c.grows-2.ensures c.if-grows-2.true in omega (arith, g.2)
 
 pub tie_ends-requires-then-grows-2 : goal.tie_ends-requires-then-grows-2
-tie_ends-requires-then-grows-2 c =
-    let g = c.grows-2.ensures c.if-grows-2.true in
-    (omega (arith, places c.requires.joinable), omega (arith, g.2, c.slice_known-3-1.given c.args.j))
+tie_ends-requires-then-grows-2 c = let g = c.grows-2.ensures c.if-grows-2.true in record { h_in_bounds = omega (arith, places c.requires.joinable); p_bound = omega (arith, g.2, c.slice_known-3-1.given c.args.j) }
 
 pub returns-then-grows-2 : goal.returns-then-grows-2
 returns-then-grows-2 c =
-    let at_pre = c.requires in
-    merged_sunk at_pre.1.1 refl (c.grows-2.ensures c.if-grows-2.true) c.tie_ends-then-grows-2.ensures
+    merged_sunk c.requires.joinable refl (c.grows-2.ensures c.if-grows-2.true) c.tie_ends-then-grows-2.ensures
 
 pub sum_of-requires : goal.sum_of-requires
 sum_of-requires c = let J = c.requires.joinable in record { table_len = omega arith; h_in_bounds = omega (arith, places J); by_index = (_, (packed_i J, omega (arith, both_fit J))) }
@@ -62,5 +57,4 @@ tie_ends-requires-2 c = let J = c.requires.joinable in
 
 pub returns : goal.returns
 returns c =
-    let at_pre = c.requires in
-    merged_large at_pre.1.1 refl c.sum_of.ensures c.sum_of-2.ensures c.tie_ends-2.ensures
+    merged_large c.requires.joinable refl c.sum_of.ensures c.sum_of-2.ensures c.tie_ends-2.ensures

@@ -13,7 +13,7 @@ size_of-requires c = record { table_len = search rules; b_lt_n = (search rules);
 
 pub returns-then-h-z : goal.returns-then-h-z
 returns-then-h-z c =
-    sum_one c.if-q-lt2048.false c.if-h-z.true c.type_size.ensures
+    sum_one c.if-q-lt2048.false c.if-h-z.true c.size_of.ensures
 
 pub overflow_sub-result : goal.overflow_sub-result
 overflow_sub-result c =

@@ -32,7 +32,7 @@ pub size_of-requires : goal.size_of-requires
 size_of-requires c = record { table_len = search rules; b_lt_n = search rules; by_index = c.requires.covered.0 c.loop-b.b (c.loop-b.invariant.1, c.loop-b-test.true) }
 
 pub overflow_add-e : goal.overflow_add-e
-overflow_add-e c = omega (arith, c.before.type_size.ensures.within)
+overflow_add-e c = omega (arith, c.size_of.ensures.within)
 
 pub offset_bounds-work-b-in-loop-b : goal.offset_bounds-work-b-in-loop-b
 offset_bounds-work-b-in-loop-b c = omega arith
@@ -44,11 +44,11 @@ pub overflow_sub-left : goal.overflow_sub-left
 overflow_sub-left c = omega arith
 
 pub loop-b-smaller : goal.loop-b-smaller
-loop-b-smaller c = omega (arith, c.before.type_size.ensures.some, c.before.type_size.ensures.within)
+loop-b-smaller c = omega (arith, c.size_of.ensures.some, c.size_of.ensures.within)
 
 pub loop-b-preserved : goal.loop-b-preserved
 loop-b-preserved c =
-    let nd = c.before.type_size.ensures in
+    let nd = c.size_of.ensures in
     let inv = c.loop-b.invariant in
     let l : c.loop-b.b < length c.loop-b.work = omega (arith, inv.2) in
     rw c.wide.ensures (

@@ -23,9 +23,7 @@ pub returns-else-m-own : goal.returns-else-m-own
 returns-else-m-own c = came_on _ _ _ _ (search colour_met)
 
 pub hop-i-requires : goal.hop-i-requires
-hop-i-requires c =
-    let inv = c.loop-i.invariant in
-    (omega arith, ((omega (arith, inv.most), omega arith), colouring_node _ _ _ _ _ _ inv c.if-m-ne1.false))
+hop-i-requires c = let inv = c.loop-i.invariant in record { table_len = omega arith; b_lt_n = (omega (arith, inv.most), omega arith); marked = colouring_node _ _ _ _ _ _ inv c.if-m-ne1.false }
 
 pub loop-i-smaller : goal.loop-i-smaller
 loop-i-smaller c =

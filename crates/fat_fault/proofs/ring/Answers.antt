@@ -8,10 +8,7 @@ pub loop-work-init : goal.loop-work-init
 loop-work-init c = search rounding_none
 
 pub hop-i-requires : goal.hop-i-requires
-hop-i-requires c =
-    let inv = c.loop-work.invariant in
-    let pre = c.requires in
-    (omega arith, ((inv.below, omega arith), rounding_node _ _ _ _ _ _ inv pre.1.1.1.1))
+hop-i-requires c = let inv = c.loop-work.invariant in record { table_len = omega arith; b_lt_n = (inv.below, omega arith); marked = rounding_node _ _ _ _ _ _ inv c.requires.ring }
 
 pub overflow_sub-i : goal.overflow_sub-i
 overflow_sub-i c = search rounding_on

@@ -10,7 +10,7 @@ pub overflow_add-first_block : goal.overflow_add-first_block
 overflow_add-first_block c = search (file_fits)
 
 pub seek-sought-requires : goal.seek-sought-requires
-seek-sought-requires c = (search (file_from, are_bytes), search rules)
+seek-sought-requires c = record { chain_from = search (file_from, are_bytes); le_count = search rules }
 
 pub overflow_sub-from : goal.overflow_sub-from
 overflow_sub-from c = search (part_some, are_bytes)

@@ -4,7 +4,7 @@ use borrow.Author.Rules.{rules}
 use Rattle.fat_judge.proofs.judge_count.Goals as goal
 
 pub seek-sought-requires : goal.seek-sought-requires
-seek-sought-requires c = (search (file_from, are_bytes), search rules)
+seek-sought-requires c = record { chain_from = search (file_from, are_bytes); le_count = search rules }
 
 pub is_end-requires : goal.is_end-requires
 is_end-requires c = search (in_standing, are_bytes)
@@ -16,7 +16,7 @@ pub last_from-last-requires : goal.last_from-last-requires
 last_from-last-requires c = search (in_amid, are_bytes)
 
 pub seek-more-requires : goal.seek-more-requires
-seek-more-requires c = (search (head_chain, are_bytes), search (past_some, are_bytes))
+seek-more-requires c = record { chain_from = search (head_chain, are_bytes); le_count = search (past_some, are_bytes) }
 
 pub overflow_sub-result : goal.overflow_sub-result
 overflow_sub-result c = search (past_last, are_bytes)

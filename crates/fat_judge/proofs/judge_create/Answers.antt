@@ -9,7 +9,7 @@ pub returns-then-block_count-eq0 : goal.returns-then-block_count-eq0
 returns-then-block_count-eq0 c = inl (c.if-block_count-eq0.true, refl)
 
 pub seek-sought-requires : goal.seek-sought-requires
-seek-sought-requires c = (search (head_chain, are_bytes), search rules)
+seek-sought-requires c = record { chain_from = search (head_chain, are_bytes); le_count = search rules }
 
 pub returns-in_default : goal.returns-in_default
 returns-in_default c = search (create_none, are_bytes)

@@ -14,7 +14,7 @@ pub overflow_add-first_block : goal.overflow_add-first_block
 overflow_add-first_block c = search (file_fits, is_file)
 
 pub seek-sought-requires : goal.seek-sought-requires
-seek-sought-requires c = (search (file_from, is_file, are_bytes), search rules)
+seek-sought-requires c = record { chain_from = search (file_from, is_file, are_bytes); le_count = search rules }
 
 pub returns-in-Within : goal.returns-in-Within
 returns-in-Within c = search (list_short, is_file, are_bytes)

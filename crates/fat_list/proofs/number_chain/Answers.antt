@@ -10,8 +10,7 @@ pub size_at-size-requires : goal.size_at-size-requires
 size_at-size-requires c = search fill_standing
 
 pub number_run-requires : goal.number_run-requires
-number_run-requires c = let at_pre = c.requires in
-    let z = fill_fits _ _ _ _ _ _ _ at_pre.0.chain c.loop-i.invariant c.loop-i-test.true _ c.size_at-size.ensures at_pre.1 in record { size_in_bounds = z.0; size_bound = z.2 }
+number_run-requires c = let z = fill_fits _ _ _ _ _ _ _ c.requires.chain_from.chain c.loop-i.invariant c.loop-i-test.true _ c.size_at-size.ensures c.requires.first_in_bounds in record { size_in_bounds = z.0; size_bound = z.2 }
 
 pub overflow_add-at : goal.overflow_add-at
 overflow_add-at c =

@@ -6,7 +6,7 @@ pub overflow_add-first_block : goal.overflow_add-first_block
 overflow_add-first_block c = search (file_fits, list_file)
 
 pub number_chain-count-requires : goal.number_chain-count-requires
-number_chain-count-requires c = (search (file_from, list_file, are_bytes), search (list_room))
+number_chain-count-requires c = record { chain_from = search (file_from, list_file, are_bytes); first_in_bounds = search (list_room) }
 
 pub returns-in-Refused : goal.returns-in-Refused
 returns-in-Refused c = search (list_refused)

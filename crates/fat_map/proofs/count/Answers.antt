@@ -18,7 +18,7 @@ pub returns-then-n-b : goal.returns-then-n-b
 returns-then-n-b c = count_over _ _ _ _ _ c.unfit.ensures c.if-unfit.false _ c.words_in-words.ensures (omega arith) c.if-n-b.true
 
 pub count-free-requires : goal.count-free-requires
-count-free-requires c = (omega arith, count_room c.args.map.now c.args.n c.args.a c.args.b _ c.unfit.ensures c.if-unfit.false _ c.words_in-words.ensures (omega arith) (omega arith))
+count-free-requires c = record { a_le_b = omega arith; b_bound = count_room c.args.map.now c.args.n c.args.a c.args.b _ c.unfit.ensures c.if-unfit.false _ c.words_in-words.ensures (omega arith) (omega arith) }
 
 pub returns : goal.returns
 returns c = count_done _ _ _ _ _ c.unfit.ensures c.if-unfit.false _ c.words_in-words.ensures (omega arith) _ (omega arith) (omega arith) c.count-free.ensures

@@ -8,7 +8,7 @@ pub loop-b-init : goal.loop-b-init
 loop-b-init c = search lays_begin
 
 pub past-end-requires : goal.past-end-requires
-past-end-requires c = (search lays_reading, (search rules, search lays_marked))
+past-end-requires c = record { reading = search lays_reading; from_lt_n = search rules; fact = search lays_marked }
 
 pub skip-after-requires : goal.skip-after-requires
 skip-after-requires c = search lays_passed

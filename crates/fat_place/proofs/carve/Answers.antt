@@ -15,9 +15,7 @@ next_of-i-requires c =
     omega (arith, s.room, s.node.some, s.node.within)
 
 pub put_parts-w-requires : goal.put_parts-w-requires
-put_parts-w-requires c =
-    let v = c.loop-i.invariant in
-    ((v.few, v.room), (v.waits, carve_fits _ _ _ _ _ _ _ _ _ _ v c.loop-i-test.true _ c.size_at-size.ensures c.requires.m_le_end))
+put_parts-w-requires c = let v = c.loop-i.invariant in record { n_bound = (v.few, v.room); waits = v.waits; le_size = carve_fits _ _ _ _ _ _ _ _ _ _ v c.loop-i-test.true _ c.size_at-size.ensures c.requires.m_le_end }
 
 pub loop-i-smaller : goal.loop-i-smaller
 loop-i-smaller c =

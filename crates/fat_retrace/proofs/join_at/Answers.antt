@@ -14,10 +14,8 @@ returns-then-next-eq0 c =
     c.prev_of-prev.ensures c.if-prev-ne0.false c.head_of-head.ensures c.if-head-b.false c.next_of-next.ensures _ _ c.if-next-eq0.true
 
 pub give_up-given-requires : goal.give_up-given-requires
-give_up-given-requires c =
-    let w = several _ _ _ c.requires.volume (record { byte = λ k. omega (arith, c.type_inv.table k) }) c.requires.node _ _ _
-    c.prev_of-prev.ensures c.if-prev-ne0.false c.head_of-head.ensures c.if-head-b.false c.next_of-next.ensures c.if-next-eq0.false in
-    (w.chain, join_room _ _ _ w _ c.args.list.now c.requires.b_in_bounds)
+give_up-given-requires c = let w = several _ _ _ c.requires.volume (record { byte = λ k. omega (arith, c.type_inv.table k) }) c.requires.node _ _ _
+    c.prev_of-prev.ensures c.if-prev-ne0.false c.head_of-head.ensures c.if-head-b.false c.next_of-next.ensures c.if-next-eq0.false in record { chain_from = w.chain; first_in_bounds = join_room _ _ _ w _ c.args.list.now c.requires.b_in_bounds }
 
 pub put_create-requires : goal.put_create-requires
 put_create-requires c = let w = several _ _ _ c.requires.volume (record { byte = λ k. omega (arith, c.type_inv.table k) }) c.requires.node _ _ _

@@ -16,10 +16,8 @@ returns-then-list-n c =
     retrace_short _ _ _ _ c.test-tested.ensures _ c.number.ensures c.if-number-ne0.false c.if-list-n.true
 
 pub retrace_sound-calls-requires : goal.retrace_sound-calls-requires
-retrace_sound-calls-requires c =
-    let v = accepted_volume _ _ c.args.list.now _ c.test-tested.ensures _ c.number.ensures c.if-number-ne0.false
-    (record { byte = λ k. omega (arith, c.type_inv.table k) }) in
-    (v, c.if-list-n.false)
+retrace_sound-calls-requires c = let v = accepted_volume _ _ c.args.list.now _ c.test-tested.ensures _ c.number.ensures c.if-number-ne0.false
+    (record { byte = λ k. omega (arith, c.type_inv.table k) }) in record { volume = v; n_in_bounds = c.if-list-n.false }
 
 pub returns : goal.returns
 returns c =

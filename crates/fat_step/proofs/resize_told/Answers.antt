@@ -7,7 +7,7 @@ pub resize_step-requires : goal.resize_step-requires
 resize_step-requires c = record { volume = search rules; recut = search (shrink_goes) }
 
 pub resize_step-requires-in-Grow : goal.resize_step-requires-in-Grow
-resize_step-requires-in-Grow c = (search rules, search (grow_goes))
+resize_step-requires-in-Grow c = record { volume = search rules; recut = search (grow_goes) }
 
 pub returns-in-Refused : goal.returns-in-Refused
 returns-in-Refused c = search (resize_refused)

@@ -20,7 +20,7 @@ returns-then-work-n c =
     test_short c.args.table.now c.args.work.now (denied _ c.misfit.ensures.1 c.if-misfit.false) (denied _ c.outside.ensures.1 c.if-outside.false) c.if-work-n.true c.refused-then-work-n.ensures
 
 pub verdict-r-requires : goal.verdict-r-requires
-verdict-r-requires c = (denied _ c.misfit.ensures.1 c.if-misfit.false, (denied _ c.outside.ensures.1 c.if-outside.false, omega arith))
+verdict-r-requires c = record { fact = denied _ c.misfit.ensures.1 c.if-misfit.false; fact_2 = denied _ c.outside.ensures.1 c.if-outside.false; table_in_bounds = omega arith }
 
 pub returns-in-Refused : goal.returns-in-Refused
 returns-in-Refused c =

@@ -7,7 +7,7 @@ pub returns-then-block_count-eq0 : goal.returns-then-block_count-eq0
 returns-then-block_count-eq0 c = search (create_zero, are_bytes)
 
 pub seek_take-sought-requires : goal.seek_take-sought-requires
-seek_take-sought-requires c = (search rules, ((search rules, search rules), search rules))
+seek_take-sought-requires c = record { volume = search rules; first_value = (search rules, search rules); map_value = search rules }
 
 pub draw-requires : goal.draw-requires
 draw-requires c = record { volume = search rules; map_value = all_out _ _ c.requires.volume (are_bytes _ c.slice_known-1.given) _ _ _ c.seek_take-sought.ensures _ _ c.in-Past.is }

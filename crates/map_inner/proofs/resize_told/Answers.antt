@@ -14,7 +14,7 @@ pub take-requires : goal.take-requires
 take-requires c = record { volume = search rules; take_at = search (grow_take, are_bytes); map_value = search rules }
 
 pub resize_step-requires-in-Grow : goal.resize_step-requires-in-Grow
-resize_step-requires-in-Grow c = (search rules, search grow_goes)
+resize_step-requires-in-Grow c = record { volume = search rules; recut = search grow_goes }
 
 pub returns-in-Refused : goal.returns-in-Refused
 returns-in-Refused c = search (resize_left, are_bytes)

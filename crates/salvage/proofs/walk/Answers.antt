@@ -21,7 +21,7 @@ take-requires c = walk_room _ _ _ _ _ _ _ _ c.loop-i.invariant.0 _ (omega arith)
 pub returns-then-not-take : goal.returns-then-not-take
 returns-then-not-take c =
     walk_clash _ _ _ _ _ _ _ _ c.loop-i.invariant.0 _ (omega arith) _ _ _ c.look_at-seen.ensures c.in-Node.is
-    c.requires.n_bound.0 _ _ c.take.ensures c.take.auto.0 (not-true _ c.if-not-take.true-raw)
+    c.requires.n_bound.0 _ _ c.take.ensures c.take.auto.work (not-true _ c.if-not-take.true-raw)
 
 pub overflow_add-count : goal.overflow_add-count
 overflow_add-count c =
@@ -38,8 +38,8 @@ loop-i-smaller c =
 pub loop-i-preserved : goal.loop-i-preserved
 loop-i-preserved c = (
   walk_on _ _ _ _ _ _ _ _ c.loop-i.invariant.0 _ (omega arith) _ _ _ c.look_at-seen.ensures c.in-Node.is _
-      (c.take.ensures.yes (not-false _ c.if-not-take.false-raw)) c.requires.n_bound.0 c.take.auto.0,
-  c.take.auto.0 ∙ c.loop-i.invariant.1,
+      (c.take.ensures.yes (not-false _ c.if-not-take.false-raw)) c.requires.n_bound.0 c.take.auto.work,
+  c.take.auto.work ∙ c.loop-i.invariant.1,
 )
 
 pub returns : goal.returns

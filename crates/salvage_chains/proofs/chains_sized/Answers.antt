@@ -12,7 +12,7 @@ pub returns-then-not-has_room : goal.returns-then-not-has_room
 returns-then-not-has_room c = out_short _ _ _ _ _ _ _ c.has_room.ensures c.if-ends-firsts.false c.if-not-has_room.true-raw
 
 pub write_all-count-requires : goal.write_all-count-requires
-write_all-count-requires c = (may_again _ _ _ _ c.requires.sized c.requires.firsts_len_bound _ _ _ c.has_room.ensures, rooms _ _ _ _ _ _ _ c.has_room.ensures c.if-ends-firsts.false c.if-not-has_room.false-raw)
+write_all-count-requires c = record { may_all = may_again _ _ _ _ c.requires.sized c.requires.firsts_len_bound _ _ _ c.has_room.ensures; rooms = rooms _ _ _ _ _ _ _ c.has_room.ensures c.if-ends-firsts.false c.if-not-has_room.false-raw }
 
 pub returns : goal.returns
 returns c = out_done _ _ _ _ _ _ _ c.has_room.ensures c.if-ends-firsts.false c.if-not-has_room.false-raw _ _ _ _ _ c.write_all-count.ensures c.clear-2.ensures

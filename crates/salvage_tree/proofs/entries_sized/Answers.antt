@@ -6,7 +6,7 @@ pub mark_gone-requires : goal.mark_gone-requires
 mark_gone-requires c = record { sized = still_sized _ _ _ _ _ c.requires c.clear.ensures; marks = search (none_marked) }
 
 pub returns-then-list-count : goal.returns-then-list-count
-returns-then-list-count c = out_short _ _ _ _ _ _ _ _ c.requires c.clear.ensures c.mark_gone.auto.1.1.1.0 c.mark_gone.ensures _ c.count_live-count.ensures c.clear-then-list-count.ensures c.if-list-count.true
+returns-then-list-count c = out_short _ _ _ _ _ _ _ _ c.requires c.clear.ensures c.mark_gone.auto.work c.mark_gone.ensures _ c.count_live-count.ensures c.clear-then-list-count.ensures c.if-list-count.true
 
 pub returns : goal.returns
-returns c = out_done _ _ _ _ _ _ _ _ c.requires c.clear.ensures c.mark_gone.auto.1.1.1.0 c.mark_gone.ensures _ c.count_live-count.ensures c.clear-2.ensures c.if-list-count.false _ c.list_live.ensures
+returns c = out_done _ _ _ _ _ _ _ _ c.requires c.clear.ensures c.mark_gone.auto.work c.mark_gone.ensures _ c.count_live-count.ensures c.clear-2.ensures c.if-list-count.false _ c.list_live.ensures

@@ -4,7 +4,7 @@ use Rattle.salvage_way.proofs.Outs.{out_short, out_done}
 use Rattle.salvage_way.proofs.way_sized.Goals as goal
 
 pub returns-then-list-count : goal.returns-then-list-count
-returns-then-list-count c = out_short _ _ _ _ _ _ (c.count_way-count.auto.1.1.0 ∙ c.ready.auto.1.1.0) c.clear.ensures _ c.count_way-count.ensures c.if-list-count.true
+returns-then-list-count c = out_short _ _ _ _ _ _ (c.count_way-count.auto.work ∙ c.ready.auto.work) c.clear.ensures _ c.count_way-count.ensures c.if-list-count.true
 
 pub returns : goal.returns
-returns c = out_done _ _ _ _ _ _ (c.list_way.auto.1.1.0 ∙ c.ready-2.auto.1.1.0 ∙ c.count_way-count.auto.1.1.0 ∙ c.ready.auto.1.1.0) c.clear-2.ensures _ c.count_way-count.ensures c.if-list-count.false _ c.list_way.ensures
+returns c = out_done _ _ _ _ _ _ (c.list_way.auto.work ∙ c.ready-2.auto.work ∙ c.count_way-count.auto.work ∙ c.ready.auto.work) c.clear-2.ensures _ c.count_way-count.ensures c.if-list-count.false _ c.list_way.ensures

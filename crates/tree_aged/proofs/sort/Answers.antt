@@ -8,7 +8,7 @@ pub link_of-count-requires : goal.link_of-count-requires
 link_of-count-requires c = search (sort_count)
 
 pub lowest-r-requires : goal.lowest-r-requires
-lowest-r-requires c = (search rules, (search rules, search (sort_count_is)))
+lowest-r-requires c = record { fits = search rules; known = search rules; count_value = search (sort_count_is) }
 
 pub returns : goal.returns
 returns c = search (sort_leaves)

@@ -14,5 +14,4 @@ bytes4-requires c = omega (arith, live_fits c.requires c.args.x c.index.result c
 
 pub returns : goal.returns
 returns c =
-    let at_pre = c.requires in
-    shown (at_pre) c.args.x c.index.result c.live.ensures (not-false _ c.if-not-live.false-raw) c.index.ensures 32 4 _ _ c.bytes4.ensures
+    shown (c.requires) c.args.x c.index.result c.live.ensures (not-false _ c.if-not-live.false-raw) c.index.ensures 32 4 _ _ c.bytes4.ensures

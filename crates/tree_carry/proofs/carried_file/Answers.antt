@@ -14,5 +14,4 @@ bytes20-requires c = omega (arith, live_fits c.requires c.args.x c.index.result 
 
 pub returns : goal.returns
 returns c =
-    let at_pre = c.requires in
-    shown (at_pre) c.args.x c.index.result c.live.ensures (not-false _ c.if-not-live.false-raw) c.index.ensures 24 20 _ _ c.bytes20.ensures
+    shown (c.requires) c.args.x c.index.result c.live.ensures (not-false _ c.if-not-live.false-raw) c.index.ensures 24 20 _ _ c.bytes20.ensures

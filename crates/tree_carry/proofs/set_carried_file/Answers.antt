@@ -12,8 +12,7 @@ returns-then-not-live c = inl (tells_not c.live.ensures (not-true _ c.if-not-liv
 
 pub put_carried_file-requires : goal.put_carried_file-requires
 put_carried_file-requires c =
-    let at_pre = c.requires in
-    live_fits (at_pre) c.args.x c.args.x c.live.ensures (not-false _ c.if-not-live.false-raw) refl
+    live_fits (c.requires) c.args.x c.args.x c.live.ensures (not-false _ c.if-not-live.false-raw) refl
 
 pub returns : goal.returns
 returns c =

@@ -3,13 +3,11 @@ use Rattle.tree_change.proofs.rename_dir.Goals as goal
 
 pub unlink_dir-requires : goal.unlink_dir-requires
 unlink_dir-requires c =
-    let pre = c.requires in
-    rename_dir_may c.args.hash.now c.args.dirs.now c.args.file_hash.now c.args.files.now c.args.list.now c.args.opened c.record_of-opens.result c.args.x c.args.parent c.args.name.now _ c.judge_rename_dir-judged.ensures pre c.in-Go.is
+    rename_dir_may c.args.hash.now c.args.dirs.now c.args.file_hash.now c.args.files.now c.args.list.now c.args.opened c.record_of-opens.result c.args.x c.args.parent c.args.name.now _ c.judge_rename_dir-judged.ensures c.requires c.in-Go.is
 
 pub link_dir-requires : goal.link_dir-requires
 link_dir-requires c =
-    let pre = c.requires in
-    link_dir_may c.args.hash.now c.args.dirs.now c.args.file_hash.now c.args.files.now c.args.list.now c.args.opened c.record_of-opens.result c.args.x c.args.parent c.args.name.now _ c.judge_rename_dir-judged.ensures pre c.in-Go.is c.unlink_dir.ensures
+    link_dir_may c.args.hash.now c.args.dirs.now c.args.file_hash.now c.args.files.now c.args.list.now c.args.opened c.record_of-opens.result c.args.x c.args.parent c.args.name.now _ c.judge_rename_dir-judged.ensures c.requires c.in-Go.is c.unlink_dir.ensures
 
 pub returns-in-Refused : goal.returns-in-Refused
 returns-in-Refused c = search (rename_dir_no)

@@ -3,13 +3,11 @@ use Rattle.tree_change.proofs.rename_file.Goals as goal
 
 pub unlink_file-requires : goal.unlink_file-requires
 unlink_file-requires c =
-    let pre = c.requires in
-    rename_file_may c.args.dir_hash.now c.args.dirs.now c.args.hash.now c.args.files.now c.args.list.now c.args.opened c.record_of-opens.result c.args.x c.args.parent c.args.name.now _ c.judge_rename_file-judged.ensures pre c.in-Go.is
+    rename_file_may c.args.dir_hash.now c.args.dirs.now c.args.hash.now c.args.files.now c.args.list.now c.args.opened c.record_of-opens.result c.args.x c.args.parent c.args.name.now _ c.judge_rename_file-judged.ensures c.requires c.in-Go.is
 
 pub link_file-requires : goal.link_file-requires
 link_file-requires c =
-    let pre = c.requires in
-    link_file_may c.args.dir_hash.now c.args.dirs.now c.args.hash.now c.args.files.now c.args.list.now c.args.opened c.record_of-opens.result c.args.x c.args.parent c.args.name.now _ c.judge_rename_file-judged.ensures pre c.in-Go.is c.unlink_file.ensures
+    link_file_may c.args.dir_hash.now c.args.dirs.now c.args.hash.now c.args.files.now c.args.list.now c.args.opened c.record_of-opens.result c.args.x c.args.parent c.args.name.now _ c.judge_rename_file-judged.ensures c.requires c.in-Go.is c.unlink_file.ensures
 
 pub returns-in-Refused : goal.returns-in-Refused
 returns-in-Refused c = search (rename_file_no)

@@ -12,10 +12,8 @@ get-hit-requires c = (key_ends c.requires (key_words c.args.key) c.hash-b.result
 
 pub returns-then-hit-eq0 : goal.returns-then-hit-eq0
 returns-then-hit-eq0 c =
-    let at_pre = c.requires in
-    other_none (at_pre) (key_words c.args.key) c.hash-b.result c.get_hash-first.result c.get-hit.result c.hash-b.ensures c.get_hash-first.ensures c.args.x c.get-hit.ensures c.if-hit-eq0.true
+    other_none (c.requires) (key_words c.args.key) c.hash-b.result c.get_hash-first.result c.get-hit.result c.hash-b.ensures c.get_hash-first.ensures c.args.x c.get-hit.ensures c.if-hit-eq0.true
 
 pub returns : goal.returns
 returns c =
-    let at_pre = c.requires in
-    other_some (at_pre) (key_words c.args.key) c.hash-b.result c.get_hash-first.result c.get-hit.result c.hash-b.ensures c.get_hash-first.ensures c.args.x c.get-hit.ensures c.if-hit-eq0.false
+    other_some (c.requires) (key_words c.args.key) c.hash-b.result c.get_hash-first.result c.get-hit.result c.hash-b.ensures c.get_hash-first.ensures c.args.x c.get-hit.ensures c.if-hit-eq0.false

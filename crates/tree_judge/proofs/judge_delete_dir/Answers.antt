@@ -11,24 +11,21 @@ returns-in_default c =
 
 pub returns-then-x-eq1 : goal.returns-then-x-eq1
 returns-then-x-eq1 c =
-    let at_pre = c.requires in
-    dir_root (at_pre) c.args.opens c.args.x (passed (alone_tests_of (alone 40 c.args.dirs.now) c.args.opens c.args.x) _ c.judge_delete-once.ensures c.in-Go.is) c.if-x-eq1.true
+    dir_root (c.requires) c.args.opens c.args.x (passed (alone_tests_of (alone 40 c.args.dirs.now) c.args.opens c.args.x) _ c.judge_delete-once.ensures c.in-Go.is) c.if-x-eq1.true
 
 pub link_of-requires : goal.link_of-requires
 link_of-requires c = (alone_fits c.requires c.args.opens c.args.x (passed (alone_tests_of (alone 40 c.args.dirs.now) c.args.opens c.args.x) _ c.judge_delete-once.ensures c.in-Go.is), search rules)
 
 pub returns-then-link_of-ne0 : goal.returns-then-link_of-ne0
 returns-then-link_of-ne0 c =
-    let at_pre = c.requires in
-    dir_dirs (at_pre) c.args.opens c.args.x (passed (alone_tests_of (alone 40 c.args.dirs.now) c.args.opens c.args.x) _ c.judge_delete-once.ensures c.in-Go.is) c.link_of.result c.if-x-eq1.false c.link_of.ensures c.if-link_of-ne0.true
+    dir_dirs (c.requires) c.args.opens c.args.x (passed (alone_tests_of (alone 40 c.args.dirs.now) c.args.opens c.args.x) _ c.judge_delete-once.ensures c.in-Go.is) c.link_of.result c.if-x-eq1.false c.link_of.ensures c.if-link_of-ne0.true
 
 pub link_of-requires-2 : goal.link_of-requires-2
 link_of-requires-2 c = (alone_fits c.requires c.args.opens c.args.x (passed (alone_tests_of (alone 40 c.args.dirs.now) c.args.opens c.args.x) _ c.judge_delete-once.ensures c.in-Go.is), search rules)
 
 pub returns-then-link_of-ne0-2 : goal.returns-then-link_of-ne0-2
 returns-then-link_of-ne0-2 c =
-    let at_pre = c.requires in
-    dir_files (at_pre) c.args.opens c.args.x (passed (alone_tests_of (alone 40 c.args.dirs.now) c.args.opens c.args.x) _ c.judge_delete-once.ensures c.in-Go.is) c.link_of-2.result c.if-x-eq1.false c.link_of-2.ensures c.if-link_of-ne0-2.true
+    dir_files (c.requires) c.args.opens c.args.x (passed (alone_tests_of (alone 40 c.args.dirs.now) c.args.opens c.args.x) _ c.judge_delete-once.ensures c.in-Go.is) c.link_of-2.result c.if-x-eq1.false c.link_of-2.ensures c.if-link_of-ne0-2.true
 
 pub returns : goal.returns
 returns c = dir_go c.requires c.args.opens c.args.x (passed (alone_tests_of (alone 40 c.args.dirs.now) c.args.opens c.args.x) _ c.judge_delete-once.ensures c.in-Go.is) c.link_of.result c.link_of-2.result c.if-x-eq1.false c.link_of.ensures (omega arith) c.link_of-2.ensures (omega arith)

@@ -20,8 +20,7 @@ returns-then-has_other c =
 
 pub full-requires : goal.full-requires
 full-requires c =
-    let at_pre = c.requires in
-    (at_pre.1.wide, first_fits at_pre.1, at_pre.1.table.count_one)
+    (c.requires.1.wide, first_fits c.requires.1, c.requires.1.table.count_one)
 
 pub returns-then-full : goal.returns-then-full
 returns-then-full c =

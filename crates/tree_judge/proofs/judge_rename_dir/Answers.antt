@@ -32,10 +32,8 @@ returns-then-in_list c =
 
 pub returns-then-has_other : goal.returns-then-has_other
 returns-then-has_other c =
-    let at_pre = c.requires in
-    dir_exists (tables c.args.hash.now c.args.dirs.now c.args.file_hash.now c.args.files.now) c.args.opens c.args.x c.args.parent c.args.name.now (passed (held_tests_of (dirs (tables c.args.hash.now c.args.dirs.now c.args.file_hash.now c.args.files.now)) c.args.opens c.args.x) _ c.judge_held-held.ensures c.in-Go.is) c.if-x-eq1.false (good_name c.args.name.now c.is_legal.ensures c.if-not-is_legal.false-raw) c.live.ensures (not-false _ c.if-not-live.false-raw) c.in_list.ensures at_pre.0 c.if-in_list.false (other_key (dirs (tables c.args.hash.now c.args.dirs.now c.args.file_hash.now c.args.files.now)) c.args.x at_pre.1 c.has_other.ensures) c.if-has_other.true
+    dir_exists (tables c.args.hash.now c.args.dirs.now c.args.file_hash.now c.args.files.now) c.args.opens c.args.x c.args.parent c.args.name.now (passed (held_tests_of (dirs (tables c.args.hash.now c.args.dirs.now c.args.file_hash.now c.args.files.now)) c.args.opens c.args.x) _ c.judge_held-held.ensures c.in-Go.is) c.if-x-eq1.false (good_name c.args.name.now c.is_legal.ensures c.if-not-is_legal.false-raw) c.live.ensures (not-false _ c.if-not-live.false-raw) c.in_list.ensures c.requires.0 c.if-in_list.false (other_key (dirs (tables c.args.hash.now c.args.dirs.now c.args.file_hash.now c.args.files.now)) c.args.x c.requires.1 c.has_other.ensures) c.if-has_other.true
 
 pub returns : goal.returns
 returns c =
-    let at_pre = c.requires in
-    dir_free (tables c.args.hash.now c.args.dirs.now c.args.file_hash.now c.args.files.now) c.args.opens c.args.x c.args.parent c.args.name.now (passed (held_tests_of (dirs (tables c.args.hash.now c.args.dirs.now c.args.file_hash.now c.args.files.now)) c.args.opens c.args.x) _ c.judge_held-held.ensures c.in-Go.is) c.if-x-eq1.false (good_name c.args.name.now c.is_legal.ensures c.if-not-is_legal.false-raw) c.live.ensures (not-false _ c.if-not-live.false-raw) c.in_list.ensures at_pre.0 c.if-in_list.false (other_key (dirs (tables c.args.hash.now c.args.dirs.now c.args.file_hash.now c.args.files.now)) c.args.x at_pre.1 c.has_other.ensures) c.if-has_other.false
+    dir_free (tables c.args.hash.now c.args.dirs.now c.args.file_hash.now c.args.files.now) c.args.opens c.args.x c.args.parent c.args.name.now (passed (held_tests_of (dirs (tables c.args.hash.now c.args.dirs.now c.args.file_hash.now c.args.files.now)) c.args.opens c.args.x) _ c.judge_held-held.ensures c.in-Go.is) c.if-x-eq1.false (good_name c.args.name.now c.is_legal.ensures c.if-not-is_legal.false-raw) c.live.ensures (not-false _ c.if-not-live.false-raw) c.in_list.ensures c.requires.0 c.if-in_list.false (other_key (dirs (tables c.args.hash.now c.args.dirs.now c.args.file_hash.now c.args.files.now)) c.args.x c.requires.1 c.has_other.ensures) c.if-has_other.false

@@ -21,5 +21,4 @@ overflow_sub-result c = omega (arith, count_within c.requires c.index-count.resu
 
 pub returns : goal.returns
 returns c =
-    let at_pre = c.requires in
-    free_is (at_pre) c.index-count.result c.index-maximum.result c.index-removed.result c.get_u32-first.result (c.index-count.ensures ∙ c.get_u32.ensures) (c.index-maximum.ensures ∙ c.get_u32-2.ensures) c.get_u32-first.ensures (c.index-removed.ensures ∙ c.count_list.ensures)
+    free_is (c.requires) c.index-count.result c.index-maximum.result c.index-removed.result c.get_u32-first.result (c.index-count.ensures ∙ c.get_u32.ensures) (c.index-maximum.ensures ∙ c.get_u32-2.ensures) c.get_u32-first.ensures (c.index-removed.ensures ∙ c.count_list.ensures)

@@ -10,9 +10,8 @@ use Rattle.tree_look.proofs.list_dirs.Goals as goal
 
 pub live-requires : goal.live-requires
 live-requires c =
-    let at_pre = c.requires in
     let s = tables c.args.dir_hash.now c.args.dir_table.now c.args.file_hash.now c.args.file_table.now in
-    dir_single s (at_pre)
+    dir_single s (c.requires)
 
 pub returns-then-not-live : goal.returns-then-not-live
 returns-then-not-live c = inl (tells_not c.live.ensures (not-true _ c.if-not-live.true-raw), refl)
@@ -25,6 +24,5 @@ list_children-requires c = (dirs_end (tables c.args.dir_hash.now c.args.dir_tabl
 
 pub returns : goal.returns
 returns c =
-    let at_pre = c.requires in
     let s = tables c.args.dir_hash.now c.args.dir_table.now c.args.file_hash.now c.args.file_table.now in
-    dirs_listed s (at_pre) c.args.inode c.index-at.result c.live.ensures (not-false _ c.if-not-live.false-raw) c.index-at.ensures c.get_u32-first.result c.get_u32-first.ensures _ _ c.list_children.ensures
+    dirs_listed s (c.requires) c.args.inode c.index-at.result c.live.ensures (not-false _ c.if-not-live.false-raw) c.index-at.ensures c.get_u32-first.result c.get_u32-first.ensures _ _ c.list_children.ensures

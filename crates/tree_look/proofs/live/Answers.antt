@@ -31,5 +31,4 @@ in_list-requires c = (bucket_there c.requires c.hash-b.result c.get_u32-first.re
 
 pub returns : goal.returns
 returns c =
-    let at_pre = c.requires in
-    live_told (at_pre) c.args.x c.index.result c.hash-b.result c.get_u32-first.result _ c.in_list.result c.index.ensures c.get_key-key.ensures c.hash-b.ensures c.get_u32-first.ensures c.in_list.ensures
+    live_told (c.requires) c.args.x c.index.result c.hash-b.result c.get_u32-first.result _ c.in_list.result c.index.ensures c.get_key-key.ensures c.hash-b.ensures c.get_u32-first.ensures c.in_list.ensures

@@ -14,10 +14,8 @@ get-hit-requires c = (bucket_there c.requires c.hash-b.result c.get_u32-first.re
 
 pub returns-then-hit-eq0 : goal.returns-then-hit-eq0
 returns-then-hit-eq0 c =
-    let at_pre = c.requires in
-    lookup_none (at_pre) _ c.hash-b.result c.get_u32-first.result c.get-hit.result c.hash-b.ensures c.get_u32-first.ensures c.get-hit.ensures c.if-hit-eq0.true
+    lookup_none (c.requires) _ c.hash-b.result c.get_u32-first.result c.get-hit.result c.hash-b.ensures c.get_u32-first.ensures c.get-hit.ensures c.if-hit-eq0.true
 
 pub returns : goal.returns
 returns c =
-    let at_pre = c.requires in
-    lookup_done_lem (at_pre) _ c.hash-b.result c.get_u32-first.result c.get-hit.result c.hash-b.ensures c.get_u32-first.ensures c.get-hit.ensures c.if-hit-eq0.false
+    lookup_done_lem (c.requires) _ c.hash-b.result c.get_u32-first.result c.get-hit.result c.hash-b.ensures c.get_u32-first.ensures c.get-hit.ensures c.if-hit-eq0.false

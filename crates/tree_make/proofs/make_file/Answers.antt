@@ -3,8 +3,7 @@ use Rattle.tree_make.proofs.make_file.Goals as goal
 
 pub new_file-x-requires : goal.new_file-x-requires
 new_file-x-requires c =
-    let pre = c.requires in
-    new_file_may c.args.dir_hash.now c.args.dirs.now c.args.hash.now c.args.files.now c.args.list.now c.args.opened.now c.args.parent c.args.name.now _ c.judge_made-judged.ensures pre c.in-Go.is
+    new_file_may c.args.dir_hash.now c.args.dirs.now c.args.hash.now c.args.files.now c.args.list.now c.args.opened.now c.args.parent c.args.name.now _ c.judge_made-judged.ensures c.requires c.in-Go.is
 
 pub returns-in-Refused : goal.returns-in-Refused
 returns-in-Refused c = search (make_file_no)

@@ -15,8 +15,7 @@ slice_bounds-get_key-end c = omega (arith, live_fits c.requires.0 c.requires.1 c
 
 pub get_hash-first-requires : goal.get_hash-first-requires
 get_hash-first-requires c =
-    let at_pre = c.requires in
-    hash_fits at_pre.0 at_pre.1 c.index.result c.hash-bucket.result 0 (key_words c.get_key-key.result) c.index.ensures c.get_key-key.ensures c.hash-bucket.ensures
+    hash_fits c.requires.0 c.requires.1 c.index.result c.hash-bucket.result 0 (key_words c.get_key-key.result) c.index.ensures c.get_key-key.ensures c.hash-bucket.ensures
 
 pub find_before-requires : goal.find_before-requires
 find_before-requires c = (own_ends c.requires.0 c.requires.1 c.index.result c.hash-bucket.result c.get_hash-first.result (key_words c.get_key-key.result) c.index.ensures c.get_key-key.ensures c.hash-bucket.ensures c.get_hash-first.ensures, omega (arith, c.requires.0.wide), own_there c.requires.0 c.requires.1 c.index.result c.hash-bucket.result c.get_hash-first.result (key_words c.get_key-key.result) c.index.ensures c.get_key-key.ensures c.hash-bucket.ensures c.get_hash-first.ensures)
@@ -26,5 +25,4 @@ link_of-requires c = (live_fits c.requires.0 c.requires.1 c.args.x refl, omega (
 
 pub returns : goal.returns
 returns c =
-    let at_pre = c.requires in
-    own_seat at_pre.0 at_pre.1 c.index.result c.hash-bucket.result c.get_hash-first.result (key_words c.get_key-key.result) c.index.ensures c.get_key-key.ensures c.hash-bucket.ensures c.find_before.result c.link_of.result c.get_hash-first.ensures c.find_before.ensures c.link_of.ensures
+    own_seat c.requires.0 c.requires.1 c.index.result c.hash-bucket.result c.get_hash-first.result (key_words c.get_key-key.result) c.index.ensures c.get_key-key.ensures c.hash-bucket.ensures c.find_before.result c.link_of.result c.get_hash-first.ensures c.find_before.ensures c.link_of.ensures

@@ -4,13 +4,11 @@ use Rattle.tree_step.proofs.link_dir.Goals as goal
 
 pub get_hash-first-requires : goal.get_hash-first-requires
 get_hash-first-requires c =
-    let at_pre = c.requires in
-    bucket_fits c.args.hash.now _ c.hash-b.result c.hash-b.ensures at_pre.2
+    bucket_fits c.args.hash.now _ c.hash-b.result c.hash-b.ensures c.requires.2
 
 pub put_hash-requires : goal.put_hash-requires
 put_hash-requires c =
-    let at_pre = c.requires in
-    bucket_fits c.args.hash.now _ c.hash-b.result c.hash-b.ensures at_pre.2
+    bucket_fits c.args.hash.now _ c.hash-b.result c.hash-b.ensures c.requires.2
 
 pub returns : goal.returns
 returns c =

@@ -7,7 +7,7 @@ pub loop-b-init : goal.loop-b-init
 loop-b-init c = search fit_begin
 
 pub past-end-requires : goal.past-end-requires
-past-end-requires c = (search fit_reading, (search rules, search sweep_marked))
+past-end-requires c = record { reading = search fit_reading; from_lt_n = search rules; fact = search sweep_marked }
 
 pub overflow_sub-end : goal.overflow_sub-end
 overflow_sub-end c = search fit_low

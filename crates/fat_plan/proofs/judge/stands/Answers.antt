@@ -8,7 +8,7 @@ pub loop-b-init : goal.loop-b-init
 loop-b-init c = search stand_begin
 
 pub past-end-requires : goal.past-end-requires
-past-end-requires c = (search stand_reading, (search rules, search sweep_marked))
+past-end-requires c = record { reading = search stand_reading; from_lt_n = search rules; fact = search sweep_marked }
 
 pub returns-then-m-b : goal.returns-then-m-b
 returns-then-m-b c = search stand_before
