@@ -32,7 +32,7 @@ use Rattle.tree_judge.specs.declared.Judged.TheVariants.{Refused}
 use Rattle.tree_look.proofs.Lists.{all_fit, count_few, dir_single, ends_of, list_of}
 use Rattle.order.specs.Tells.{Tells}
 use Rattle.tree_test.proofs.Cases.{tells_not}
-use Rattle.tree_look.proofs.Given.{given-first, none_first}
+use Rattle.tree_look.proofs.Given.{given_first, none_first}
 
 -- ---- the way up
 
@@ -151,7 +151,7 @@ module _ (s : Tables) (v : View) (p : ℕ) (name : List ℕ) (ok : legal name �
 
 -- a call whose tests refuse
 pub call_refused : {A : Type 0} (g : Answer → A) (d : A) (tests : List (Row Answer)) (j : Judged) (a : Answer) → JudgedBy tests j → j ≡ Refused a → First (giving g tests) d (g a)
-call_refused g d tests j a J e = given-first g d tests a (subst (JudgedBy tests) e J)
+call_refused g d tests j a J e = given_first g d tests a (subst (JudgedBy tests) e J)
 
 -- a call that went
 pub call_done : {A : Type 0} (g : Answer → A) (d o : A) (tests : List (Row Answer)) → None tests → o ≡ d → First (giving g tests) d o

@@ -28,7 +28,7 @@ use Rattle.tree_promises.specs.Steps.{with_carried}
 use Rattle.tree_promises.specs.Inner.Ready.{LiveAt, Single, alone, SetOne, set_gives, set_rows}
 use Rattle.tree_promises.specs.Inner.Opening.{opening_in, OpenIn, CloseIn}
 use Rattle.tree_promises.specs.Calls.{live_tests, part, shown_rows, shown_gives, carry_rows, carry_gives, carry_done}
-use Rattle.tree_look.proofs.Given.{given-first, none_first}
+use Rattle.tree_look.proofs.Given.{given_first, none_first}
 use Rattle.tree_look.proofs.Lists.{inside, all_fit}
 
 module _ (t : List ℕ) (w x k : ℕ) (l : List ℕ) (want : Want) (r : Bool) (T : Tells (LiveAt w t x) r) where
@@ -60,7 +60,7 @@ module _ (t : List ℕ) (w x k : ℕ) (l : List ℕ) (want : Want) (r : Bool) (T
               λ k. k (T.yes (not-false r e)),
               inr (
                 place,
-                given-first (λ a. opening_in a o) (opening_in Done (with_record o x (more (record_of o x) want))) (more_tests (record_of o x) want) a
+                given_first (λ a. opening_in a o) (opening_in Done (with_record o x (more (record_of o x) want))) (more_tests (record_of o x) want) a
                     (subst (λ z. Given (more_tests z want) a) count (subst (SteppedBy (more_tests n want) (more n want)) q p)),
               ),
             )
@@ -86,7 +86,7 @@ module _ (t : List ℕ) (w x k : ℕ) (l : List ℕ) (want : Want) (r : Bool) (T
       close_refused a q =
           inr (
             λ k. k (T.yes (not-false r e)),
-            given-first (λ a. opening_in a o) (opening_in Done (with_record o x (less (record_of o x) want))) (less_tests (record_of o x) want) a
+            given_first (λ a. opening_in a o) (opening_in Done (with_record o x (less (record_of o x) want))) (less_tests (record_of o x) want) a
                 (subst (λ z. Given (less_tests z want) a) count (subst (SteppedBy (less_tests n want) (less n want)) q p)),
           )
 
