@@ -77,12 +77,14 @@ module _ (next : ℕ → ℕ) where
     on : {i m : ℕ} {l : List ℕ} → next i ≡ suc m → Trail x m l → Trail x i (i ∷ l)
 
   pub trail_to : {x i : ℕ} {l : List ℕ} → Trail x i l → (y : ℕ) → y ∈ l → Way next y i
+  trail_to {x = x} end y (inr k) = elim k [ ]
   trail_to {x} end y (inl e) = subst (λ (z : ℕ). Way next z x) (sym e) here
   trail_to (on {i} q t) y (inl e) = subst (λ (z : ℕ). Way next z i) (sym e) here
   trail_to (on q t) y (inr k) = step q (trail_to t y k)
 
   -- from a block of a trail on
   trail_from : {x i : ℕ} {l : List ℕ} → Trail x i l → Distinct l → (y : ℕ) → y ∈ l → (k : List ℕ) × Trail x y k × Distinct k × ((z : ℕ) → z ∈ k → z ∈ l)
+  trail_from {x = x} end d y (inr k) = elim k [ ]
   trail_from {x} end d y (inl e) = (x ∷ [], subst (λ (z : ℕ). Trail x z (x ∷ [])) (sym e) end, d, λ z m. m)
   trail_from {x} (on {i} {m} {l} q t) d y (inl e) = (i ∷ l, subst (λ (z : ℕ). Trail x z (i ∷ l)) (sym e) (on q t), d, λ z m. m)
   trail_from (on q t) d y (inr k) = let w = trail_from t d.1 y k in (w.0, w.1, w.2, λ z m. inr (w.3 z m))

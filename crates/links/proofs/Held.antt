@@ -23,6 +23,7 @@ upd_other f x v y n = by_eq y x (λ t. pick t v (f y) ≡ f y) (λ e. absurd (n 
 module _ (next : ℕ → ℕ) where
   -- x is first, or follows the entry before it
   pub before_is : (x q h : ℕ) (xs : List ℕ) → Links next h xs → x ∈ xs → ((before x q xs ≡ q) × (h ≡ x)) ⊎ (before x q xs ∈ xs × (next (before x q xs) ≡ x))
+  before_is x q h [] l m = elim m [ ]
   before_is x q h (a ∷ xs) l m =
       by_eq a x (λ t. ((pick t q (before x a xs) ≡ q) × (h ≡ x)) ⊎ (pick t q (before x a xs) ∈ (a ∷ xs) × (next (pick t q (before x a xs)) ≡ x)))
       (λ e. inl (refl, l.0 ∙ e))

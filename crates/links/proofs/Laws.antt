@@ -77,12 +77,14 @@ module _ (next : ℕ → ℕ) where
       cc
 
   pub positive : (x : ℕ) (xs : List ℕ) → Links next x xs → (y : ℕ) → y ∈ xs → 0 < y
+  positive x [] l y x4 = elim x4 [ ]
   positive x (a ∷ xs) l y (inl e) = let h : 0 < a = l.1 in omega arith
   positive x (a ∷ xs) l y (inr m) = positive (next a) xs l.2 y m
 
   -- what follows one of its entries is a shorter list
   pub after : (x : ℕ) (xs : List ℕ) → Links next x xs → (y : ℕ) → y ∈ xs
       → (ys : List ℕ) × Links next (next y) ys × (length ys < length xs) × ((z : ℕ) → z ∈ ys → z ∈ xs)
+  after x [] l y x4 = elim x4 [ ]
   after x (a ∷ xs) l y (inl e) = (xs, subst (λ z. Links next (next z) xs) (sym e) l.2, omega arith, λ z m. inr m)
   after x (a ∷ xs) l y (inr m) =
       let r = after (next a) xs l.2 y m in
@@ -101,16 +103,19 @@ module _ (next : ℕ → ℕ) where
 
   -- the link of an entry, where it is not 0, is a later entry
   pub next_in : (p h a : ℕ) (xs : List ℕ) → Links next h (a ∷ xs) → p ∈ (a ∷ xs) → 0 < next p → next p ∈ xs
+  next_in p h a [] l (inr m) q = elim m [ ]
   next_in p h a [] l (inl e) q = absurd (omega (arith, ap next e))
   next_in p h a (b ∷ xs) l (inl e) q = inl (ap next e ∙ l.2.0)
   next_in p h a (b ∷ xs) l (inr m) q = inr (next_in p (next a) b xs l.2 m q)
 
   -- a list that is not empty holds its first
   pub first_in : (h z : ℕ) (xs : List ℕ) → Links next h xs → z ∈ xs → h ∈ xs
+  first_in h z [] l m = elim m [ ]
   first_in h z (b ∷ xs) l m = inl l.0
 
   -- no entry's link is itself
   pub not_own : (p h : ℕ) (xs : List ℕ) → Links next h xs → p ∈ xs → next p ≢ p
+  not_own p h [] l x3 q = elim x3 [ ]
   not_own p h (a ∷ xs) l (inl e) q =
       let z : 0 < a = l.1 in
       (distinct h (a ∷ xs) l).0 (subst (λ u. u ∈ xs) (q ∙ e) (next_in p h a xs l (inl e) (omega arith)))
@@ -160,6 +165,7 @@ module _ (next next' : ℕ → ℕ) where
   -- another entry is taken out, by a write to the link of the entry p before it
   pub out_after : (x p h : ℕ) (xs : List ℕ) → 0 < x → p ∈ xs → next p ≡ x → next' p ≡ next x
       → ((y : ℕ) → y ∈ xs → y ≢ x → y ≢ p → next' y ≡ next y) → Links next h xs → Links next' h (without x xs)
+  out_after x p h [] px m e e' k l = elim m [ ]
   out_after x p h (a ∷ xs) px m e e' k l =
       let d = distinct next h (a ∷ xs) l in
       let i : x ∈ xs = subst (λ z. z ∈ xs) e (next_in next p h a xs l m (subst (λ z. 0 < z) (sym e) px)) in

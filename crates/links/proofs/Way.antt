@@ -36,10 +36,12 @@ in_right y [] qs m = m
 in_right y (a ∷ ps) qs m = inr (in_right y ps qs m)
 
 pub in_left : (y : ℕ) (ps qs : List ℕ) → y ∈ ps → y ∈ (ps ++ qs)
+in_left y [] qs x' = elim x' [ ]
 in_left y (a ∷ ps) qs (inl e) = inl e
 in_left y (a ∷ ps) qs (inr m) = inr (in_left y ps qs m)
 
 not_twice : (y : ℕ) (ps qs : List ℕ) → Distinct (ps ++ y ∷ qs) → y ∈ ps → ⊥
+not_twice y [] qs d x'' = elim x'' [ ]
 not_twice y (a ∷ ps) qs d (inl e) = d.0 (in_right a ps (y ∷ qs) (inl (sym e)))
 not_twice y (a ∷ ps) qs d (inr m) = not_twice y ps qs d.1 m
 

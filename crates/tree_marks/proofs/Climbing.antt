@@ -197,6 +197,7 @@ module _ (u : ℕ → ℕ) (count : ℕ) (R work : List ℕ) (S : Rising u count
       (S.at a (subst (λ z. Live count R z) l.0 al))
 
   pub up_all : (y : ℕ) (ps : List ℕ) → Live count R y → Links (mark_of work) y ps → (z : ℕ) → z ∈ ps → Live count R z × Reaches u z
+  up_all y [] al l z x3 = elim x3 [ ]
   up_all y (a ∷ qs) al l z (inl e) =
       subst (λ w. Live count R w × Reaches u w) (l.0 ∙ sym e) (al, up_first y (a ∷ qs) al l)
   up_all y (a ∷ qs) al l z (inr m) =
@@ -209,6 +210,7 @@ module _ (u : ℕ → ℕ) (count : ℕ) (R work : List ℕ) (S : Rising u count
       (S.at a (subst (λ w. Live count R w) l.0 al))
 
   pub ends_of : u 1 ≡ 0 → (y : ℕ) (xs : List ℕ) → Live count R y → Links u y xs → 1 ∈ xs → Tops count work y
+  ends_of u1 y [] al l m = elim m [ ]
   ends_of u1 y (a ∷ xs) al l m =
       let la : Live count R a = subst (λ w. Live count R w) l.0 al in
       ⊎_elim

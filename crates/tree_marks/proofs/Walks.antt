@@ -19,6 +19,7 @@ use Rattle.tree_table.specs.Chain.{link_at}
 use Rattle.tree_marks.specs.Inner.Marks.{gone, mark_at, Within, Unmarked, Marked, ListMarked, ListCounted}
 
 pub in_snoc : (y x : ℕ) (ps : List ℕ) → y ∈ (ps ++ x ∷ []) → (y ∈ ps) ⊎ (y ≡ x)
+in_snoc y x [] (inr m) = elim m [ ]
 in_snoc y x [] (inl e) = inr e
 in_snoc y x (a ∷ ps) (inl e) = inl (inl e)
 in_snoc y x (a ∷ ps) (inr m) = ⊎_elim (λ (h : y ∈ ps). inl (inr h)) (λ (e : y ≡ x). inr e) (in_snoc y x ps m)

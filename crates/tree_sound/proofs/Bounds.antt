@@ -43,6 +43,7 @@ children_uncut D v root p B l = live_uncut v B.table v.next (v.head p) (λ y. up
 module _ (D : View) (S : Dirs D) where
   -- the directories above a live one are below count
   above_low : (y : ℕ) (xs : List ℕ) → LiveIn D y → Links (up D) y xs → (z : ℕ) → z ∈ xs → z < D.count
+  above_low y [] ly l z x3 = elim x3 [ ]
   above_low y (a ∷ xs) ly l z (inl e) = let q : y ≡ a = l.0 in let b : y < D.count = ly.1 in subst (λ n. n < D.count) (q ∙ sym e) b
   above_low y (a ∷ xs) ly l z (inr m) =
       ⊎_elim

@@ -33,6 +33,7 @@ module _ (u u' : ℕ → ℕ) (x q : ℕ) (ex : u' x ≡ q) (eo : (y : ℕ) → 
 
   -- and so does whatever did
   pub all_up : (y : ℕ) (xs : List ℕ) → Links u y xs → 1 ∈ xs → (ys : List ℕ) × Links u' y ys × (1 ∈ ys)
+  all_up y [] l m = elim m [ ]
   all_up y (a ∷ xs) l m =
       ⊎_elim
       (λ (e : a ≡ x). (a ∷ qs, (l.0, l.1, subst (λ z. Links u' z qs) (sym ex ∙ ap u' (sym e)) still_up), inr mq))
@@ -78,6 +79,8 @@ module _ (D F : View) (RD RF : List ℕ) (S : Tree D F RD RF) where
 
   -- the directories above a live one are live
   above_live : (y : ℕ) (xs : List ℕ) → Live D.count RD y → Links (up D) y xs → (z : ℕ) → z ∈ xs → Live D.count RD z
+  none [] k i = elim i [ ]
+  above_live y [] ly l z x3 = elim x3 [ ]
   above_live y (a ∷ xs) ly l z (inl e) = subst (λ w. Live D.count RD w) (l.0 ∙ sym e) ly
   above_live y (a ∷ xs) ly l z (inr m) =
       ⊎_elim
@@ -316,6 +319,7 @@ module _ (D F : View) (RD RF : List ℕ) (S : Tree D F RD RF) where
         subst (λ xs. y ∈ xs) l ((H.2 y).1 ((ly, not_zero ly.0), e))
 
     pub not_above : (y : ℕ) (xs : List ℕ) → Live D.count RD y → y ≢ x → Links (up D) y xs → x ∈ xs → ⊥
+    not_above y [] ly n l x5 = elim x5 [ ]
     not_above y (a ∷ xs) ly n l (inl e) = n (l.0 ∙ sym e)
     not_above y (a ∷ xs) ly n l (inr m) =
         not_above (up D a) xs

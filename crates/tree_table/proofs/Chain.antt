@@ -92,6 +92,7 @@ member_in x (y ∷ ys) e = go (eqb y x) refl e (member_in x ys)
     go false q r f = inr (f r)
 
 pub in_member : (x : ℕ) (xs : List ℕ) → x ∈ xs → member x xs ≡ true
+in_member x [] x'' = elim x'' [ ]
 in_member x (y ∷ ys) (inl e) = ap (λ t. pick t true (member x ys)) (eq-eqb y x (sym e))
 in_member x (y ∷ ys) (inr m) = by_eq y x (λ t. pick t true (member x ys) ≡ true) (λ _. refl) (λ _. in_member x ys m)
 
@@ -119,6 +120,7 @@ pub member_none : {t : List ℕ} {w at x : ℕ} (y : ℕ) → Ends t w at x → 
 member_none {t} {w} {at} {x} y E e = ap (member y) (sym (stops t w at x e))
 
 first_here : (y p : ℕ) (xs : List ℕ) (next : ℕ → ℕ) (x : ℕ) → Links next x xs → y ∈ xs → x ≡ y → before y p xs ≡ p
+first_here y p [] next x l m e = elim m [ ]
 first_here y p (a ∷ xs) next x l m e = ap (λ b. pick b p (before y a xs)) (eq-eqb a y (sym l.0 ∙ e))
 
 -- y first: nothing before it but p

@@ -4,7 +4,6 @@ use mathlib.Core.Logic.{inl, inr}
 use mathlib.Core.Path.{refl}
 use Rattle.fat_ends.proofs.file.Goals as goal
 
--- `fat_ends::file` meets its contract.
 pub returns-then-p-ne0 : goal.returns-then-p-ne0
 returns-then-p-ne0 c = inr ((λ e. absurd (omega arith)), refl)
 

@@ -9,7 +9,6 @@ use Prim.Native.Nat.{ℕ, ◌+◌, ◌-◌, ◌%◌}
 use mathlib.Core.Path.{◌≡◌, subst⁻¹}
 use Rattle.fat_ends.proofs.free_of.Goals as goal
 
--- `fat_ends::free_of` meets its contract.
 pub returns-then-h-eq0 : goal.returns-then-h-eq0
 returns-then-h-eq0 c = (subst⁻¹ (λ (x : ℕ). Along c.args.table.now (length c.args.work.now) x 0) c.if-h-eq0.true Along.end, omega arith)
 

@@ -3,7 +3,6 @@ use native.Mathlib.Omega.{arith}
 use Rattle.fat_node.proofs.Cases.{untrue}
 use Rattle.fat_ends.proofs.grows.Goals as goal
 
--- `fat_ends::grows` meets its contract.
 pub returns-then-p-lt2048 : goal.returns-then-p-lt2048
 returns-then-p-lt2048 c =
     λ e. untrue e

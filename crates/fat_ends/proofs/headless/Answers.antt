@@ -4,7 +4,6 @@ use borrow.Author.Tests.{eqb-true}
 use Rattle.fat_node.proofs.Cases.{untrue}
 use Rattle.fat_ends.proofs.headless.Goals as goal
 
--- `fat_ends::headless` meets its contract.
 pub returns-then-files-ne0 : goal.returns-then-files-ne0
 returns-then-files-ne0 c =
     λ e. untrue e

@@ -5,7 +5,6 @@ use Rattle.fat_node.proofs.Cases.{untrue}
 use Rattle.fat_ends.proofs.Joins.{start_of, end_of, ring_broken}
 use Rattle.fat_ends.proofs.join.Goals as goal
 
--- `fat_ends::join` meets its contract.
 pub returns-then-x-work : goal.returns-then-x-work
 returns-then-x-work c = record { yes = λ e. untrue e; sound = λ s. let f = s.forth c.args.b (c.args.x - 1) c.requires.node.0 (omega arith) in absurd (omega (arith, f.0.1)) }
 

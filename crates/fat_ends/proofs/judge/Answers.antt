@@ -38,7 +38,7 @@ free_of-free-requires c =
     let q = subst (TiledAs c.args.table.now (length c.args.work.now) c.tile-r.new.work) c.in-Whole.is c.tile-r.ensures in
     let f = free_ready l (c.links.ensures.0 c.if-links.true) (head_is l q.0 (c.head_fits.ensures.0 c.if-head_fits.true)) in
     let e = f.0 in
-    (omega arith, (omega arith, f.1))
+    record { table_len = omega arith; work_len_bound = omega arith; by_index = f.1.0; by_index_2 = f.1.1 }
 
 pub returns-then-links : goal.returns-then-links
 returns-then-links c =

@@ -4,7 +4,6 @@ use Rattle.fat_table.specs.Sound.{Starts}
 use Rattle.fat_ends.specs.Inner.Ends.{State}
 use Rattle.fat_ends.proofs.links.Given as goal
 
--- `fat_ends::links` meets its contract.
 abbrev pub invariant-loop-b : goal.invariant-loop-b
 invariant-loop-b l =
     (l.b ≤ l.n) × Starts l.table l.n l.b × State l.table l.n l.b l.work l.joins × (l.joins ≤ l.b)

@@ -4,7 +4,6 @@ use mathlib.Core.Logic.{inl, inr}
 use native.Mathlib.Omega.{arith}
 use Rattle.fat_ends.proofs.some.Goals as goal
 
--- `fat_ends::some` meets its contract.
 pub returns-then-p-eq0 : goal.returns-then-p-eq0
 returns-then-p-eq0 c =
     inl (omega arith, refl)

@@ -5,7 +5,6 @@ use Rattle.fat_table.specs.Sound.{Counted, File}
 use Prim.Native.Nat.{◌-◌, ◌≤◌}
 use Rattle.fat_ends.proofs.tile.Given as goal
 
--- `fat_ends::tile` meets its contract.
 abbrev pub invariant-loop-b : goal.invariant-loop-b
 invariant-loop-b l = Laid l.table l.n l.work l.b × Backs l.table l.n l.b l.backs × Counted (File l.table l.n) l.b l.files × (l.files ≤ l.b) × (l.backs ≤ l.b)
 

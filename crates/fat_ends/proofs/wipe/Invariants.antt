@@ -7,7 +7,6 @@ use Rattle.fat_ends.specs.Inner.Ends.{AtNodes}
 use Rattle.fat_ends.proofs.Wipes.{ZeroTo}
 use Rattle.fat_ends.proofs.wipe.Given as goal
 
--- `fat_ends::wipe` meets its contract.
 abbrev pub invariant-loop-b : goal.invariant-loop-b
 invariant-loop-b l = (l.b ≤ l.n) × Starts l.table l.n l.b × (length l.work ≡ l.n) × ZeroTo l.work l.b × AtNodes l.table l.n l.work
 

@@ -3,7 +3,6 @@ use Prim.Native.Nat.{◌-◌}
 use Rattle.fat_fault.proofs.Colours.{unseen, Colouring}
 use Rattle.fat_fault.proofs.colour.Given as goal
 
--- `fat_fault::colour` meets its contract.
 abbrev pub invariant-loop-i : goal.invariant-loop-i
 invariant-loop-i l = Colouring l.n l.table l.b l.initial.work l.work l.i
 

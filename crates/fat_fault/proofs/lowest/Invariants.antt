@@ -4,7 +4,6 @@ use Rattle.fat_fault.specs.Inner.Marks.{Coloured}
 use Rattle.fat_fault.proofs.Passes.{Low}
 use Rattle.fat_fault.proofs.lowest.Given as goal
 
--- `fat_fault::lowest` meets its contract.
 abbrev pub invariant-loop-b : goal.invariant-loop-b
 invariant-loop-b l = Low l.n l.table l.b × Coloured l.n l.table l.b l.work
 

@@ -2,7 +2,6 @@
 use Rattle.fat_fault.proofs.Cases.{next_0, next_over, next_none, next_some}
 use Rattle.fat_fault.proofs.next_is.Goals as goal
 
--- `fat_fault::next_is` meets its contract.
 pub returns-then-i-eq0 : goal.returns-then-i-eq0
 returns-then-i-eq0 c = search next_0
 

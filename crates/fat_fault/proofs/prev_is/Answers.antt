@@ -2,7 +2,6 @@
 use Rattle.fat_fault.proofs.Cases.{prev_0, prev_over, prev_none, prev_some}
 use Rattle.fat_fault.proofs.prev_is.Goals as goal
 
--- `fat_fault::prev_is` meets its contract.
 pub returns-then-i-eq0 : goal.returns-then-i-eq0
 returns-then-i-eq0 c = search prev_0
 

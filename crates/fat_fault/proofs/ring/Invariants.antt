@@ -3,7 +3,6 @@ use Prim.Native.Nat.{◌-◌}
 use Rattle.fat_fault.proofs.Colours.{unrounded, Rounding}
 use Rattle.fat_fault.proofs.ring.Given as goal
 
--- `fat_fault::ring` meets its contract.
 abbrev pub invariant-loop-work : goal.invariant-loop-work
 invariant-loop-work l = Rounding l.n l.table l.j l.initial.work l.work l.i
 

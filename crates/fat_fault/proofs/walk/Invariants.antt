@@ -3,7 +3,6 @@ use Prim.Native.Nat.{◌-◌}
 use Rattle.fat_fault.proofs.Passes.{Walking}
 use Rattle.fat_fault.proofs.walk.Given as goal
 
--- `fat_fault::walk` meets its contract.
 abbrev pub invariant-loop-b : goal.invariant-loop-b
 invariant-loop-b l = Walking l.n l.table l.work l.b
 

@@ -2,7 +2,6 @@
 use Rattle.fat_node.proofs.Faults.{start_zero, start_some}
 use Rattle.fat_node.proofs.bad_start.Goals as goal
 
--- `fat_node::bad_start` meets its contract.
 pub returns-then-u-eq0 : goal.returns-then-u-eq0
 returns-then-u-eq0 c = search start_zero
 

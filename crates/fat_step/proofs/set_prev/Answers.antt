@@ -12,7 +12,7 @@ node_at-node-requires c = search at_standing
 pub set_node-requires : goal.set_node-requires
 set_node-requires c =
     let w = at_standing _ _ _ c.requires.standing_at c.if-i-eq0.false in
-    fits _ _ _ _ _ _ _ w refl c.node_at-node.ensures.0 (omega arith) (omega (arith, w.next, c.node_at-node.ensures.2))
+    let r = fits _ _ _ _ _ _ _ w refl c.node_at-node.ensures.0 (omega arith) (omega (arith, w.next, c.node_at-node.ensures.2)) in record { n_bound = r.0; le_size = r.1.0; prev_le_n = r.1.1 }
 
 pub returns : goal.returns
 returns c = search with_some

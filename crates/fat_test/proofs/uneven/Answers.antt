@@ -4,7 +4,6 @@ use Rattle.fat_test.proofs.Cases.{unfalse, none_even, even_rem, even_div, even}
 use native.Mathlib.Omega.{arith}
 use Rattle.fat_test.proofs.uneven.Goals as goal
 
--- `fat_test::uneven` meets its contract.
 pub returns-then-d-eq0 : goal.returns-then-d-eq0
 returns-then-d-eq0 c = ((λ e. untrue e), λ _. omega (arith, none_even c.args.d c.args.n c.args.l c.if-n-eq0.true))
 

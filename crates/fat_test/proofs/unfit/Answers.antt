@@ -5,7 +5,6 @@ use native.Mathlib.Omega.{arith}
 use mathlib.Core.Logic.{inl, inr, ⊎_elim}
 use Rattle.fat_test.proofs.unfit.Goals as goal
 
--- `fat_test::unfit` meets its contract.
 pub returns-then-block_len-lt1 : goal.returns-then-block_len-lt1
 returns-then-block_len-lt1 c = ((λ _. inl c.if-block_len-lt1.true), λ e. unfalse e)
 

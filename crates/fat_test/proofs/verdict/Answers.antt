@@ -9,7 +9,6 @@ use mathlib.Core.List.{List, ◌++◌}
 use mathlib.Core.Path.{◌≡◌, sym, ap, subst, ◌∙◌}
 use Rattle.fat_test.proofs.verdict.Goals as goal
 
--- `fat_test::verdict` meets its contract.
 pub overflow_sub-n : goal.overflow_sub-n
 overflow_sub-n c = omega (arith, fit c.args.table.now c.requires.fact)
 

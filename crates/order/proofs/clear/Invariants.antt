@@ -5,7 +5,6 @@ use Prim.Native.Nat.{◌-◌, ◌≤◌}
 use lib.ListN.{length, drop, replicate}
 use Rattle.order.proofs.clear.Given as goal
 
--- `order::clear` meets its contract.
 abbrev pub invariant-loop-i : goal.invariant-loop-i
 invariant-loop-i l = (l.i ≤ length l.initial.work) × (l.work ≡ replicate l.i 0 ++ drop l.i l.initial.work) × (length l.work ≡ length l.initial.work)
 

@@ -2,7 +2,6 @@
 use Rattle.salvage.proofs.Walks.{look_out, look_broken, standing}
 use Rattle.salvage.proofs.look_at.Goals as goal
 
--- `salvage::look_at` meets its contract.
 pub returns-then-n-b : goal.returns-then-n-b
 returns-then-n-b c = search (look_out)
 

@@ -2,7 +2,6 @@
 use Rattle.salvage.proofs.Walks.{look_node, look_missed}
 use Rattle.salvage.proofs.look_back.Goals as goal
 
--- `salvage::look_back` meets its contract.
 pub returns-then-prev-p : goal.returns-then-prev-p
 returns-then-prev-p c = search (look_node)
 

@@ -2,7 +2,6 @@
 use Rattle.salvage.proofs.Walks.{says_out, says_broken, says_node}
 use Rattle.salvage.proofs.readable.Goals as goal
 
--- `salvage::readable` meets its contract.
 pub returns-then-n-b : goal.returns-then-n-b
 returns-then-n-b c = says_out _ _ _ c.if-n-b.true
 

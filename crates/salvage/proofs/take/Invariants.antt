@@ -5,7 +5,6 @@ use Prim.Native.Nat.{◌+◌, ◌≤◌}
 use mathlib.Core.Path.{◌≡◌}
 use Rattle.salvage.proofs.take.Given as goal
 
--- `salvage::take` meets its contract.
 abbrev pub invariant-loop-x : goal.invariant-loop-x
 invariant-loop-x l = Taking l.initial.work l.b l.x l.mark l.work × (l.x ≤ l.b + l.size) × (l.end ≡ l.b + l.size)
 

@@ -5,7 +5,6 @@ use lib.ListN.{length}
 use Rattle.salvage.proofs.Walks.{Walking}
 use Rattle.salvage.proofs.walk.Given as goal
 
--- `salvage::walk` meets its contract.
 abbrev pub invariant-loop-i : goal.invariant-loop-i
 invariant-loop-i l = Walking l.n l.table l.first l.mark l.work l.i l.p l.count × (length l.work ≡ length l.initial.work)
 

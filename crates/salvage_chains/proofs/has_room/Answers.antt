@@ -3,7 +3,6 @@ use native.Mathlib.Omega.{arith}
 use Rattle.salvage_chains.proofs.Outs.{room_always, room_short, room_counted}
 use Rattle.salvage_chains.proofs.has_room.Goals as goal
 
--- `salvage_chains::has_room` meets its contract.
 pub overflow_mul-n : goal.overflow_mul-n
 overflow_mul-n c = omega (arith, c.requires.sized.small)
 

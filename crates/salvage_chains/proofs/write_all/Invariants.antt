@@ -4,7 +4,6 @@ use Prim.Native.Nat.{◌-◌}
 use Rattle.salvage_chains.proofs.Loops.{Writing}
 use Rattle.salvage_chains.proofs.write_all.Given as goal
 
--- `salvage_chains::write_all` meets its contract.
 abbrev pub invariant-loop-i : goal.invariant-loop-i
 invariant-loop-i l = Writing l.n l.table l.firsts l.initial.ends l.initial.list l.work l.ends l.list l.at l.i
 

@@ -2,7 +2,6 @@
 use Rattle.salvage_shared.proofs.Goings.{Going, Alone}
 use Rattle.salvage_shared.proofs.chain_meets.Given as goal
 
--- `salvage_shared::chain_meets` meets its contract.
 abbrev pub invariant-loop-i : goal.invariant-loop-i
 invariant-loop-i l = Going l.n l.table l.first l.i l.left (Alone l.work)
 

@@ -4,7 +4,6 @@ use Prim.Native.Nat.{◌-◌}
 use Rattle.salvage_shared.proofs.Loops.{Judging}
 use Rattle.salvage_shared.proofs.judge_all.Given as goal
 
--- `salvage_shared::judge_all` meets its contract.
 abbrev pub invariant-loop-i : goal.invariant-loop-i
 invariant-loop-i l = Judging l.n l.table l.firsts l.initial.list l.work l.list l.spent l.i
 

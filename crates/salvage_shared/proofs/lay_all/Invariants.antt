@@ -4,7 +4,6 @@ use Prim.Native.Nat.{◌-◌}
 use Rattle.salvage_shared.proofs.Loops.{Laying}
 use Rattle.salvage_shared.proofs.lay_all.Given as goal
 
--- `salvage_shared::lay_all` meets its contract.
 abbrev pub invariant-loop-i : goal.invariant-loop-i
 invariant-loop-i l = Laying l.n l.table l.firsts l.list l.initial.work l.work l.i
 

@@ -5,7 +5,6 @@ use mathlib.Core.Path.{◌≡◌}
 use Rattle.salvage_shared.proofs.Goings.{Going}
 use Rattle.salvage_shared.proofs.lay_chain.Given as goal
 
--- `salvage_shared::lay_chain` meets its contract.
 abbrev pub invariant-loop-i : goal.invariant-loop-i
 invariant-loop-i l = Going l.n l.table l.first l.i l.left (Added l.initial.work l.work) × (length l.work ≡ length l.initial.work)
 

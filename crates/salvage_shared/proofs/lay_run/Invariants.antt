@@ -6,7 +6,6 @@ use Prim.Native.Nat.{◌≤◌}
 use Prim.Native.Nat.{◌-◌}
 use Rattle.salvage_shared.proofs.lay_run.Given as goal
 
--- `salvage_shared::lay_run` meets its contract.
 abbrev pub invariant-loop-k : goal.invariant-loop-k
 invariant-loop-k l = Added l.initial.work l.work (run l.b l.k ∷ []) × (l.k ≤ l.size)
 

@@ -5,7 +5,6 @@ use Prim.Native.Nat.{◌-◌}
 use Rattle.salvage_shared.proofs.Counted.{Looking}
 use Rattle.salvage_shared.proofs.run_meets.Given as goal
 
--- `salvage_shared::run_meets` meets its contract.
 abbrev pub invariant-loop-x : goal.invariant-loop-x
 invariant-loop-x l = Looking l.work l.b l.size l.x × (l.x ≤ l.b + l.size) × (l.end ≡ l.b + l.size)
 

@@ -2,7 +2,6 @@
 use Rattle.salvage_shared.proofs.Loops.{tell_cut, tell_shared, tell_alone, told_whole}
 use Rattle.salvage_shared.proofs.tell_one.Goals as goal
 
--- `salvage_shared::tell_one` meets its contract.
 pub returns-then-kind-ne0 : goal.returns-then-kind-ne0
 returns-then-kind-ne0 c = search (tell_cut)
 

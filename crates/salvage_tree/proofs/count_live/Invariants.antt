@@ -3,7 +3,6 @@ use Prim.Native.Nat.{◌-◌}
 use Rattle.salvage_tree.proofs.Loops.{Counting}
 use Rattle.salvage_tree.proofs.count_live.Given as goal
 
--- `salvage_tree::count_live` meets its contract.
 abbrev pub invariant-loop-x : goal.invariant-loop-x
 invariant-loop-x l = Counting l.n l.work l.x l.count
 

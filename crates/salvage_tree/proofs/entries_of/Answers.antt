@@ -2,7 +2,6 @@
 use Rattle.salvage_tree.proofs.Outs.{room_some, room_taken, sized, size_short, size_large, size_work, size_passed}
 use Rattle.salvage_tree.proofs.entries_of.Goals as goal
 
--- `salvage_tree::entries_of` meets its contract.
 pub returns-then-table-w : goal.returns-then-table-w
 returns-then-table-w c = size_short _ _ _ _ c.requires.0 c.if-table-w.true
 

@@ -2,7 +2,6 @@
 use Rattle.salvage_tree.proofs.Loops.{free_yes, free_no}
 use Rattle.salvage_tree.proofs.free.Goals as goal
 
--- `salvage_tree::free` meets its contract.
 pub returns-then-mark-eq0 : goal.returns-then-mark-eq0
 returns-then-mark-eq0 c = search (free_yes)
 

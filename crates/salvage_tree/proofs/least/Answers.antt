@@ -2,7 +2,6 @@
 use Rattle.salvage_tree.proofs.Loops.{least_first, least_second}
 use Rattle.salvage_tree.proofs.least.Goals as goal
 
--- `salvage_tree::least` meets its contract.
 pub returns-then-a-b : goal.returns-then-a-b
 returns-then-a-b c = search (least_first)
 

@@ -2,7 +2,6 @@
 use Rattle.salvage_tree.proofs.Loops.{Marking}
 use Rattle.salvage_tree.proofs.mark_gone.Given as goal
 
--- `salvage_tree::mark_gone` meets its contract.
 abbrev pub invariant-loop-left : goal.invariant-loop-left
 invariant-loop-left l = Marking l.w l.table l.n l.initial.work l.work l.x l.left
 

@@ -3,7 +3,6 @@ use Rattle.salvage_tree.proofs.Loops.{put_other, put_free}
 use borrow.Author.Rules.{rules}
 use Rattle.salvage_tree.proofs.put_free.Goals as goal
 
--- `salvage_tree::put_free` meets its contract.
 pub returns-then-mark-ne0 : goal.returns-then-mark-ne0
 returns-then-mark-ne0 c = search (put_other)
 

@@ -2,7 +2,6 @@
 use Rattle.salvage_way.proofs.Climbs.{Listing}
 use Rattle.salvage_way.proofs.list_way.Given as goal
 
--- `salvage_way::list_way` meets its contract.
 abbrev pub invariant-loop-left : goal.invariant-loop-left
 invariant-loop-left l = Listing l.table l.n l.initial.work l.work l.inode l.x l.left l.initial.list l.list l.at
 

@@ -2,7 +2,6 @@
 use Rattle.salvage_way.proofs.Climbs.{parent_root, parent_named}
 use Rattle.salvage_way.proofs.parent_of.Goals as goal
 
--- `salvage_way::parent_of` meets its contract.
 pub returns-then-x-eq1 : goal.returns-then-x-eq1
 returns-then-x-eq1 c = search (parent_root)
 

@@ -4,7 +4,6 @@ use Rattle.salvage_tree.proofs.Outs.{room_some, room_taken, sized}
 use Rattle.salvage_way.proofs.Outs.{size_short, size_large, size_work, size_passed}
 use Rattle.salvage_way.proofs.way.Goals as goal
 
--- `salvage_way::way` meets its contract.
 pub returns-then-table-lt-DIR : goal.returns-then-table-lt-DIR
 returns-then-table-lt-DIR c = size_short _ _ _ _ c.if-table-lt-DIR.true
 

@@ -1,7 +1,6 @@
 -- `count` meets its contract.
 use Rattle.stored.proofs.count.Given as goal
 
--- `count` meets its contract.
 abbrev pub invariant-loop-left : goal.invariant-loop-left
 invariant-loop-left l = Unit {0}
 

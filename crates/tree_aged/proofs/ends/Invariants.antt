@@ -2,7 +2,6 @@
 use Rattle.tree_aged.proofs.Walks.{left, Going}
 use Rattle.tree_aged.proofs.ends.Given as goal
 
--- `tree_aged::ends` meets its contract.
 abbrev pub invariant-loop-x : goal.invariant-loop-x
 invariant-loop-x l = Going l.w l.table l.y l.initial.work l.work l.x
 

@@ -2,7 +2,6 @@
 use Rattle.tree_aged.proofs.Opens.{open_none, open_mark}
 use Rattle.tree_aged.proofs.is_open.Goals as goal
 
--- `tree_aged::is_open` meets its contract.
 -- src/lib.rt:38:9
 pub returns-then-z-eq0 : goal.returns-then-z-eq0
 returns-then-z-eq0 c = search (open_none)

@@ -3,7 +3,6 @@ use Rattle.tree_aged.proofs.Lowers.{sort_count, sort_count_is, sort_leaves}
 use borrow.Author.Rules.{rules}
 use Rattle.tree_aged.proofs.sort.Goals as goal
 
--- `tree_aged::sort` meets its contract.
 pub link_of-count-requires : goal.link_of-count-requires
 link_of-count-requires c = search (sort_count)
 

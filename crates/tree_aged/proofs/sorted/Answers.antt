@@ -3,7 +3,6 @@ use Rattle.tree_aged.proofs.Public.{ripe_wide, part_long, part_size, part_fits, 
 use borrow.Author.Rules.{rules}
 use Rattle.tree_aged.proofs.sorted.Goals as goal
 
--- `tree_aged::sorted` meets its contract.
 -- src/lib.rt:147:16
 pub nonzero_div-room : goal.nonzero_div-room
 nonzero_div-room c = search (ripe_wide, rules)

@@ -6,7 +6,6 @@ use Rattle.tree_alone.specs.Inner.Entries.{Fits}
 use Rattle.tree_alone.proofs.Entries.{Going}
 use Rattle.tree_alone.proofs.check_bucket.Given as goal
 
--- `check_bucket` meets its contract.
 abbrev pub invariant-loop-x : goal.invariant-loop-x
 invariant-loop-x l = Going l.table l.w l.first (λ y. Fits l.table l.w l.buckets l.long y l.mark) l.x
 

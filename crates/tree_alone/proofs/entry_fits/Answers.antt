@@ -10,7 +10,6 @@ use Rattle.tree_table.specs.Chain.{Ends}
 use Rattle.tree_alone.proofs.Entries.{fits_gone, fits_not, fits_long, fits_apart, read_key, at_index}
 use Rattle.tree_alone.proofs.entry_fits.Goals as goal
 
--- `entry_fits` meets its contract.
 pub returns-then-mark-eq-GONE : goal.returns-then-mark-eq-GONE
 returns-then-mark-eq-GONE c = fits_gone _ _ _ _ _ _ c.if-mark-eq-GONE.true
 

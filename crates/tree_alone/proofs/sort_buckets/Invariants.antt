@@ -3,7 +3,6 @@ use Prim.Native.Nat.{◌+◌, ◌-◌}
 use Rattle.tree_alone.proofs.Entries.{Filling}
 use Rattle.tree_alone.proofs.sort_buckets.Given as goal
 
--- `sort_buckets` meets its contract.
 abbrev pub invariant-loop-i : goal.invariant-loop-i
 invariant-loop-i l = Filling l.hash l.table l.w l.count l.buckets l.off l.initial.work l.work l.longest l.i
 

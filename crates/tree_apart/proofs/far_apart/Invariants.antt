@@ -5,7 +5,6 @@ use lib.ListN.{length}
 use Rattle.tree_apart.proofs.Differing.{Seeing, Right}
 use Rattle.tree_apart.proofs.far_apart.Given as goal
 
--- `far_apart` meets its contract.
 abbrev pub invariant-loop-i : goal.invariant-loop-i
 invariant-loop-i l = Seeing l.hash (Right l.hash l.table l.w) l.buckets l.i × (length l.room ≡ length l.initial.room)
 

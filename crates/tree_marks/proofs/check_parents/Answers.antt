@@ -14,11 +14,6 @@ use Rattle.tree_marks.proofs.Gathering.{check_begin, check_on, check_stop, check
 use mathlib.Core.Bool.{Bool}
 use Rattle.tree_marks.proofs.check_parents.Goals as goal
 
--- the entry lies in the table
-inside : (c : lts.After-index (index_Reads.Asked, index_Reads.Learnt, get-u32-reads.Asked, get-u32-reads.Learnt, named-reads.Asked, named-reads.Learnt) reads.Pre reads.Post invariant-loop decreases-loop)
-    → c.index.result * c.before.before.before.before.before.args.w + c.before.before.before.before.before.args.w ≤ length c.before.before.before.before.before.args.table.now
-inside c = entry_in _ _ c.before.before.before.before.before.args.count _ (omega arith) (omega arith)
-
 -- what is told of the entry, by its number
 told : (root y mark parent i : ℕ) (r : Bool) (W P : ℕ → ℕ) → i ≡ y → mark ≡ W i → parent ≡ P i → Tells (ParentMarked root y mark parent) r → Tells (ParentMarked root y (W y) (P y)) r
 told root y mark parent i r W P e em ep T =
@@ -32,15 +27,15 @@ loop-y-init c = check_begin _
 
 -- src/lib.rt:175:65
 pub overflow_mul-i : goal.overflow_mul-i
-overflow_mul-i c = omega (arith, inside c.before)
+overflow_mul-i c = let h : c.index-i.result * c.args.w + c.args.w ≤ length c.args.table.now = entry_in _ _ c.args.count _ (omega arith) (omega arith) in omega arith
 
 -- src/lib.rt:175:65
 pub overflow_add-i : goal.overflow_add-i
-overflow_add-i c = omega (arith, inside c.before)
+overflow_add-i c = let h : c.index-i.result * c.args.w + c.args.w ≤ length c.args.table.now = entry_in _ _ c.args.count _ (omega arith) (omega arith) in omega arith
 
 -- src/lib.rt:175:43
 pub get_u32-requires : goal.get_u32-requires
-get_u32-requires c = omega (arith, inside c.before)
+get_u32-requires c = let h : c.index-i.result * c.args.w + c.args.w ≤ length c.args.table.now = entry_in _ _ c.args.count _ (omega arith) (omega arith) in omega arith
 
 -- src/lib.rt:176:13
 pub returns-then-not-named : goal.returns-then-not-named

@@ -3,7 +3,6 @@ use Prim.Native.Nat.{◌-◌}
 use Rattle.tree_marks.proofs.Climbing.{Climbed}
 use Rattle.tree_marks.proofs.climbs.Given as goal
 
--- `climbs` meets its contract.
 abbrev pub invariant-loop-x : goal.invariant-loop-x
 invariant-loop-x l = Climbed l.count l.work l.y l.x l.n
 

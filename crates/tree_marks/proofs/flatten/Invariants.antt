@@ -3,7 +3,6 @@ use Prim.Native.Nat.{◌-◌}
 use Rattle.tree_marks.proofs.Climbing.{Flattening, marks_left}
 use Rattle.tree_marks.proofs.flatten.Given as goal
 
--- `flatten` meets its contract.
 abbrev pub invariant-loop-p : goal.invariant-loop-p
 invariant-loop-p l = Flattening l.count l.y l.initial.work l.work l.x l.p
 

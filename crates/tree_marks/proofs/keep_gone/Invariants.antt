@@ -3,7 +3,6 @@ use Prim.Native.Nat.{◌-◌}
 use Rattle.tree_marks.proofs.Gathering.{Keeping}
 use Rattle.tree_marks.proofs.keep_gone.Given as goal
 
--- `keep_gone` meets its contract.
 abbrev pub invariant-loop-y : goal.invariant-loop-y
 invariant-loop-y l = Keeping l.off l.count l.initial.work l.work l.y
 

@@ -6,11 +6,6 @@ use lib.ListN.{length}
 use Rattle.tree_marks.proofs.Walks.{zeros_set, counting_begin, counting_on, counting_past, counting_met, counting_end, entry_in}
 use Rattle.tree_marks.proofs.mark_counted.Goals as goal
 
--- the entry lies in the table
-inside : (c : lts.Else2 (index_Reads.Asked, index_Reads.Learnt, get-u32-reads.Asked, get-u32-reads.Learnt) reads.Pre reads.Post invariant-loop decreases-loop)
-    → c.before.before.index.result * c.before.before.before.before.before.before.before.before.args.w + c.before.before.before.before.before.before.before.before.args.w ≤ length c.before.before.before.before.before.before.before.before.args.table.now
-inside c = entry_in _ _ c.before.before.before.before.before.before.before.before.args.count _ (omega arith) (omega arith)
-
 pub loop-x-init : goal.loop-x-init
 loop-x-init c = counting_begin _ _ _ _ _ _
 
@@ -21,13 +16,13 @@ pub returns-then-work-off-ne0 : goal.returns-then-work-off-ne0
 returns-then-work-off-ne0 c = search (counting_met)
 
 pub overflow_mul-i : goal.overflow_mul-i
-overflow_mul-i c = omega (arith, inside c)
+overflow_mul-i c = let h : c.index-i.result * c.args.w + c.args.w ≤ length c.args.table.now = entry_in _ _ c.args.count _ (omega arith) (omega arith) in omega arith
 
 pub overflow_add-i : goal.overflow_add-i
-overflow_add-i c = omega (arith, inside c)
+overflow_add-i c = let h : c.index-i.result * c.args.w + c.args.w ≤ length c.args.table.now = entry_in _ _ c.args.count _ (omega arith) (omega arith) in omega arith
 
 pub get_u32-x-requires : goal.get_u32-x-requires
-get_u32-x-requires c = omega (arith, inside c)
+get_u32-x-requires c = let h : c.index-i.result * c.args.w + c.args.w ≤ length c.args.table.now = entry_in _ _ c.args.count _ (omega arith) (omega arith) in omega arith
 
 pub loop-x-smaller : goal.loop-x-smaller
 loop-x-smaller c = zeros_set c.loop-x.work (c.args.off + c.index-i.result) c.args.m (search rules) (search rules) (search rules)

@@ -3,7 +3,6 @@ use Rattle.tree_table.specs.Chain.{link_at}
 use Rattle.tree_marks.proofs.Walks.{zeros, Counting}
 use Rattle.tree_marks.proofs.mark_counted.Given as goal
 
--- `mark_counted` meets its contract.
 abbrev pub invariant-loop-x : goal.invariant-loop-x
 invariant-loop-x l = Counting (link_at l.table l.w l.link) l.count l.first l.m l.off l.initial.work l.work l.x l.answer
 

@@ -5,7 +5,6 @@ use borrow.Author.Rules.{rules}
 use Rattle.tree_marks.proofs.Gathering.{named_gone, named_other, named_some, named_root}
 use Rattle.tree_marks.proofs.named.Goals as goal
 
--- `named` meets its contract.
 -- src/lib.rt:153:9
 pub returns-then-mark-eq-GONE : goal.returns-then-mark-eq-GONE
 returns-then-mark-eq-GONE c = named_gone _ _ _ _ c.if-mark-eq-GONE.true

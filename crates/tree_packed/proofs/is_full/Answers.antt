@@ -5,7 +5,6 @@ use Rattle.tree_packed.proofs.Cases.{told_full, not_full}
 use Rattle.tree_packed.proofs.Walks.{tells_no}
 use Rattle.tree_packed.proofs.is_full.Goals as goal
 
--- `tree_packed::is_full` meets its contract.
 pub returns-then-k-list : goal.returns-then-k-list
 returns-then-k-list c = tells_no (not_full _ _ c.if-k-list.true)
 

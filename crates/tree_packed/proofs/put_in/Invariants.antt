@@ -3,7 +3,6 @@ use Prim.Native.Nat.{◌-◌, ◌*◌, ◌≤◌}
 use Rattle.tree_packed.proofs.Moves.{Up}
 use Rattle.tree_packed.proofs.put_in.Given as goal
 
--- `tree_packed::put_in` meets its contract.
 abbrev pub invariant-loop-i : goal.invariant-loop-i
 invariant-loop-i l = (2 * l.j ≤ l.i) × (l.i ≤ 2 * l.k) × Up l.i (2 * l.k) l.initial.list l.list
 

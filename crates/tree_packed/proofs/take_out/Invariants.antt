@@ -3,7 +3,6 @@ use Prim.Native.Nat.{◌+◌, ◌-◌, ◌*◌, ◌≤◌}
 use Rattle.tree_packed.proofs.Moves.{Down}
 use Rattle.tree_packed.proofs.take_out.Given as goal
 
--- `tree_packed::take_out` meets its contract.
 abbrev pub invariant-loop-i : goal.invariant-loop-i
 invariant-loop-i l = (2 * l.j ≤ l.i) × (l.i + 2 ≤ 2 * l.k) × Down (2 * l.j) (l.i + 2) l.initial.list l.list
 

@@ -3,7 +3,6 @@ use Prim.Native.Nat.{◌-◌}
 use Rattle.tree_packed.proofs.Walks.{Front}
 use Rattle.tree_packed.proofs.well_formed.Given as goal
 
--- `tree_packed::well_formed` meets its contract.
 abbrev pub invariant-loop-i : goal.invariant-loop-i
 invariant-loop-i l = Front l.k l.list l.i l.last
 

@@ -5,7 +5,6 @@ use borrow.Author.Rules.{rules}
 use Rattle.tree_test.proofs.Cases.{told_true, told_false, beyond_not}
 use Rattle.tree_test.proofs.beyond.Goals as goal
 
--- `beyond` meets its contract.
 -- src/lib.rt:182:9
 pub returns-then-n-lt1 : goal.returns-then-n-lt1
 returns-then-n-lt1 c = told_true (inl c.if-n-lt1.true)

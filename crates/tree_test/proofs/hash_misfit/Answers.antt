@@ -4,7 +4,6 @@ use Prim.Native.Nat.{◌-◌, ◌/◌}
 use Rattle.tree_test.proofs.Cases.{told_true, told_false}
 use Rattle.tree_test.proofs.hash_misfit.Goals as goal
 
--- `hash_misfit` meets its contract.
 -- src/lib.rt:150:9
 pub returns-then-len-eq0 : goal.returns-then-len-eq0
 returns-then-len-eq0 c = told_true (inl c.if-len-eq0.true)

@@ -8,7 +8,6 @@ use Rattle.tree_table.specs.Field.{field}
 use Rattle.tree_test.proofs.DirsTest.{root_gone, root_named, root_last, root_key}
 use Rattle.tree_test.proofs.root_fits.Goals as goal
 
--- `root_fits` meets its contract.
 -- src/lib.rt:36:9
 pub returns-then-mark-eq-GONE : goal.returns-then-mark-eq-GONE
 returns-then-mark-eq-GONE c = root_gone _ _ c.if-mark-eq-GONE.true

@@ -5,7 +5,6 @@ use borrow.Author.Tests.{not-true, not-false}
 use Rattle.tree_test.proofs.Cases.{zero_marks, later_zero, dirs_count, sound_dirs, sound_files}
 use Rattle.tree_test.proofs.sound.Goals as goal
 
--- `sound` meets its contract.
 -- src/lib.rt:103:9
 pub test_dirs-requires : goal.test_dirs-requires
 test_dirs-requires c = (c.requires.sized.dir_table, c.requires.sized.dir_room, c.requires.sized.dir_some, c.requires.sized.dir_buckets, omega arith, zero_marks c.args.work.now 0 c.requires.by_index)

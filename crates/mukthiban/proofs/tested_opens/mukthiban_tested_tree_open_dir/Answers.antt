@@ -4,4 +4,4 @@ use Rattle.mukthiban.proofs.tested_opens.mukthiban_tested_tree_open_dir.Goals as
 
 pub returns : goal.returns
 returns c =
-    inner_open_dir c.args.dir_hash.now c.args.dir_table.now c.args.file_hash.now c.args.file_table.now _ _ c.args.inode c.args.kind _ _ _ c.number.ensures c.want_of-want.ensures c.before.before.before.«open».ensures
+    inner_open_dir c.args.dir_hash.now c.args.dir_table.now c.args.file_hash.now c.args.file_table.now _ _ c.args.inode c.args.kind _ _ _ c.number.ensures c.want_of-want.ensures c.open-answer.ensures

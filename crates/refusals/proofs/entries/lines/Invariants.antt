@@ -2,7 +2,6 @@
 use Rattle.std.proofs.Common.{◌≡◌, ◌-◌, length}
 use Rattle.refusals.proofs.entries.lines.Given as goal
 
--- `lines` meets its contract.
 abbrev pub invariant-loop-at : goal.invariant-loop-at
 invariant-loop-at l = (length l.dh ≡ length l.initial.dh) × (length l.d ≡ length l.initial.d) × (length l.fh ≡ length l.initial.fh) × (length l.f ≡ length l.initial.f) × (length l.dir_opens ≡ length l.initial.dir_opens) × (length l.file_opens ≡ length l.initial.file_opens)
 

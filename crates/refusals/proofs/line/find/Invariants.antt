@@ -2,7 +2,6 @@
 use Rattle.std.proofs.Common.{◌-◌, ◌≤◌, length}
 use Rattle.refusals.proofs.line.find.Given as goal
 
--- `find` meets its contract.
 abbrev pub invariant-loop-i : goal.invariant-loop-i
 invariant-loop-i l = (l.at ≤ l.i) × (l.i ≤ length l.text)
 

@@ -2,7 +2,6 @@
 use Rattle.std.proofs.Common.{◌≤◌, length}
 use Rattle.refusals.proofs.line.name_at.Given as goal
 
--- `name_at` meets its contract.
 abbrev pub invariant-loop-left : goal.invariant-loop-left
 invariant-loop-left l = l.at ≤ length l.names
 

@@ -2,7 +2,6 @@
 use Rattle.std.proofs.Common.{◌-◌, length}
 use Rattle.refusals.proofs.line.number_of.Given as goal
 
--- `number_of` meets its contract.
 abbrev pub invariant-loop-at : goal.invariant-loop-at
 invariant-loop-at l = Unit {0}
 

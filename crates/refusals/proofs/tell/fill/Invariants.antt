@@ -2,7 +2,6 @@
 use Rattle.std.proofs.Common.{◌≡◌, ◌-◌, length}
 use Rattle.refusals.proofs.tell.fill.Given as goal
 
--- `fill` meets its contract.
 abbrev pub invariant-loop-i : goal.invariant-loop-i
 invariant-loop-i l = length l.list ≡ length l.initial.list
 

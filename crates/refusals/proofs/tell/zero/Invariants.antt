@@ -2,7 +2,6 @@
 use Rattle.std.proofs.Common.{◌≡◌, ◌-◌, length}
 use Rattle.refusals.proofs.tell.zero.Given as goal
 
--- `zero` meets its contract.
 abbrev pub invariant-loop-i : goal.invariant-loop-i
 invariant-loop-i l = length l.bytes ≡ length l.initial.bytes
 

@@ -2,7 +2,6 @@
 use Rattle.std.proofs.Common.{◌≡◌, ◌-◌, length}
 use Rattle.stored.proofs.read.fill.Given as goal
 
--- `fill` meets its contract.
 abbrev pub invariant-loop-i : goal.invariant-loop-i
 invariant-loop-i l = length l.buf ≡ length l.initial.buf
 

@@ -2,7 +2,6 @@
 use Rattle.std.proofs.Common.{◌≡◌, ◌-◌, length}
 use Rattle.stored.proofs.read.fill_list.Given as goal
 
--- `fill_list` meets its contract.
 abbrev pub invariant-loop-i : goal.invariant-loop-i
 invariant-loop-i l = length l.list ≡ length l.initial.list
 

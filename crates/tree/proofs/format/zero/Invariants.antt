@@ -5,7 +5,6 @@ use Prim.Native.Nat.{◌-◌, ◌≤◌}
 use lib.ListN.{length, drop, replicate}
 use Rattle.tree.proofs.format.zero.Given as goal
 
--- `zero` meets its contract.
 abbrev pub invariant-loop-i : goal.invariant-loop-i
 invariant-loop-i l = (l.i ≤ l.k) × (l.bytes ≡ replicate l.i 0 ++ drop l.i l.initial.bytes) × (length l.bytes ≡ length l.initial.bytes)
 
