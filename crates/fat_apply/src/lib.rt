@@ -1,5 +1,6 @@
 // The applying of a plan that makes a file whole.
 #![tactic(auto)]
+
 ghost use Rattle.std.specs.Prelude.{length};
 ghost use Rattle.fat_promises.specs.Promise.{beside};
 ghost use Rattle.fat_apply.specs.Apply.{apply_gives, ApplyPromise};

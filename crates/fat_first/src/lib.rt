@@ -1,6 +1,7 @@
 // The map of files' first blocks beside the table, for a side that has tested its table and built its maps once. Each call requires that both maps are the
 // table's, and leaves those of the table that it leaves; whether a block begins a file is one bit, and no call goes over other files' nodes.
 #![tactic(auto)]
+
 ghost use Rattle.std.specs.Prelude.{◌≡◌, true, ◌+◌, ◌≤◌, ◌<◌, length, replicate};
 ghost use Rattle.order.specs.First.{First};
 ghost use Rattle.map_bits.specs.Bits.{words_from, words_in};

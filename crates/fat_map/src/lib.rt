@@ -1,5 +1,6 @@
 // The free map beside the table: built by one call, kept by create, resize and delete, and asked for the free blocks of a stretch.
 #![tactic(auto)]
+
 pub mod tested;
 
 ghost use Rattle.std.specs.Prelude.{◌≡◌, ◌⊎◌, ◌≤◌, ◌<◌, length};

@@ -1,5 +1,6 @@
 // Plans to make a file whole: a checker of anyone's plans, and a planner.
 #![tactic(auto)]
+
 ghost use Rattle.std.specs.Prelude.{length};
 ghost use Rattle.fat_promises.specs.Promise.{beside};
 ghost use Rattle.fat_plan.specs.Promise.{CheckPromise, FindPromise};

@@ -1,5 +1,6 @@
 // The kiosk's test: whether a volume is in the demo kiosk's profile.
 #![tactic(auto)]
+
 ghost use Rattle.std.specs.Prelude.{◌+◌, ◌/◌, ◌≤◌, length};
 ghost use Rattle.tree_sound.specs.Tables.{tables};
 ghost use Rattle.audit_inner.specs.Inner.Marks.{Clear};

@@ -1,5 +1,6 @@
 // The kiosk's create: a file in one node, cut from the first free node along the chain that is long enough.
 #![tactic(auto)]
+
 ghost use Rattle.std.specs.Prelude.{◌≡◌, length};
 ghost use Rattle.fat_table.specs.Chain.{free_at};
 ghost use Rattle.fat_carve.specs.Carve.{fit};

@@ -1,5 +1,6 @@
 // The free map of a sound table: built, compared, and kept by create, resize and delete. Each asks for soundness and tests nothing.
 #![tactic(auto)]
+
 ghost use Rattle.std.specs.Prelude.{◌≡◌, Bool, true, false, not, List, ◌++◌, ℕ, ◌+◌, ◌≤◌, ◌<◌, length, replicate};
 ghost use Rattle.order.specs.Tells.{Tells};
 ghost use Rattle.map_bits.specs.Bits.{words_from, words_in};

@@ -1,6 +1,7 @@
 // Builds the history of every sound table of up to 4 blocks and of a worn one of 1,000, runs each by create and delete from a formatted table, compares what
 // it makes with the table in the entries that the rules read, and writes the counts.
 #![tactic(auto)]
+
 mod replay;
 mod small;
 mod tally;

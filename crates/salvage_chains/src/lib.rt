@@ -4,6 +4,7 @@
 // A walk marks by its chain's place in the list, so that nothing is cleared between walks; all together no more than 5n blocks are followed in a pass, so that
 // what the call does is linear in the blocks and the first blocks.
 #![tactic(auto)]
+
 ghost use Rattle.std.specs.Prelude.{◌≡◌, ◌+◌, ◌*◌, ◌≤◌, length};
 ghost use Rattle.std.proofs.lemmas.List.Edits.{sets};
 ghost use Rattle.order.specs.Beside.{beside};

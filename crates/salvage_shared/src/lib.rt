@@ -3,6 +3,7 @@
 // The chains are followed three times each: to tell which are whole, to count them in the work list, and to look for a block that is counted twice. All
 // together no more than 5n blocks are followed in a pass, so that what the call does is linear in the blocks and the first blocks.
 #![tactic(auto)]
+
 ghost use Rattle.std.specs.Prelude.{◌≡◌, [], ◌∷◌, ◌+◌, ◌≤◌, length};
 ghost use Rattle.order.specs.Beside.{beside};
 ghost use Rattle.fat_node.specs.Node.{run, NodeAt, next_at};

@@ -75,6 +75,7 @@ module _ {w : ℕ} {t : List ℕ} where
 
   -- the marks of the way
   path_mark : {W : ℕ → ℕ} {x : ℕ} {ps : List ℕ} → Path w t W x ps → 1 ≤ field w t 0 1 → (z : ℕ) → z ∈ ps → (0 < W z) × (W z ≤ field w t 0 1)
+  path_mark {W = W} none h z x9 = elim x9 [ ]
   path_mark {W} (on x p ps l e n d r) h z (inl q) =
       let b : p < field w t 0 1 = path_below r h in
       subst⁻¹ (λ (v : ℕ). (0 < v) × (v ≤ field w t 0 1)) (ap W q ∙ e) (omega arith, omega arith)

@@ -1,5 +1,6 @@
 // Whether the orders of the entry tables' lists are those of one past: a walk along the links of each table, depth first.
 #![tactic(auto)]
+
 ghost use Rattle.std.specs.Prelude.{◌≡◌, ◌<◌, length};
 ghost use Rattle.order.specs.Beside.{beside};
 ghost use Rattle.tree_table.specs.Field.{field};

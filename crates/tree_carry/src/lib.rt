@@ -1,5 +1,6 @@
 // The bytes that a caller keeps in an entry, and its name: read, written and shown on sound tables. Nothing here tests soundness.
 #![tactic(auto)]
+
 ghost use Rattle.std.specs.Prelude.{◌≡◌, [], ◌+◌, ◌*◌, ◌≤◌, length, take, drop, replicate};
 ghost use Rattle.words.specs.Word.{word, put_word};
 ghost use Rattle.order.specs.First.{First};

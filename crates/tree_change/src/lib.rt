@@ -1,5 +1,6 @@
 // The calls inside that change sound entry tables: delete, rename and make. Each judges first and changes nothing where a row applies; none tests soundness.
 #![tactic(auto)]
+
 ghost use Rattle.tree_sound.specs.Tables.{Tables, tables};
 ghost use Rattle.tree_promises.specs.declared.Kind.TheVariants.{Directory, File};
 ghost use Rattle.tree_promises.specs.Packed.{gives, Inside, delete_tests, delete_done, rename_tests, rename_done};

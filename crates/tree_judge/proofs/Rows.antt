@@ -51,10 +51,12 @@ module _ (s : Tables) (R : Ready s) where
   root_up = ap parent R.sound.dirs.root_key
 
   none_above : (z : ℕ) (zs : List ℕ) → Links (up D) 0 zs → z ∈ zs → ⊥
+  none_above z [] k i = elim i [ ]
   none_above z (b ∷ zs) k i = let p : 0 ≡ b = k.0 in let q : 0 < b = k.1 in omega arith
 
   -- the directories above a live one are live
   pub above_live : (y : ℕ) (xs : List ℕ) → LiveIn D y → Links (up D) y xs → (z : ℕ) → z ∈ xs → LiveIn D z
+  above_live y [] ly l z x3 = elim x3 [ ]
   above_live y (a ∷ xs) ly l z (inl e) = subst (λ w. LiveIn D w) (l.0 ∙ sym e) ly
   above_live y (a ∷ xs) ly l z (inr m) =
       ⊎_elim

@@ -1,6 +1,7 @@
 // What the tests before a step decide on sound tables: that no row applies, or the answer of the first that does. Nothing is changed here. `opens` is the
 // open record of inode x.
 #![tactic(auto)]
+
 ghost use Rattle.std.specs.Prelude.{◌≡◌, [], ◌/◌, ◌≤◌, ◌<◌, length};
 ghost use Rattle.tree_key.specs.Key.{key_words, name_key};
 ghost use Rattle.order.specs.Tells.{Tells};

@@ -1,5 +1,6 @@
 // The names that a new entry may have.
 #![tactic(auto)]
+
 ghost use Rattle.std.specs.Prelude.{◌≡◌};
 ghost use Rattle.tree_promises.specs.Legal.{torn, legal};
 

@@ -1,5 +1,6 @@
 // What stands in sound entry tables: the inner calls that look, and those that touch open records alone. Each requires soundness and tests nothing.
 #![tactic(auto)]
+
 ghost use Rattle.std.specs.Prelude.{◌≡◌, ◌-◌, ◌/◌, ◌≤◌};
 ghost use Rattle.order.specs.First.{First};
 ghost use Rattle.tree_promises.specs.Calls.{lookup_rows, lookup_done, lookup_gives, list_gives, short_rows, listed_done, ListDirs, ListFiles, stat_gives, stat_done};

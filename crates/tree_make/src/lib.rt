@@ -1,5 +1,6 @@
 // The calls inside that make an entry in sound tables: judged first, then the entry is taken, linked and filled.
 #![tactic(auto)]
+
 ghost use Rattle.std.specs.Prelude.{◌≡◌, [], ◌∷◌, ◌+◌, ◌*◌, ◌/◌, ◌≤◌, ◌<◌, length};
 ghost use Rattle.tree_table.specs.Field.{write, wrote, sub_dir_field, sub_file_field};
 ghost use Rattle.tree_table.specs.Steps.{taken};

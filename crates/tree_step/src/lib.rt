@@ -1,6 +1,7 @@
 // The steps on the four tables: an entry leaves its bucket and its parent's list, or enters them. Each asks for what soundness gives, and tests nothing.
 // A directory's entry and its parent's stand in one table, which can't be lent twice: so the steps of directories take it once, those of files take both.
 #![tactic(auto)]
+
 ghost use Rattle.std.specs.Prelude.{◌≡◌, List, [], ◌++◌, ℕ, ◌+◌, ◌*◌, ◌/◌, ◌≤◌, ◌<◌, length, eqb};
 ghost use Rattle.tree_key.specs.Key.{key_words, name_key};
 ghost use Rattle.tree_sound.specs.Tables.{tables};
