@@ -1,6 +1,7 @@
 // The audit of the two layers together, on sound tables: it requires soundness and tests nothing. Each chain's length is counted once, each inode and
 // each block looked at twice: the findings are counted, and then written.
 #![tactic(auto)]
+
 ghost use Rattle.std.specs.Prelude.{◌≡◌, false, List, [], ◌∷◌, ◌++◌, ℕ, ◌+◌, ◌*◌, ◌/◌, ◌≤◌, ◌<◌, length};
 ghost use Rattle.fat_table.specs.Sound.{IsNode};
 ghost use Rattle.fat_table.specs.Chain.{head_at, total, chain_at};

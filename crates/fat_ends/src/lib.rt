@@ -1,5 +1,6 @@
 // The table test by the ends of fragments: two passes over the nodes, with no chain followed.
 #![tactic(auto)]
+
 ghost use Rattle.std.specs.Prelude.{◌≡◌, true, false, ℕ, ◌+◌, ◌*◌, ◌/◌, ◌%◌, ◌<◌, ◌≤◌, length, get_or, replicate, ◌⊎◌};
 ghost use Rattle.fat_node.specs.Entry.{v_at};
 ghost use Rattle.fat_node.specs.Node.{prev_at, next_at, NodeAt};

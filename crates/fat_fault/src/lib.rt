@@ -1,6 +1,7 @@
 // Where a block table is broken: the entry and the rule, found by passes over a table that is refused. Every pass is linear in the number of blocks: a
 // place of the work list goes from 0 to 1, to a colour, to the ring's mark, and never back.
 #![tactic(auto)]
+
 ghost use Rattle.std.specs.Prelude.{◌≡◌, true, false, ℕ, suc, ◌+◌, ◌*◌, ◌≤◌, ◌<◌, length, get_or, replicate};
 ghost use Rattle.fat_node.specs.Node.{prev_at, next_at};
 ghost use Rattle.fat_fault.specs.Fault.{answered, head_fits, loose, hop, untied, lowest, fault_of};

@@ -1,5 +1,6 @@
 // What a call will answer on a sound table, known before its first write, with what its step needs. Nothing is changed here.
 #![tactic(auto)]
+
 ghost use Rattle.std.specs.Prelude.{◌≡◌, true, false, List, ℕ, ◌+◌, ◌*◌, ◌≤◌, ◌<◌};
 ghost use Rattle.fat_node.specs.Node.{Run};
 ghost use Rattle.fat_table.specs.Sound.{File};

@@ -124,7 +124,7 @@ module _ (t : Bytes) (d l : ℕ) (work map : List ℕ) where
       kept (λ (x : Change). x.table) (λ a. change_gives a t) t d l work map (delete_tests (blocks t) t b) (delete_done (blocks t) t b) o (λ a. refl) (blocks_deleted (blocks t) t b) p i
 
 -- after any run of calls with a map, whatever they answered, the map is the table's
-pub run_map : {t u : Bytes} {map m : List ℕ} → MapRun t map u m → IsMap t map → IsMap u m
+pub run_map : {t : Bytes} {map : List ℕ} {u : Bytes} {m : List ℕ} → MapRun t map u m → IsMap t map → IsMap u m
 run_map none i = i
 run_map (creates u m r d l work count o p) i = kept_create u d l work m count o p (run_map r i)
 run_map (resizes u m r d l work b count o p) i = kept_resize u d l work m b count o p (run_map r i)

@@ -3,6 +3,7 @@
 // Every word of the table is read by words::get_u32 and written by words::put_u32, which compile to 32-bit loads and stores: after `rt staticlib mukthiban`
 // look at mukthiban_fat_format in `objdump -d target/staticlib/libmukthiban.a`.
 #![tactic(auto)]
+
 ghost use Rattle.std.specs.Prelude.{◌≡◌, true, ℕ, ◌+◌, ◌*◌, ◌≤◌, ◌<◌, length};
 ghost use Rattle.fat_node.specs.Entry.{entry, put, top, u_at, v_at};
 ghost use Rattle.fat_node.specs.Node.{run, prev_at, next_at, NodeAt, prev_half, set_node, set_head};

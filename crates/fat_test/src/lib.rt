@@ -1,5 +1,6 @@
 // The test of the block table, and the gate that every call on one passes.
 #![tactic(auto)]
+
 ghost use Rattle.std.specs.Prelude.{◌≡◌, true, false, ◌⊎◌, ◌+◌, ◌*◌, ◌≤◌, ◌<◌, length, replicate};
 ghost use Rattle.order.specs.Gate.{cleared};
 ghost use Rattle.order.specs.Tells.{Tells};

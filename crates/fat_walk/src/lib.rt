@@ -1,5 +1,6 @@
 // Going along chains of a sound table: nodes, files, and where a block of a chain lies.
 #![tactic(auto)]
+
 ghost use Rattle.std.specs.Prelude.{◌≡◌, true, List, ℕ, ◌+◌, ◌≤◌, ◌<◌, length};
 ghost use Rattle.fat_node.specs.Node.{Run, prev_at, next_at};
 ghost use Rattle.fat_table.specs.Sound.{IsNode, File};

@@ -1,5 +1,6 @@
 // Sets of blocks as u32 words, one bit a block: a stretch of blocks is put in, taken out or counted, whole words at a time.
 #![tactic(auto)]
+
 ghost use Rattle.std.specs.Prelude.{◌≡◌, Bool, true, false, cond, not, ℕ, ◌+◌, ◌-◌, ◌*◌, ◌/◌, ◌%◌, ◌^◌, ◌≤◌, ◌<◌, length};
 ghost use Rattle.order.specs.Tells.{Tells};
 ghost use Rattle.map_bits.specs.Bits.{words_from, bit, sum_from, counted_in};

@@ -1,5 +1,6 @@
 // The answers that a call can give, by the names of RULES 2.1, and the work list's clearing.
 #![tactic(auto)]
+
 ghost use Rattle.std.specs.Prelude.{◌≡◌, length, replicate};
 ghost use Rattle.order.specs.Answer.{number_of, fault_in};
 

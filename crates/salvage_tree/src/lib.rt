@@ -1,6 +1,7 @@
 // The live entries of one entry table of any bytes: those below count and room that the removed list, as far as it can be followed, does not name. `w` is the
 // width of an entry.
 #![tactic(auto)]
+
 ghost use Rattle.std.specs.Prelude.{◌≡◌, [], ◌-◌, ◌≤◌, ◌<◌, length};
 ghost use Rattle.std.proofs.lemmas.List.Edits.{sets};
 ghost use Rattle.order.specs.Beside.{beside};

@@ -1,5 +1,6 @@
 // The way up by parents from a directory, in a directory table of any bytes.
 #![tactic(auto)]
+
 ghost use Rattle.std.specs.Prelude.{◌≡◌, ◌*◌, ◌+◌, ◌≤◌, length};
 ghost use Rattle.std.proofs.lemmas.List.Edits.{sets};
 ghost use Rattle.order.specs.Beside.{beside};

@@ -33,6 +33,7 @@ use Rattle.tree_alone.specs.Inner.Stage.{BucketFiled, BucketsFiled, BucketCounte
 
 -- a search that finds nothing met no entry with the key
 pub seek_none : (key : ℕ → List ℕ) (k xs : List ℕ) (n : ℕ) → ((y : ℕ) → y ∈ xs → 0 < y) → (seek_in key k xs n).inode ≡ 0 → (z : ℕ) → z ∈ xs → key z ≡ k → ⊥
+seek_none key k [] n pos e z m q = elim m [ ]
 seek_none key k (y ∷ ys) n pos e z m q = go (same_key (key y) k) refl e (λ i u. seek_none key k ys (n + 1) (λ y m. pos y (inr m)) i z u q)
   where
     go : (t : Bool) → same_key (key y) k ≡ t → (pick t (record { inode = y; compared = n + 1 }) (seek_in key k ys (n + 1))).inode ≡ 0

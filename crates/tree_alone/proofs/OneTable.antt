@@ -24,6 +24,7 @@ use Rattle.tree_alone.specs.Inner.Stage.{OnlyGone}
 -- of two entries of a list, one is the other or stands behind it
 order : (next : ℕ → ℕ) (h : ℕ) (xs : List ℕ) → Links next h xs → (y z : ℕ) → y ∈ xs → z ∈ xs
     → (y ≡ z) ⊎ (((ys : List ℕ) × Links next (next y) ys × (z ∈ ys)) ⊎ ((ys : List ℕ) × Links next (next z) ys × (y ∈ ys)))
+order next h [] l y z x3 _ = elim x3 [ ]
 order next h (a ∷ xs) l y z (inl p) (inl q) = inl (p ∙ sym q)
 order next h (a ∷ xs) l y z (inl p) (inr m) = inr (inl (xs, subst (λ u. Links next (next u) xs) (sym p) l.2, m))
 order next h (a ∷ xs) l y z (inr m) (inl q) = inr (inr (xs, subst (λ u. Links next (next u) xs) (sym q) l.2, m))

@@ -1,5 +1,6 @@
 // The test of one entry table by itself: the numbers at its front, the removed list, the buckets and the keys.
 #![tactic(auto)]
+
 ghost use Rattle.std.specs.Prelude.{◌≡◌, ℕ, ◌+◌, ◌-◌, ◌*◌, ◌/◌, ◌≤◌, ◌<◌, length};
 ghost use Rattle.tree_table.specs.Chain.{link_at, Ends};
 ghost use Rattle.order.specs.Tells.{Tells};

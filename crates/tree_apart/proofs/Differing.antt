@@ -26,6 +26,7 @@ use Rattle.tree_apart.specs.Inner.Apart.{Apart, few, AllApart, far, Bounded, Non
 -- ---- places and members
 
 pub placed : (xs : List ℕ) (z : ℕ) → z ∈ xs → (j : ℕ) × (j < length xs) × (get_or xs j 0 ≡ z)
+placed [] z x' = elim x' [ ]
 placed (y ∷ ys) z (inl e) = (0, omega arith, sym e)
 placed (y ∷ ys) z (inr m) = let p = placed ys z m in (suc p.0, (let h : p.0 < length ys = p.1 in omega arith), p.2)
 
@@ -62,6 +63,7 @@ module _ (t : List ℕ) (w : ℕ) where
   shifted a ys D i j h l e = D (suc i) (suc j) (omega arith) (omega arith) e
 
   to_apart : (xs : List ℕ) (x : ℕ) → Ends t w (w - 4) x → walk x ≡ xs → Different key xs → (y : ℕ) → y ∈ xs → Apart t w y
+  to_apart [] x E e D y x8 z m q = elim x8 [ ]
   to_apart (a ∷ ys) x E e D y (inl p) z m q =
       let S = step x a ys E e in
       let k : z ∈ ys = subst (λ l. z ∈ l) (ap (λ u. walk (next u)) (p ∙ S.here) ∙ S.rest) m in

@@ -1,5 +1,6 @@
 // The keys of the long buckets of one table: each bucket's inodes are written to the places of the marks, sorted by their keys, and neighbours compared.
 #![tactic(auto)]
+
 ghost use Rattle.std.specs.Prelude.{◌≡◌, true, ℕ, ◌+◌, ◌-◌, ◌*◌, ◌/◌, ◌≤◌, ◌<◌, length};
 ghost use Rattle.tree_table.specs.Field.{start, collision_field};
 ghost use Rattle.tree_table.specs.Chain.{list_at, Ends};

@@ -1,12 +1,12 @@
 -- The tests of rename and make, by the places of their code, and what a judged call gives.
 use mathlib.Core.Path.{◌≡◌, refl, sym, ap, ◌∙◌, subst}
 use mathlib.Core.Bool.{Bool, true, false, not, false≢true}
-use mathlib.Core.List.{List, ◌∷◌}
+use mathlib.Core.List.{List, [], ◌∷◌, ◌++◌}
 use mathlib.Core.Logic.{inl, inr, ⊎_elim, ◌≢◌}
 use Prim.Native.Nat.{ℕ, ◌<◌}
 use native.Mathlib.Omega.{arith}
 use borrow.Author.Tests.{not-true, not-false}
-use Rattle.order.specs.First.{Row, First}
+use Rattle.order.specs.First.{Row, row, First}
 use Rattle.order.specs.Given.{Given, None}
 use Rattle.order.specs.declared.Answer.{Answer}
 use Rattle.order.specs.declared.Answer.TheVariants.{InvalidValue, NotFound, DeletingRoot, IntoItself, AlreadyExist, NoSpace}
@@ -20,11 +20,13 @@ use Rattle.tree_table.specs.Chain.{link_at, list_at, Ends, member}
 use Rattle.tree_table.proofs.Chain.{member_in, not_member}
 use Rattle.tree_sound.specs.Sound.{up}
 use Rattle.tree_sound.specs.Tables.{Tables, dirs, files}
+use Rattle.tree_promises.specs.declared.Kind.{Kind}
 use Rattle.tree_promises.specs.declared.Kind.TheVariants.{Directory, File}
 use Rattle.tree_promises.specs.Legal.{legal}
 use Rattle.tree_promises.specs.Has.{above, Has, HasOther}
 use Rattle.order.specs.Giving.{giving}
-use Rattle.tree_promises.specs.Calls.{held_tests_of, rename_tests_of, make_tests}
+use Rattle.tree_promises.specs.Kinds.{kind_view}
+use Rattle.tree_promises.specs.Calls.{held_tests_of, root_tests, ring_tests, rename_tests_of, make_tests}
 use Rattle.tree_promises.specs.Inner.Ready.{Ready, Single}
 use Rattle.tree_judge.specs.Inner.Judge.{JudgedBy}
 use Rattle.tree_judge.specs.declared.Judged.{Judged}
@@ -33,6 +35,11 @@ use Rattle.tree_look.proofs.Lists.{all_fit, count_few, dir_single, ends_of, list
 use Rattle.order.specs.Tells.{Tells}
 use Rattle.tree_test.proofs.Cases.{tells_not}
 use Rattle.tree_look.proofs.Given.{given_first, none_first}
+
+-- what rename is asked behind the tests of the entry that is held
+abbrev pub after_held : (kind : Kind) (s : Tables) (x p : ℕ) (name : List ℕ) → List (Row Answer)
+after_held kind s x p name =
+    root_tests kind x ++ (row (legal name ≡ false) InvalidValue ∷ row (LiveIn (dirs s) p → ⊥) NotFound ∷ (ring_tests kind s x p ++ (row (HasOther (kind_view kind s) x (name_key p name)) AlreadyExist ∷ [])))
 
 -- ---- the way up
 

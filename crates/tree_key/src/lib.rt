@@ -1,5 +1,6 @@
 // Keys and their hash, and the two kinds of entries: what save_ext_common.rs has, and the hash of fs_meta.rs.
 #![tactic(auto)]
+
 ghost use Rattle.std.specs.Prelude.{◌≡◌, [], ◌∷◌, ◌+◌, ◌%◌, ◌≤◌, ◌<◌, length};
 ghost use Rattle.tree_key.specs.Hash.{rotated, mix, hash_of};
 ghost use Rattle.tree_key.specs.Key.{key_of, name_key, key_words, same_key};

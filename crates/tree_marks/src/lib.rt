@@ -1,5 +1,6 @@
 // Marks of the tree's test: lists gone along with a mark left at each entry, so that no entry is met twice, and the way up from each directory.
 #![tactic(auto)]
+
 ghost use Rattle.std.specs.Prelude.{◌≡◌, List, ℕ, ◌+◌, ◌-◌, ◌*◌, ◌≤◌, ◌<◌, length, get_or};
 ghost use Rattle.tree_table.specs.Chain.{link_at};
 ghost use Rattle.tree_table.specs.Field.{start, next_field};

@@ -1,6 +1,7 @@
 // The record of an inode's opens, and what one open more or less makes of it. It is one u32: the top bit says that a writer holds the inode, the low 31 bits
 // count its readers. Where the records stand is the matter of crate tree_packed.
 #![tactic(auto)]
+
 ghost use Rattle.std.specs.Prelude.{◌≡◌};
 ghost use Rattle.tree_opens.specs.Record.{readers, writer, total};
 ghost use Rattle.tree_opens.specs.Step.{more, less, more_tests, less_tests, SteppedBy};

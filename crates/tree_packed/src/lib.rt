@@ -1,6 +1,7 @@
 // Open records packed: a lent list of inode and record, two places each, for opened inodes alone, rising by inode, with the number of records beside it. What
 // a record is does not matter here, but that 0 is nothing open.
 #![tactic(auto)]
+
 ghost use Rattle.std.specs.Prelude.{◌≡◌, true, ◌+◌, ◌*◌, ◌≤◌, ◌<◌, length};
 ghost use Rattle.tree_packed.specs.Packed.{Packed, Place, rec};
 ghost use Rattle.tree_packed.specs.Put.{IsFull, taken_out, put_in, put_of, gives};

@@ -79,7 +79,6 @@ module _ (D F : View) (RD RF : List ℕ) (S : Tree D F RD RF) where
 
   -- the directories above a live one are live
   above_live : (y : ℕ) (xs : List ℕ) → Live D.count RD y → Links (up D) y xs → (z : ℕ) → z ∈ xs → Live D.count RD z
-  none [] k i = elim i [ ]
   above_live y [] ly l z x3 = elim x3 [ ]
   above_live y (a ∷ xs) ly l z (inl e) = subst (λ w. Live D.count RD w) (l.0 ∙ sym e) ly
   above_live y (a ∷ xs) ly l z (inr m) =
@@ -91,6 +90,7 @@ module _ (D F : View) (RD RF : List ℕ) (S : Tree D F RD RF) where
       (same_or a 1)
     where
       none : (zs : List ℕ) → Links (up D) 0 zs → z ∈ zs → ⊥
+      none [] k i = elim i [ ]
       none (b ∷ zs) k i = let p : 0 ≡ b = k.0 in let q : 0 < b = k.1 in omega arith
 
   -- no live entry of the table v has a parent that is no live directory, but for the root

@@ -1,5 +1,6 @@
 // One entry table at any width: the walks and steps of fs_meta.rs's MetaTable. Entries are counted from 0, and `w` is the entry's width in bytes.
 #![tactic(auto)]
+
 ghost use Rattle.std.specs.Prelude.{◌≡◌, [], ◌∷◌, ◌++◌, ◌+◌, ◌-◌, ◌*◌, ◌/◌, ◌%◌, ◌≤◌, ◌<◌, eqb, length, drop};
 ghost use Rattle.words.specs.Word.{word, put_word};
 ghost use Rattle.links.specs.Links.{◌∈◌};

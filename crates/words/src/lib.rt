@@ -1,6 +1,7 @@
 // A little-endian u32 in a slice of bytes. Each compiles to one 32-bit load or store: `rt staticlib mukthiban`, then
 // `objdump -d target/staticlib/libmukthiban.a` shows it, plainest in mukthiban_fat_format.
 #![tactic(auto)]
+
 ghost use Rattle.std.specs.Prelude.{◌≡◌, ◌+◌, ◌*◌, ◌≤◌, length};
 ghost use Rattle.words.specs.Word.{word, put_word};
 

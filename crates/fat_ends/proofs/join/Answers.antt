@@ -25,14 +25,18 @@ overflow_sub-z c = omega (arith, (end_of c.requires.by_index.1 (c.args.x - 1) (o
 
 pub merge-requires : goal.merge-requires
 merge-requires c = let st = c.requires.by_index.1 in
-    let nb = c.requires.node.0 in record { table_len = omega arith; work_len_bound = omega arith; joinable = record {
-          k = c.requires.by_index.0;
-          state = st;
-          node = nb;
-          next = omega arith;
-          mark = omega arith;
-          back = omega arith;
-          first = omega (arith, (start_of st nb).1.0);
-          last = omega (arith, (end_of st (c.args.x - 1) (omega arith) (omega arith)).1.0);
-          ring = c.if-h-j.false;
-        } }
+    let nb = c.requires.node.0 in record {
+      table_len = omega arith;
+      work_len_bound = omega arith;
+      joinable = record {
+        k = c.requires.by_index.0;
+        state = st;
+        node = nb;
+        next = omega arith;
+        mark = omega arith;
+        back = omega arith;
+        first = omega (arith, (start_of st nb).1.0);
+        last = omega (arith, (end_of st (c.args.x - 1) (omega arith) (omega arith)).1.0);
+        ring = c.if-h-j.false;
+      };
+    }

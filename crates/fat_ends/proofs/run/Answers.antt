@@ -15,10 +15,14 @@ judge-r-requires c = let l : length c.clear.new.work ≡ length c.args.work.now 
 pub wipe-requires : goal.wipe-requires
 wipe-requires c = let l : length c.clear.new.work ≡ length c.args.work.now = c.clear.auto.work in
     let k = c.judge-r.auto.work in
-    let q = subst (λ (v : Verdict). Judged c.args.table.now (length c.clear.new.work) v × LeftAs c.args.table.now (length c.clear.new.work) c.judge-r.new.work v) c.in-Good.is c.judge-r.ensures in record { table_len = omega arith; work_len_bound = omega arith; covered = (
-          subst⁻¹ (λ (m : ℕ). Covered c.args.table.now m) k q.0.0.covered,
-          λ x m. subst⁻¹ (λ (y : ℕ). IsNode c.args.table.now y x) k (q.1 x m),
-        ) }
+    let q = subst (λ (v : Verdict). Judged c.args.table.now (length c.clear.new.work) v × LeftAs c.args.table.now (length c.clear.new.work) c.judge-r.new.work v) c.in-Good.is c.judge-r.ensures in record {
+      table_len = omega arith;
+      work_len_bound = omega arith;
+      covered = (
+        subst⁻¹ (λ (m : ℕ). Covered c.args.table.now m) k q.0.0.covered,
+        λ x m. subst⁻¹ (λ (y : ℕ). IsNode c.args.table.now y x) k (q.1 x m),
+      );
+    }
 
 pub returns-in-Good : goal.returns-in-Good
 returns-in-Good c =

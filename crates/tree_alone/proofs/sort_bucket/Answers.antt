@@ -9,14 +9,13 @@ pub returns-then-n-eq0 : goal.returns-then-n-eq0
 returns-then-n-eq0 c = counted_stop c.mark_counted-n.ensures c.if-n-eq0.true
 
 pub check_bucket-requires : goal.check_bucket-requires
-check_bucket-requires c =
-    (
-      counted_ends c.args.table.now c.args.w c.args.first c.mark_counted-n.ensures (omega arith) c.requires.1 c.requires.2 c.requires.0,
-      search rules,
-      search rules,
-      search rules,
-      counted_far c.args.table.now c.args.w c.args.first c.mark_counted-n.ensures (omega arith) c.requires.1 c.requires.2 c.requires.0,
-    )
+check_bucket-requires c = (
+  counted_ends c.args.table.now c.args.w c.args.first c.mark_counted-n.ensures (omega arith) c.requires.1 c.requires.2 c.requires.0,
+  search rules,
+  search rules,
+  search rules,
+  counted_far c.args.table.now c.args.w c.args.first c.mark_counted-n.ensures (omega arith) c.requires.1 c.requires.2 c.requires.0,
+)
 
 pub returns-then-not-check_bucket : goal.returns-then-not-check_bucket
 returns-then-not-check_bucket c = counted_no c.mark_counted-n.ensures (omega arith) c.check_bucket.ensures (not-true c.check_bucket.result c.if-not-check_bucket.true-raw)

@@ -3,11 +3,15 @@ use native.Mathlib.Omega.{arith}
 use Rattle.tree_promises.specs.Calls.{alone_tests_of}
 use Rattle.tree_promises.specs.Inner.Ready.{alone}
 use Rattle.tree_judge.proofs.Judges.{refused_still, passed, dir_root, dir_dirs, dir_files, dir_go, alone_fits}
+use mathlib.Core.List.{[]}
+use Rattle.tree_promises.specs.Calls.{empty_tests}
+use Rattle.tree_promises.specs.declared.Kind.TheVariants.{Directory}
+use Rattle.tree_sound.specs.Tables.{tables}
 use Rattle.tree_judge.proofs.judge_delete_dir.Goals as goal
 
 pub returns-in_default : goal.returns-in_default
 returns-in_default c =
-    refused_still (alone_tests_of (alone 40 c.args.dirs.now) c.args.opens c.args.x) _ _ _ c.judge_delete-once.ensures c.in_default.is
+    refused_still (alone_tests_of (alone 40 c.args.dirs.now) c.args.opens c.args.x) (empty_tests Directory (tables c.args.hash.now c.args.dirs.now [] []) c.args.x) _ _ c.judge_delete-once.ensures c.in_default.is
 
 pub returns-then-x-eq1 : goal.returns-then-x-eq1
 returns-then-x-eq1 c =

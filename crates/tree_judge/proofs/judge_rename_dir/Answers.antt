@@ -4,11 +4,13 @@ use Rattle.tree_sound.specs.Tables.{tables, dirs}
 use Rattle.tree_promises.specs.Calls.{held_tests_of}
 use Rattle.tree_judge.proofs.Judges.{refused_still, passed}
 use Rattle.tree_judge.proofs.Rows.{bad_name, good_name, dir_first, dir_named, dir_parent, dir_into, dir_exists, dir_free, other_key, above_ends}
+use Rattle.tree_promises.specs.declared.Kind.TheVariants.{Directory}
+use Rattle.tree_judge.proofs.Rows.{after_held}
 use Rattle.tree_judge.proofs.judge_rename_dir.Goals as goal
 
 pub returns-in_default : goal.returns-in_default
 returns-in_default c =
-    refused_still (held_tests_of (dirs (tables c.args.hash.now c.args.dirs.now c.args.file_hash.now c.args.files.now)) c.args.opens c.args.x) _ _ _ c.judge_held-held.ensures c.in_default.is
+    refused_still (held_tests_of (dirs (tables c.args.hash.now c.args.dirs.now c.args.file_hash.now c.args.files.now)) c.args.opens c.args.x) (after_held Directory (tables c.args.hash.now c.args.dirs.now c.args.file_hash.now c.args.files.now) c.args.x c.args.parent c.args.name.now) _ _ c.judge_held-held.ensures c.in_default.is
 
 pub returns-then-x-eq1 : goal.returns-then-x-eq1
 returns-then-x-eq1 c =
