@@ -1,5 +1,6 @@
 // The audit of the two layers together: where the files' records and the chains of the block table disagree.
 #![tactic(auto)]
+
 ghost use Rattle.std.specs.Prelude.{length};
 ghost use Rattle.tree_sound.specs.Tables.{tables};
 ghost use Rattle.audit_inner.specs.Calls.{audit_gives};

@@ -1,5 +1,6 @@
 // The calls of the block table.
 #![tactic(auto)]
+
 pub mod tested;
 
 ghost use Rattle.std.specs.Prelude.{length};

@@ -1,5 +1,6 @@
 // Read and write on sound tables: they follow a chain and leave the table as it is.
 #![tactic(auto)]
+
 ghost use Rattle.std.specs.Prelude.{◌≡◌, true, List, ℕ, ◌+◌, ◌*◌, ◌≤◌, ◌<◌, length};
 ghost use Rattle.std.proofs.lemmas.List.Edits.{sets};
 ghost use Rattle.fat_node.specs.Node.{Run};

@@ -1,5 +1,6 @@
 // Read and write by a file's block list, for a side that opened it once: what a call costs depends on the bytes that it carries, not on the file's length.
 #![tactic(auto)]
+
 ghost use Rattle.std.specs.Prelude.{◌≡◌, ◌+◌, ◌*◌, ◌/◌, ◌≤◌, ◌<◌, length, get_or};
 ghost use Rattle.fat_walk.specs.Volume.{Data};
 ghost use Rattle.fat_promises.specs.Calls.{carry_gives};

@@ -1,5 +1,6 @@
 // Merging of free neighbours: the free chain in rising order, no two of its nodes touching.
 #![tactic(auto)]
+
 ghost use Rattle.std.specs.Prelude.{◌≡◌, ℕ, ◌≤◌, ◌<◌, length, get_or, replicate};
 ghost use Rattle.fat_node.specs.Node.{NodeAt};
 ghost use Rattle.fat_table.specs.Chain.{free_at};

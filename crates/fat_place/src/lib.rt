@@ -1,5 +1,6 @@
 // A window of the free chain laid as a file of one node.
 #![tactic(auto)]
+
 ghost use Rattle.std.specs.Prelude.{◌≡◌, [], ℕ, suc, ◌+◌, ◌-◌, ◌*◌, ◌≤◌, length};
 ghost use Rattle.fat_node.specs.Node.{run};
 ghost use Rattle.fat_table.specs.Chain.{free_at};

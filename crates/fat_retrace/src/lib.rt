@@ -1,5 +1,6 @@
 // The history of a block table: the creates and deletes that make it from a formatted one.
 #![tactic(auto)]
+
 ghost use Rattle.std.specs.Prelude.{◌≡◌, List, [], ◌∷◌, ◌+◌, ◌*◌, ◌≤◌, ◌<◌, length};
 ghost use Rattle.fat_table.specs.Sound.{IsNode};
 ghost use Rattle.fat_table.specs.Chain.{chain_at};

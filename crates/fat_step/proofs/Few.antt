@@ -58,6 +58,7 @@ begins_part r x y l q (there v) = inr (there v)
 
 -- after a cut every node still begins where it did
 pub begins_cut : (l : List Run) (c : ℕ) {b : ℕ} → Begins b l → Begins b (taken l c) ⊎ Begins b (left l c)
+begins_cut [] c {b = b} w = elim w [ ]
 begins_cut (r ∷ l) zero w = inr w
 begins_cut (r ∷ l) (suc c) {b} w = ⊎_elim
     (λ k. rw (taken_whole r l c k, left_whole r l c k) (begins_whole r l (taken l (suc c - r.size)) (left l (suc c - r.size)) (λ v. begins_cut l (suc c - r.size) v) w))

@@ -99,6 +99,7 @@ begins_covers {b} (there {r} {l} w) k = omega (arith, begins_covers w (omega ari
 
 -- a chain laid: what stood in the start entry of one of its nodes does not matter
 pub lay_over : (l : List Run) (p : ℕ) (t : Bytes) (b : ℕ) (v : Entry) → empties l ≡ 0 → ((x : ℕ) → covers x l ≤ 1) → Begins b l → lay l p (put t (b + 1) v) ≡ lay l p t
+lay_over [] p t b v e c x3 = elim x3 [ ]
 lay_over (r ∷ l) p t b v e c (here q) =
     ap (λ (k : ℕ). lay l (suc r.start) (set_node (put t (k + 1) v) r p (first l))) (sym q)
     ∙ ap (lay l (suc r.start)) (set_node_over t r p (first l) v)

@@ -1,5 +1,6 @@
 // The calls that change a sound table: create, resize and delete, each as few writes, once it is judged.
 #![tactic(auto)]
+
 ghost use Rattle.std.specs.Prelude.{◌≡◌, true, ℕ, ◌+◌, ◌≤◌, ◌<◌};
 ghost use Rattle.fat_node.specs.Node.{next_at};
 ghost use Rattle.fat_table.specs.Sound.{File};

@@ -2,6 +2,7 @@
 //
 // A turn of a loop is a node or a block, and a walk marks no block twice: what a call does is linear in the number of blocks, whatever stands in the table.
 #![tactic(auto)]
+
 ghost use Rattle.std.specs.Prelude.{◌≡◌, ◌+◌, ◌*◌, ◌≤◌, ◌<◌, length};
 ghost use Rattle.std.proofs.lemmas.List.Edits.{sets};
 ghost use Rattle.order.specs.Answer.{unbroken};

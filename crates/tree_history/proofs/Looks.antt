@@ -54,7 +54,7 @@ module _ (s : State) (L : Lent s.tables) (work : List ℕ) where
   pub good_list : (v : View) (x : ℕ) (list : List ℕ) (o : Beside calls.Listing) → ListPromise t v work x list o → Good s o.given.answer s
   good_list v x list o =
       good_tree s L (λ (x : calls.Listing). x.answer) (λ _. s) (λ a. calls.list_gives a 0 list) (λ a g. g) work (calls.list_tests t v x list)
-      (calls.list_done_lem v x list) o refl (λ w n. looked w)
+      (calls.list_done v x list) o refl (λ w n. looked w)
 
   pub good_stat : (o : Beside calls.Stat) → StatPromise t work o → Good s o.given.answer s
   good_stat o =

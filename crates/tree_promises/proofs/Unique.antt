@@ -52,7 +52,7 @@ module _ (s : Tables) (work : List ℕ) where
   one_lookup v p name = one_tree (λ a. calls.lookup_gives a 0 0) s work (calls.lookup_rows v (name_key p name)) (calls.lookup_done v (name_key p name))
 
   pub one_list : (v : View) (x : ℕ) (list : List ℕ) → One (promised.ListPromise s v work x list)
-  one_list v x list = one_tree (λ a. calls.list_gives a 0 list) s work (calls.list_rows s v x list) (calls.list_done_lem v x list)
+  one_list v x list = one_tree (λ a. calls.list_gives a 0 list) s work (calls.list_rows s v x list) (calls.list_done v x list)
 
   pub one_stat : One (promised.StatPromise s work)
   one_stat = one_tree (λ a. calls.stat_gives a 0 0 0 0) s work [] (calls.stat_done s)

@@ -20,7 +20,7 @@ LookupPromise s v work p name =
 
 -- the directories or the files (v) in directory x
 abbrev pub ListPromise : (s : Tables) (v : View) (work : List ℕ) (x : ℕ) (list : List ℕ) → Beside calls.Listing → Type 0
-ListPromise s v work x list = TreePromise (λ a. calls.list_gives a 0 list) s work (calls.list_rows s v x list) (calls.list_done_lem v x list)
+ListPromise s v work x list = TreePromise (λ a. calls.list_gives a 0 list) s work (calls.list_rows s v x list) (calls.list_done v x list)
 
 abbrev pub StatPromise : (s : Tables) (work : List ℕ) → Beside calls.Stat → Type 0
 StatPromise s work = TreePromise (λ a. calls.stat_gives a 0 0 0 0) s work [] (calls.stat_done s)

@@ -1,5 +1,6 @@
 // The test of the two entry tables, and the gate that every tree call passes.
 #![tactic(auto)]
+
 ghost use Rattle.std.specs.Prelude.{◌≡◌, List, ℕ, ◌+◌, ◌-◌, ◌*◌, ◌/◌, ◌≤◌, ◌<◌, length, get_or, replicate};
 ghost use Rattle.tree_table.specs.Field.{field};
 ghost use Rattle.tree_table.specs.View.{dir_view, file_view, removed_of};

@@ -1,5 +1,6 @@
 // The gate that every call on both layers passes: sizes, work list, soundness of the block table, soundness of the entry tables.
 #![tactic(auto)]
+
 ghost use Rattle.std.specs.Prelude.{◌≡◌, ◌⊎◌, ◌+◌, ◌≤◌, ◌<◌, length, replicate};
 ghost use Rattle.order.specs.Gate.{cleared};
 ghost use Rattle.fat_node.specs.Sizes.{blocks};
