@@ -3,12 +3,10 @@
 test:
 	tools/gate
 
-# Four crates alone, up to format of the block table, the first public call: layout, proofs and must-fail edits. A first look, in about two minutes.
+# Four crates alone, up to format of the block table, the first public call: layout, proofs and must-fail edits. A first look.
 .PHONY: house
 house:
-	rt fmt --check
-	rt check words order links fat_node
-	rt must-fail words fat_node
+	rt ci words order links fat_node
 
 # Against the Rust: the long comparison, with a new seed or SEED=number.
 .PHONY: oracle bench
@@ -23,7 +21,7 @@ bench:
 VOLUMES = 2100
 SEED_OF_DAMAGE = 1
 salvage:
-	cd rust && MUKTHIBAN_LIB=$$(../tools/library link) cargo run --offline --release --quiet -p mukthiban --example salvage -- $(VOLUMES) $(SEED_OF_DAMAGE)
+	cd rust && MUKTHIBAN_LIB=$$(../tools/library) cargo run --offline --release --quiet -p mukthiban --example salvage -- $(VOLUMES) $(SEED_OF_DAMAGE)
 
 # The proved library with its manifest, in dist/: what cargo, the demo and C link.
 .PHONY: dist

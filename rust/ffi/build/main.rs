@@ -45,8 +45,8 @@ fn shipped(root: &Path, target: &str) -> Result<Vec<u8>, String> {
         println!("cargo::rerun-if-changed={}", root.join(file).display());
     }
     if root.join("crates.txt").exists() && manifest.sources != manifest::sources(root)? {
-        return Err("crates/ changed since the library in dist/ was proved: run `make dist`, which proves it anew \
-                    (about a quarter of an hour), or let MUKTHIBAN_LIB name an archive"
+        return Err("crates/ changed since the library in dist/ was proved: run `make dist`, which proves it anew, \
+                    or let MUKTHIBAN_LIB name an archive"
             .into());
     }
     Ok(archive)

@@ -21,7 +21,7 @@ impl Manifest {
 }
 
 /// The digest of the lines that `sha256sum` prints for every .rt and .antt file below crates/ and for crates.txt,
-/// sorted by path.
+/// sorted by path. What the toolchain makes, `crates/*/out`, is left out.
 pub fn sources(root: &Path) -> Result<String, String> {
     let mut paths = vec!["crates.txt".to_string()];
     below(root, "crates", &mut paths)?;
@@ -41,7 +41,9 @@ fn below(root: &Path, folder: &str, paths: &mut Vec<String>) -> Result<(), Strin
         let path = format!("{folder}/{}", entry.file_name().to_string_lossy());
         let kind = entry.file_type().map_err(|e| format!("{path}: {e}"))?;
         if kind.is_dir() {
-            below(root, &path, paths)?;
+            if !(path.ends_with("/out") && path.matches('/').count() == 2) {
+                below(root, &path, paths)?;
+            }
         } else if kind.is_file() && (path.ends_with(".rt") || path.ends_with(".antt")) {
             paths.push(path);
         }

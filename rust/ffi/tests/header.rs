@@ -171,7 +171,8 @@ fn exports() -> BTreeMap<String, String> {
     let folder = Path::new(env!("CARGO_MANIFEST_DIR")).join("../../crates/mukthiban/src");
     let files = fs::read_dir(folder).expect("the crate of the exports").map(|file| file.unwrap().path());
     let text: String = files.map(|file| fs::read_to_string(file).unwrap() + "\n").collect();
-    let text = tidy(&text);
+    // What a struct derives is no part of its form.
+    let text = tidy(&text.lines().filter(|line| !line.starts_with("#[derive(")).collect::<Vec<_>>().join("\n"));
     let answers = structs(&text, "#[repr(C)] pub struct ");
     let calls = text.split("pub extern \"C\" ").skip(1).map(|part| {
         let (front, back) = part.split_once(" -> ").expect("an answer");

@@ -48,7 +48,7 @@ pub struct Entries {
 const LOWEST: usize = 64;
 
 /// Which directories lead up to the root, each looked at once. Of those that the proved call lists these are exactly the
-/// ones whose way, by the call [`way`](super::way), leads there: theorems `way-below` and `way-above`.
+/// ones whose way, by the call [`way`](super::way), leads there: theorems `way_below` and `way_above`.
 fn rooted(dirs: &[Option<(u32, Name)>]) -> Vec<bool> {
     let mut leads: Vec<Option<bool>> = vec![None; dirs.len()];
     if let Some(root) = leads.get_mut(ROOT as usize) {
