@@ -3,6 +3,7 @@
 // What is cheap to prove here: a shared slice, a number or an array by value costs next to nothing as an argument, and each `&mut` slice that is handed on
 // about a third of a second. So the calls are arms of few functions, which take what a whole family is lent, and no call has a function of its own.
 #![tactic(auto)]
+
 ghost use Rattle.std.specs.Prelude.{◌≤◌};
 
 use order::Answer;
