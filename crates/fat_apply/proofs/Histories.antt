@@ -88,7 +88,7 @@ module _ (n l b : ℕ) (t d : Bytes) (w : Whole n t) (i : File t n b) where
       merge.on n l b t d w i o.given.table o.given.bytes t' d' s
       (merge.still_calls n l b o.given.table o.given.bytes s.whole s.file a)
 
--- apart-apply: apart, with merges and applied plans anywhere among the calls: a file that no call names stays a file with the same chain, and holds the
+-- apart_apply: apart, with merges and applied plans anywhere among the calls: a file that no call names stays a file with the same chain, and holds the
 -- same bytes
 pub apart_apply : (l b : ℕ) (t d t' d' : Bytes) → AreBytes t → (Misfit t → ⊥) → (Outside t → ⊥) → Sound t (blocks t) → File t (blocks t) b → Calls l b t d t' d'
     → Stays l b t d t' d'
@@ -134,7 +134,7 @@ history_stands (calls.applies t v d l work b plan o p e) =
     (apply_whole (blocks t) t i.0 b w.may.file (target_of plan) (target_window (blocks t) t i.0 b plan w.may))
     (ap (λ (x : Beside Apply). x.given.table) w.is)
 
--- honest-apply: the test of a table of 1 to 1,000,000 blocks answers Done exactly when some history of format, create, resize, delete, merge and applied
+-- honest_apply: the test of a table of 1 to 1,000,000 blocks answers Done exactly when some history of format, create, resize, delete, merge and applied
 -- plans, each answered Done, ends in a table equal to it in every entry that the rules read
 pub honest_apply : (t : Bytes) (work : List ℕ) (o : Tested × List ℕ) → AreBytes t → (Misfit t → ⊥) → (Outside t → ⊥) → blocks t ≤ length work
     → TestPromise t work o

@@ -54,7 +54,7 @@ module _ (t d : Bytes) (l : ℕ) (work : List ℕ) (b : ℕ) (plan : List ℕ) (
     went_whole : Whole n (applied n t b (target_of plan))
     went_whole = apply_whole n t v.passed.whole b v.may.file (target_of plan) (target_window n t v.passed.whole b plan v.may)
 
-  -- kept-apply: answered Done it leaves a sound table of the same length, and refused the table as it was
+  -- kept_apply: answered Done it leaves a sound table of the same length, and refused the table as it was
   pub kept_apply : KeptBy t o.given.answer o.given.table
   kept_apply = (
     λ e.
@@ -67,7 +67,7 @@ module _ (t d : Bytes) (l : ℕ) (work : List ℕ) (b : ℕ) (plan : List ℕ) (
         (apply_keeps t d l work b plan o (are_bytes t g) p),
   )
 
-  -- bytes-apply: the data keep their length, and refused they stay as they were
+  -- bytes_apply: the data keep their length, and refused they stay as they were
   pub bytes_apply : (length o.given.bytes ≡ length d) × ((o.given.answer ≡ Done → ⊥) → o.given.bytes ≡ d)
   bytes_apply =
       ⊎_elim
@@ -79,7 +79,7 @@ module _ (t d : Bytes) (l : ℕ) (work : List ℕ) (b : ℕ) (plan : List ℕ) (
       ))
       (apply_keeps t d l work b plan o (are_bytes t g) p)
 
-  -- read-only-apply: with a block length that is not in use table and data are left as they were
+  -- read_only_apply: with a block length that is not in use table and data are left as they were
   pub read_only_apply : (InUse l → ⊥) → (o.given.table ≡ t) × (o.given.bytes ≡ d)
   read_only_apply u =
       ⊎_elim
@@ -99,7 +99,7 @@ module _ (t d : Bytes) (l : ℕ) (work : List ℕ) (b : ℕ) (plan : List ℕ) (
     abbrev m : ℕ
     m = target_of plan
 
-    -- one-node-apply: the file is one node from the answered block on, and reads as before
+    -- one_node_apply: the file is one node from the answered block on, and reads as before
     pub one_node_apply : MadeWhole l b t d o.given.first o.given.table o.given.bytes
     one_node_apply =
         let T : Bytes = applied n t b m in
@@ -116,7 +116,7 @@ module _ (t d : Bytes) (l : ℕ) (work : List ℕ) (b : ℕ) (plan : List ℕ) (
         (subst⁻¹ (λ (x : Bytes). MadeWhole l b t d m x o.given.bytes) (went_table went)
         (subst⁻¹ (λ (x : Bytes). MadeWhole l b t d m T x) (went_bytes went) made))
 
-    -- others-apply: every other file keeps its list and its bytes
+    -- others_apply: every other file keeps its list and its bytes
     pub others_apply : (c : ℕ) → File t n c → b ≢ c → Stays l c t d o.given.table o.given.bytes
     others_apply c i ne =
         let T : Bytes = applied n t b m in
@@ -134,7 +134,7 @@ module _ (t d : Bytes) (l : ℕ) (work : List ℕ) (b : ℕ) (plan : List ℕ) (
         subst⁻¹ (λ (x : Bytes). Stays l c t d x o.given.bytes) (went_table went)
         (subst⁻¹ (λ (x : Bytes). Stays l c t d T x) (went_bytes went) stays)
 
-    -- free-apply: the free chain is the file's old nodes in their order, then the former free chain with the targets cut out in place
+    -- free_apply: the free chain is the file's old nodes in their order, then the former free chain with the targets cut out in place
     pub free_apply : free_at n o.given.table ≡ F ++ carved o.given.first (total F) (free_at n t)
     free_apply =
         ap (free_at n) (went_table went)
@@ -146,7 +146,7 @@ module _ (t d : Bytes) (l : ℕ) (work : List ℕ) (b : ℕ) (plan : List ℕ) (
     count_apply =
         ap (free_blocks n) (went_table went) ∙ apply_count n t whole b went.may.file m (target_window n t whole b plan went.may)
 
-    -- entries-apply: every byte of the table outside entry 0 and the entries of the new node and of the free chain stays
+    -- entries_apply: every byte of the table outside entry 0 and the entries of the new node and of the free chain stays
     pub entries_apply : Kept (chain_entries (run o.given.first (total F) ∷ []) ++ chain_entries (free_at n o.given.table)) t o.given.table
     entries_apply =
         let E : ℕ → List Run → List ℕ = λ x f. chain_entries (run x (total F) ∷ []) ++ chain_entries f in
@@ -155,7 +155,7 @@ module _ (t d : Bytes) (l : ℕ) (work : List ℕ) (b : ℕ) (plan : List ℕ) (
         (subst⁻¹ (λ (x : Bytes). Kept (E m (F ++ carved m (total F) (free_at n t))) t x) (went_table went)
         (applied_kept n t b m whole.bytes)))
 
-    -- targets-apply: every byte of the data outside the target blocks stays
+    -- targets_apply: every byte of the data outside the target blocks stays
     pub targets_apply : (j : ℕ) → (j < o.given.first * l) ⊎ (o.given.first * l + total F * l ≤ j) → get_or o.given.bytes j 0 ≡ get_or d j 0
     targets_apply j h =
         ap (λ (x : Bytes). get_or x j 0) (went_bytes went)

@@ -28,7 +28,7 @@ module _ (t : Bytes) (l : ℕ) (work : List ℕ) (g : AreBytes t) (n : InUse l �
   pub read_only_write : (d : Bytes) (b pos : ℕ) (buf : Bytes) (o : Beside Carry) → WritePromise t d l work b pos buf o → o.given.bytes ≡ d
   read_only_write d b pos buf o p = ⊎_elim (λ q. q) (λ w. absurd (n (none_used l w.past))) (write_keeps t d l work b pos buf o (are_bytes t g) p)
 
--- run-in-use: every call of a history has a block length in use
+-- run_in_use: every call of a history has a block length in use
 pub run_in_use : {k : ℕ} {t : Bytes} (h : History k t) → AllInUse h
 run_in_use (formats t t' r g p e) = tt
 run_in_use (creates k t h d l work count o p e) =

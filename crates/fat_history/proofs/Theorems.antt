@@ -45,7 +45,7 @@ honest t work o g m u h p =
       λ k t' r a. test_accepts t work o f h (run_sound t t' k r a) p,
     )
 
--- one-chain: in an accepted table each block lies in exactly one chain, the free one or one file's
+-- one_chain: in an accepted table each block lies in exactly one chain, the free one or one file's
 pub one_chain : (t : Bytes) (work : List ℕ) (o : Tested × List ℕ) → AreBytes t → TestPromise t work o → o.0.answer ≡ Done → (x : ℕ) → x < blocks t
     → OneChain (blocks t) t x
 one_chain t work o g p e x h =

@@ -47,7 +47,7 @@ pub one_write_blocks : (d : Bytes) (l : ℕ) (list : List ℕ) (pos : ℕ) (buf 
 one_write_blocks d l list pos buf o o' p q =
     one (giving (λ a. carry_gives a d) (write_tests (length d) l list pos (length buf))) (carry_gives Done (written buf d l list pos)) o o' p q
 
--- read-only-write-blocks: with a block length that is not in use write_blocks leaves the data as they were
+-- read_only_write_blocks: with a block length that is not in use write_blocks leaves the data as they were
 pub read_only_write_blocks : (d : Bytes) (l : ℕ) (list : List ℕ) (pos : ℕ) (buf : Bytes) (o : Carry) → (InUse l → ⊥) → WriteBlocksPromise d l list pos buf o → o.bytes ≡ d
 read_only_write_blocks d l list pos buf o u (inl p) = ap (λ (x : Carry). x.bytes) p.1
 read_only_write_blocks d l list pos buf o u (inr (_, inl p)) = ap (λ (x : Carry). x.bytes) p.1

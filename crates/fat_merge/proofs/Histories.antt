@@ -69,7 +69,7 @@ agrees_sound t t' w a =
     let L : Layout = layout (free_at (blocks t) t') s.files in
     holds_sound (blocks t) h.small t L (agree_holds (blocks t) h.small t t' L a s.holds)
 
--- honest-merge: the test of a table of 1 to 1,000,000 blocks answers Done exactly when some history of format, create, resize, delete and merge, each
+-- honest_merge: the test of a table of 1 to 1,000,000 blocks answers Done exactly when some history of format, create, resize, delete and merge, each
 -- answered Done, ends in a table equal to it in every entry that the rules read
 pub honest_merge : (t : Bytes) (work : List ℕ) (o : Tested × List ℕ) → AreBytes t → (Misfit t → ⊥) → (Outside t → ⊥) → blocks t ≤ length work
     → TestPromise t work o

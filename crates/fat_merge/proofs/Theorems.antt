@@ -87,7 +87,7 @@ module _ (t : Bytes) (l : ℕ) (work : List ℕ) (o : Beside Change) (g : AreByt
   after : Went t l work o → o.given.table ≡ merged n t
   after w = ap (λ (x : Beside Change). x.given.table) w.is
 
-  -- kept-merge: answered Done it leaves a sound table of the same length, and refused the table as it was
+  -- kept_merge: answered Done it leaves a sound table of the same length, and refused the table as it was
   pub kept_merge : KeptBy t o.given.answer o.given.table
   kept_merge = (
     λ e.
@@ -100,14 +100,14 @@ module _ (t : Bytes) (l : ℕ) (work : List ℕ) (o : Beside Change) (g : AreByt
         (merge_cases t l work o (are_bytes t g) p),
   )
 
-  -- other-merge: every byte outside entry 0 and the entries of the new free nodes stays
+  -- other_merge: every byte outside entry 0 and the entries of the new free nodes stays
   pub other_merge : Kept (merge_entries n t) t o.given.table
   other_merge =
       ⊎_elim (λ r i h k. ap (λ (x : Bytes). get_or x i 0) r.table)
       (λ w. subst⁻¹ (λ (x : Bytes). Kept (merge_entries n t) t x) (after w) (laws.merged_kept n t w.whole.bytes))
       (merge_cases t l work o (are_bytes t g) p)
 
-  -- read-only-merge: with a block length that is not in use it leaves the table as it was
+  -- read_only_merge: with a block length that is not in use it leaves the table as it was
   pub read_only_merge : (InUse l → ⊥) → o.given.table ≡ t
   read_only_merge u = ⊎_elim (λ r. r.table) (λ w. absurd (u w.used)) (merge_cases t l work o (are_bytes t g) p)
 
@@ -138,7 +138,7 @@ module _ (t : Bytes) (l : ℕ) (work : List ℕ) (o : Beside Change) (g : AreByt
         one (test_gate test_refused u w) (test_done u w) r (test_done u w) q
         (last_given (test_gate test_refused u w) (test_done u w) (none_tested test_refused u w f h s))
 
-    -- tested-merge: the test accepts the table after it as before it, with the same free blocks and the same number of files
+    -- tested_merge: the test accepts the table after it as before it, with the same free blocks and the same number of files
     pub tested_merge : (work₀ work₁ : List ℕ) (r₀ r₁ : Tested × List ℕ) → n ≤ length work₀ → n ≤ length work₁ → TestPromise t work₀ r₀
         → TestPromise o.given.table work₁ r₁
         → (r₁.0.answer ≡ Done) × (r₁.0 ≡ r₀.0)
@@ -155,7 +155,7 @@ module _ (t : Bytes) (l : ℕ) (work : List ℕ) (o : Beside Change) (g : AreByt
           ap (λ (x : Tested × List ℕ). x.0) a ∙ (λ i. tested Done (c i) (d i)) ∙ sym (ap (λ (x : Tested × List ℕ). x.0) b),
         )
 
-    -- files-merge: the files are the same, each with the same chain
+    -- files_merge: the files are the same, each with the same chain
     pub files_merge : SameFiles n t o.given.table
     files_merge =
         subst⁻¹ (SameFiles n t) (after went)
@@ -165,11 +165,11 @@ module _ (t : Bytes) (l : ℕ) (work : List ℕ) (o : Beside Change) (g : AreByt
           only = laws.merge_only n t went.whole;
         })
 
-    -- rising-merge: the free chain rises, with a gap between any two of its nodes
+    -- rising_merge: the free chain rises, with a gap between any two of its nodes
     pub rising_merge : Spread 0 (free_at n o.given.table)
     rising_merge = subst⁻¹ (Spread 0) now_free (laws.tidied_spread n t)
 
-    -- fewest-merge: no sound table with the same files has fewer free nodes
+    -- fewest_merge: no sound table with the same files has fewer free nodes
     pub fewest_merge : (t' : Bytes) → AreBytes t' → length t' ≡ length t → Sound t' n → SameFiles n t t'
         → length (free_at n o.given.table) ≤ length (free_at n t')
     fewest_merge t' g' long s f =
@@ -183,7 +183,7 @@ module _ (t : Bytes) (l : ℕ) (work : List ℕ) (o : Beside Change) (g : AreByt
         (λ x. omega (arith, k.holds.tiled.once x, covers_append x (free_at n t') (joined k.files)))
         (λ x. same_free n t t' w w' f x ∙ sym (laws.tidied_covers n w.small t (free_at n t) v.files v.holds x)))
 
-    -- again-merge: a second merge changes no byte
+    -- again_merge: a second merge changes no byte
     pub again_merge : (l' : ℕ) (work' : List ℕ) (o' : Beside Change) → MergePromise o.given.table l' work' o' → o'.given.table ≡ o.given.table
     again_merge l' work' o' q =
         ⊎_elim (λ r. r.table)
@@ -195,7 +195,7 @@ module _ (t : Bytes) (l : ℕ) (work : List ℕ) (o : Beside Change) (g : AreByt
         ∙ sym (after went))
         (merge_cases o.given.table l' work' o' now_whole.bytes q)
 
-    -- within-merge: the table after it is reached, in the entries that the rules read, by at most 3 x k creates and deletes after format, k its nodes
+    -- within_merge: the table after it is reached, in the entries that the rules read, by at most 3 x k creates and deletes after format, k its nodes
     pub within_merge : ReachedWithin (3 * node_count o.given.table) o.given.table
     within_merge =
         let u : Bytes = o.given.table in
@@ -237,7 +237,7 @@ module _ (n l b : ℕ) (t d : Bytes) (w : Whole n t) (i : File t n b) where
       let s : Still n l b t d o.given.table d₁ = merge_on t₁ d₁ (still_calls c) work o p in
       on o.given.table d₁ t' d' s (still n l b o.given.table d₁ s.whole s.file a)
 
--- apart-merge: apart, with merges anywhere among the calls: a file that no call names stays a file with the same chain, and holds the same bytes
+-- apart_merge: apart, with merges anywhere among the calls: a file that no call names stays a file with the same chain, and holds the same bytes
 pub apart_merge : (l b : ℕ) (t d t' d' : Bytes) → AreBytes t → (Misfit t → ⊥) → (Outside t → ⊥) → Sound t (blocks t) → File t (blocks t) b → Calls l b t d t' d'
     → Stays l b t d t' d'
 apart_merge l b t d t' d' g m u s i c =

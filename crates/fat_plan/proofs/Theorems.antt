@@ -60,7 +60,7 @@ pub one_find : (t : Bytes) (d l : ℕ) (work : List ℕ) (b : ℕ) (list : List 
     → FindPromise t d l work b list o' → o ≡ o'
 one_find t d l work b list o o' p q = one_promise (λ a. list_gives a 0 list) t d l work (find_rows (blocks t) t b list) (find_done (blocks t) t b list) o o' p q
 
--- no-space: the planner finds no place for k blocks exactly when nowhere k consecutive blocks are free
+-- no_space_lem: the planner finds no place for k blocks exactly when nowhere k consecutive blocks are free
 pub no_space_lem : (n : ℕ) (t : Bytes) → Whole n t → (k : ℕ) → 1 ≤ k
     → (lowest n t k ≡ 0 → (j : ℕ) → Open n t j k → ⊥) × (((j : ℕ) → Open n t j k → ⊥) → lowest n t k ≡ 0)
 no_space_lem n t w k some = (λ e. lowest_none n t w k some e, λ h. go h (lowest n t k) refl)
@@ -69,7 +69,7 @@ no_space_lem n t w k some = (λ e. lowest_none n t w k some e, λ h. go h (lowes
     go h zero e = e
     go h (suc m) e = absurd (h m (lowest_open n t w k some m e))
 
--- found-accepted: the plan that find has written is accepted by check, on the same table
+-- found_accepted: the plan that find has written is accepted by check, on the same table
 pub found_accepted : (t : Bytes) (d l : ℕ) (work : List ℕ) (b : ℕ) (list : List ℕ) (o : Beside Listing) → AreBytes t → FindPromise t d l work b list o
     → o.given.answer ≡ Done
     → (work' : List ℕ) (o' : Beside Answer)

@@ -13,7 +13,7 @@ use Rattle.fat_node.specs.Sizes.{blocks}
 use Rattle.fat_test.specs.Gate.{InUse, block_gate}
 use Rattle.fat_promises.specs.Promise.{Beside, beside, ChangePromise}
 
--- read-only-answer: where sizes, work list and soundness pass, and the block length is not in use, every call that would change something answers 20
+-- read_only_answer: where sizes, work list and soundness pass, and the block length is not in use, every call that would change something answers 20
 -- and changes nothing, whatever it is asked: 0 blocks, no file, no bytes
 pub read_only_answer : {A : Type 0} (refuse : Answer → A) (t : Bytes) (d l : ℕ) (work : List ℕ) (own : List (Row A)) (done : A) (o : Beside A)
     → None (block_gate (λ a w. beside (refuse a) w) t d l work)

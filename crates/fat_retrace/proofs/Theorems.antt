@@ -102,7 +102,7 @@ module _ (t : Bytes) (work : List ℕ) (o : Tested × List ℕ) (g : AreBytes t)
       let w = test_means t work o (are_bytes t g) p d in
       counted (blocks t) t (whole_of_fits t (are_bytes t g) w.0 w.1)
 
-  -- within-half: an accepted table with k nodes is reached, in the entries that the rules read, from a formatted one by at most 5 x k / 2 calls after format,
+  -- within_half: an accepted table with k nodes is reached, in the entries that the rules read, from a formatted one by at most 5 x k / 2 calls after format,
   -- rounded down, create and delete alone, each answered Done
   pub within_half : ReachedWithin (most_calls (node_count t)) t
   within_half =

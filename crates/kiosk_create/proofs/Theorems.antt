@@ -117,7 +117,7 @@ module _ (t : Bytes) (d l : ℕ) (work : List ℕ) (count : ℕ) (o : Beside Cre
     went_whole : Whole n (placed n t m count)
     went_whole = place_whole n t v.passed.whole m count window
 
-  -- kept-kiosk: answered Done it leaves a sound table of the same length, and refused the table as it was
+  -- kept_kiosk: answered Done it leaves a sound table of the same length, and refused the table as it was
   pub kept_kiosk : KeptBy t o.given.answer o.given.table
   kept_kiosk = (
     λ e.
@@ -130,7 +130,7 @@ module _ (t : Bytes) (d l : ℕ) (work : List ℕ) (count : ℕ) (o : Beside Cre
         (kiosk_keeps t d l work count o (are_bytes t g) p),
   )
 
-  -- read-only-kiosk: with a block length that is not in use the table is left as it was
+  -- read_only_kiosk: with a block length that is not in use the table is left as it was
   pub read_only_kiosk : (InUse l → ⊥) → o.given.table ≡ t
   read_only_kiosk u =
       ⊎_elim (λ r. r) (λ v. absurd (u (kiosk_used t d l work count o v))) (kiosk_keeps t d l work count o (are_bytes t g) p)
@@ -150,14 +150,14 @@ module _ (t : Bytes) (d l : ℕ) (work : List ℕ) (count : ℕ) (o : Beside Cre
     abbrev open_window : Window at count (free_at n t)
     open_window = window went
 
-    -- one-node-kiosk: the new chain is a single node of so many blocks, at the answered first block
+    -- one_node_kiosk: the new chain is a single node of so many blocks, at the answered first block
     pub one_node_kiosk : File o.given.table n o.given.first × (file_at n o.given.table o.given.first ≡ run o.given.first count ∷ [])
     one_node_kiosk =
         subst⁻¹ (λ (x : Bytes). File x n o.given.first × (file_at n x o.given.first ≡ run o.given.first count ∷ [])) (went_table went)
         (subst⁻¹ (λ (b : ℕ). File (placed n t at count) n b × (file_at n (placed n t at count) b ≡ run b count ∷ [])) (went_first went)
         (place_file n t whole at count open_window))
 
-    -- others-kiosk: every other file's list stays, and so its bytes, whatever the data
+    -- others_kiosk: every other file's list stays, and so its bytes, whatever the data
     pub others_kiosk : (b : ℕ) → File t n b → File o.given.table n b × (file_at n o.given.table b ≡ file_at n t b)
     others_kiosk b i =
         let s = place_leaves n t whole at count open_window b i in
@@ -167,20 +167,20 @@ module _ (t : Bytes) (d l : ℕ) (work : List ℕ) (count : ℕ) (o : Beside Cre
         → bytes_at many bytes l (blocks_of (file_at n o.given.table b)) pos ≡ bytes_at many bytes l (blocks_of (file_at n t b)) pos
     bytes_kiosk b i bytes many pos = ap (λ (c : List Run). bytes_at many bytes l (blocks_of c) pos) (others_kiosk b i).1
 
-    -- only-kiosk: no other file appears
+    -- only_kiosk: no other file appears
     pub only_kiosk : (b : ℕ) → File o.given.table n b → b ≢ o.given.first → File t n b
     only_kiosk b i ne =
         place_only n t whole at count open_window b (subst (λ (x : Bytes). File x n b) (went_table went) i) (λ x. ne (x ∙ sym (went_first went)))
 
-    -- new-kiosk: the answered block was no file's first
+    -- new_kiosk: the answered block was no file's first
     pub new_kiosk : File t n o.given.first → ⊥
     new_kiosk i = place_new n t whole at count open_window (subst (File t n) (went_first went) i)
 
-    -- single-kiosk: if the chain rule held, it holds
+    -- single_kiosk: if the chain rule held, it holds
     pub single_kiosk : Single n t → Single n o.given.table
     single_kiosk h = subst⁻¹ (Single n) (went_table went) (place_single n t whole at count open_window h)
 
-    -- cut-kiosk: the file is the left part of the first free node that is long enough; what is left of that node stands in its place, and one taken whole
+    -- cut_kiosk: the file is the left part of the first free node that is long enough; what is left of that node stands in its place, and one taken whole
     -- leaves its neighbours linked
     pub cut_kiosk : FirstCut count (free_at n t) o.given.first (free_at n o.given.table)
     cut_kiosk =
@@ -197,6 +197,6 @@ module _ (t : Bytes) (d l : ℕ) (work : List ℕ) (count : ℕ) (o : Beside Cre
               ∙ fit_leaves n t whole at count went.may.some went.may.found;
         }
 
-    -- count-kiosk: so many blocks fewer are free
+    -- count_kiosk: so many blocks fewer are free
     pub count_kiosk : free_blocks n o.given.table + count ≡ free_blocks n t
     count_kiosk = ap (λ (x : Bytes). free_blocks n x + count) (went_table went) ∙ place_count n t whole at count open_window

@@ -163,7 +163,7 @@ module _ (s : Tables) (w : Whole s) (p : ℕ) (name bytes : List ℕ) (bn : AreB
       (ap (λ (k : List ℕ). get_or k 3 0) new_key)
       (ap (λ (k : List ℕ). get_or k 4 0) new_key)
 
-  -- again-made: a volume in the profile that gets a kiosk create answered Done, and then a make whose carried bytes name the answered block and a size
+  -- again_made: a volume in the profile that gets a kiosk create answered Done, and then a make whose carried bytes name the answered block and a size
   -- above 0 that its blocks hold, is in the profile again, if the name is one of the profile and there are at most 64 live files
   pub again_made : (t : List ℕ) (d l : ℕ) (work : List ℕ) (count : ℕ) (o : Beside Create) → AreBytes t → KioskPromise t d l work count o → o.given.answer ≡ Done
       → word bytes 4 ≡ o.given.first

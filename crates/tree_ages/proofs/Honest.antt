@@ -65,7 +65,7 @@ module _ (w : ℕ) (h t h' t' work : List ℕ) (S : SameTable w h t h' t') (F : 
       → (x : ℕ) → LiveAt w t x → (x ≡ root → ⊥) → legal (name_in (key_at (field w t) x)) ≡ true
   legal_too root L x l n = ap (λ k. legal (name_in k)) (sym (key_too x l)) ∙ L x (live_too x l) n
 
--- honest-aged: whole tables that are equal, in every field that the rules read, to what some history from a format leaves are aged, and have legal names
+-- honest_aged: whole tables that are equal, in every field that the rules read, to what some history from a format leaves are aged, and have legal names
 -- alone
 pub honest_aged : (s : Tables) → Whole s → (start u : State) (dm fm : ℕ) (o : Carry) → Lent start.tables → FormatPromise start.tables dm fm o
     → o.answer ≡ Done → Run (state o.tables start.dir_opens start.file_opens) u → Alike s u.tables → Aged (dirs s) (files s) × AllLegal s

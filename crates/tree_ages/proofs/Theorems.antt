@@ -110,17 +110,17 @@ ages_call s L A (delete kind work x o q) =
 ages_call s L A (opening kind work x want o q) = A
 ages_call s L A (closing kind work x want o q) = A
 
--- run-ages: over any history from sound tables whose entries have ages, they have ages
+-- run_ages: over any history from sound tables whose entries have ages, they have ages
 pub run_ages : (s t : State) → Whole s.tables → AgesIn s.tables → Run s t → AgesIn t.tables
 run_ages s t w A none = A
 run_ages s t w A (calls r u answer run c) = ages_call r (run_sound s r w run).lent (run_ages s r w A run) c
 
--- stays-aged: over any history from tables that are sound and aged, whoever wrote them, whatever the calls are given and whatever they answer, the tables
+-- stays_aged: over any history from tables that are sound and aged, whoever wrote them, whatever the calls are given and whatever they answer, the tables
 -- are aged
 pub stays_aged : (s t : State) → Whole s.tables → Aged (dirs s.tables) (files s.tables) → Run s t → Aged (dirs t.tables) (files t.tables)
 stays_aged s t w A r = aged_of t.tables (run_sound s t w r) (run_ages s t w (ages_found s.tables w A) r)
 
--- run-aged: over any history from a format that is answered Done, whatever stood there before, whatever the calls are given and whatever they answer, the
+-- run_aged: over any history from a format that is answered Done, whatever stood there before, whatever the calls are given and whatever they answer, the
 -- tables are aged: in neither is an entry newer than itself, and nothing is older than the root
 pub run_aged : (s t : State) (dm fm : ℕ) (o : Carry) → Lent s.tables → FormatPromise s.tables dm fm o → o.answer ≡ Done
     → Run (state o.tables s.dir_opens s.file_opens) t → Aged (dirs t.tables) (files t.tables)

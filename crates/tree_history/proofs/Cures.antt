@@ -65,14 +65,14 @@ module _ (s : Tables) (w : Whole s) (work : List ℕ) (long : rooms_in s ≤ len
   unfolding TreePromise
   looked refuse own done o p = passed s w work refuse own done o (length work < rooms_in s) (λ k. omega arith) p
 
-  -- name-found: an entry is found under its key, whatever its name is
+  -- name_found: an entry is found under its key, whatever its name is
   pub name_found : (kind : Kind) (p : ℕ) (name : List ℕ) (o : Beside Lookup) → Has (kind_view kind s) (name_key p name)
       → LookupPromise s (kind_view kind s) work p name o → o.given.answer ≡ named_lookup (legal name)
   name_found kind p name o h q =
       ⊎_elim (λ n. absurd (n.0 h)) (λ n. ap (λ (x : Beside Lookup). x.given.answer) n.1)
       (looked (λ a. lookup_gives a 0 0) (lookup_rows (kind_view kind s) (name_key p name)) (lookup_done (kind_view kind s) (name_key p name)) o q)
 
-  -- name-sound: and the test accepts the tables that it stands in
+  -- name_sound: and the test accepts the tables that it stands in
   pub name_sound : (kind : Kind) (x : ℕ) (o : Tested × List ℕ) → TestPromise s work o → o.0.answer ≡ named_test (legal (name_in ((kind_view kind s).key x)))
   name_sound kind x o =
       of_first (λ (y : Tested × List ℕ). y.0.answer ≡ Done) (tree_gate tested s work) (test_done s work) o
@@ -92,7 +92,7 @@ module _ (kind : Kind) (s : Tables) (w : Whole s) (opens work : List ℕ) (long 
   unfolding OpensPromise
   own_rows refuse own done o p = passed s w work refuse own done o short not_short p
 
-  -- bad-make: a make with a bad name is InvalidValue, whatever its parent is
+  -- bad_make_lem: a make with a bad name is InvalidValue, whatever its parent is
   pub bad_make_lem : (p : ℕ) (name bytes : List ℕ) (o : Beside Make) → legal name ≡ false → MakePromise kind s opens work p name bytes o → o.given.answer ≡ bad_make
   bad_make_lem p name bytes o bad q =
       ⊎_elim (λ h. ap (λ (x : Beside Make). x.given.answer) h.1) (λ h. absurd (h.0 bad))
@@ -102,7 +102,7 @@ module _ (kind : Kind) (s : Tables) (w : Whole s) (opens work : List ℕ) (long 
     abbrev answer : Beside Change → Answer
     answer c = c.given.answer
 
-    -- rename-cures: an entry that may be renamed and that a writer holds gets a legal name, whatever name it has
+    -- rename_cures: an entry that may be renamed and that a writer holds gets a legal name, whatever name it has
     pub rename_cures : MayRename kind s x p name → (writer (opened opens x) ≡ 0 → ⊥) → legal name ≡ true → RenamePromise kind s opens work x p name o → answer o ≡ Done
     rename_cures m held e q =
         of_within (λ (c : Change). c.answer ≡ Done) (worked s work) (rename_rows kind s opens x p name) (rename_done kind s opens x p name) o
@@ -129,7 +129,7 @@ module _ (kind : Kind) (s : Tables) (w : Whole s) (opens work : List ℕ) (long 
           (λ h. absurd (held h), (λ h. bad h, (λ h. absurd (h m.parent), (λ h. absurd (m.free_key h), tt)))),
         )
 
-    -- bad-rename: a bad new name of a live entry is answered once the entry itself is judged, whatever the new parent is
+    -- bad_rename_lem: a bad new name of a live entry is answered once the entry itself is judged, whatever the new parent is
     pub bad_rename_lem : LiveIn (kind_view kind s) x → legal name ≡ false → RenamePromise kind s opens work x p name o → answer o ≡ bad_rename kind (writer (opened opens x)) x
     bad_rename_lem l bad q = go kind l (own_rows (λ a. change_gives a s opens) (rename_rows kind s opens x p name) (rename_done kind s opens x p name) o q)
       where

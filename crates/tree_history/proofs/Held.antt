@@ -120,7 +120,7 @@ module _ (s : State) (N : NoneOpen s) (kind : Kind) (x : ℕ) where
       ⊎_elim (λ (h : total (opened (opens_of kind v) x) ≤ total (opened (opens_of kind u) x)). omega (arith, few u r)) (λ (h : total (opened (opens_of kind v) x) ≤ 65535). h)
       (limit u v a c kind x)
 
-  -- within-limit: nor more than 65,535 readers and writers together
+  -- within_limit: nor more than 65,535 readers and writers together
   pub within_limit : (t : State) (r : Run s t) → out r kind x Reader + out r kind x Writer ≤ 65535
   within_limit t r = omega (arith, held_out t r Reader, held_out t r Writer, few t r)
 
@@ -144,12 +144,12 @@ module _ (kind : Kind) (s : Tables) (w : Whole s) (opens work : List ℕ) (long 
   abbrev answer : Beside calls.Change → Answer
   answer c = c.given.answer
 
-  -- rename-held: an entry that may be renamed and that its writer holds is renamed, whatever readers there are
+  -- rename_held: an entry that may be renamed and that its writer holds is renamed, whatever readers there are
   pub rename_held : (p : ℕ) (name : List ℕ) → MayRename kind s x p name → (writer record_of ≡ 0 → ⊥) → legal name ≡ true → RenamePromise kind s opens work x p name o
       → answer o ≡ held_rename (readers record_of)
   rename_held p name m h e q = rename_cures kind s w opens work long full x p name o m h e q
 
-  -- delete-held: an entry that else may be deleted needs its writer, and is Busy while readers remain
+  -- delete_held: an entry that else may be deleted needs its writer, and is Busy while readers remain
   pub delete_held : LiveIn (kind_view kind s) x → (kind ≡ Directory → x ≡ 1 → ⊥) → (kind ≡ Directory → (0 < (dirs s).head x) ⊎ (0 < (files s).head x) → ⊥)
       → DeletePromise kind s opens work x o → answer o ≡ held_delete (writer record_of) (readers record_of)
   delete_held l root children p =
@@ -226,7 +226,7 @@ module _ (kind : Kind) (s : Tables) (w : Whole s) (opens : List ℕ) (x : ℕ) (
   abbrev tests : List (Row Answer)
   tests = calls.open_tests (kind_view kind s) opens x want
 
-  -- close-again: an open that was Done is given back by a close of its kind, which is Done and leaves the records as they were before the open
+  -- close_again: an open that was Done is given back by a close of its kind, which is Done and leaves the records as they were before the open
   pub close_again : (work work' : List ℕ) (o o' : Beside calls.Opening) → OpenPromise kind s opens work x want o → o.given.answer ≡ Done
       → rooms_in s ≤ length work' → ClosePromise kind s o.given.opens work' x want o'
       → (o'.given.answer ≡ Done) × (o'.given.opens ≡ opens)

@@ -198,12 +198,12 @@ lives s W H (step.rename k work y p name o b q) n = rename_lives s W H k work y 
 -- ---- the theorems
 
 module _ (s : State) (W : Whole s.tables) (N : NoneOpen s) where
-  -- open-live: over any history from whole tables and none open in which nothing is formatted, whatever has an open is live
+  -- open_live: over any history from whole tables and none open in which nothing is formatted, whatever has an open is live
   pub open_live : (t : State) (r : Run s t) → Unformatted r → HeldLive t
   open_live t run.none n = λ kind x h. absurd (h (N kind x))
   open_live t (run.calls u v a r c) n = lives u (run_sound s u W r) (open_live u r n.0) c n.1
 
-  -- every-open: so every open that is out can be given back
+  -- every_open: so every open that is out can be given back
   pub every_open : (t : State) (r : Run s t) → Unformatted r → (kind : Kind) (x : ℕ) (want : Want) → 0 < out r kind x want
       → (work : List ℕ) (o : Beside calls.Opening) → rooms_in t.tables ≤ length work → kind_room kind t.tables ≤ length (opens_of kind t)
       → ClosePromise kind t.tables (opens_of kind t) work x want o → o.given.answer ≡ Done

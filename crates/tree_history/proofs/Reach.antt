@@ -52,7 +52,7 @@ module _ (u u' : ℕ → ℕ) (x : ℕ) (eo : (y : ℕ) → 0 < y → y ≢ x �
 -- ---- the theorems
 
 module _ (s : Tables) (w : Whole s) (x p : ℕ) (name : List ℕ) (bn : AreBytes name) where
-  -- stays-reachable: a directory that may be renamed leaves every directory reaching the root
+  -- stays_reachable: a directory that may be renamed leaves every directory reaching the root
   pub stays_reachable : MayRename Directory s x p name → (y : ℕ) → LiveIn (dirs (renamed Directory s x p name)) y → Reaches (up (dirs (renamed Directory s x p name))) y
   stays_reachable m =
       (kept_rename_dir s (fine s w) w.sound x p name (are_bytes name bn) m.subject (m.not_root refl) m.parent (m.not_into_itself refl) m.free_key).dirs.reach
@@ -63,7 +63,7 @@ module _ (s : Tables) (w : Whole s) (x p : ℕ) (name : List ℕ) (bn : AreBytes
         renamed_dir_agrees s.dir_hash s.dir_table s.file_hash s.file_table (fine s w) (removed_of (dirs s)) (removed_of (files s))
         (tree_of (dirs s) (files s) refl refl w.sound) x lx n1 p lp name (are_bytes name bn)
 
-    -- ring-below-itself: without the row IntoItself it would not: a directory that goes to itself or below itself no longer reaches the root
+    -- ring_below_itself: without the row IntoItself it would not: a directory that goes to itself or below itself no longer reaches the root
     pub ring_below_itself : x ∈ above (dirs s) p → Reaches (up (dirs (renamed Directory s x p name))) x → ⊥
     ring_below_itself m r =
         let D : View = dirs s in

@@ -29,14 +29,14 @@ use Rattle.tree_history.proofs.Good.{both_left, both_right}
 use Rattle.tree_history.proofs.Sizes.{fine}
 
 module _ (s : Tables) (w : Whole s) (x : ℕ) where
-  -- given-up: an entry of sound tables that is given up is one more that can be used, in a full table too, of a directory whether or not it has children
+  -- given_up: an entry of sound tables that is given up is one more that can be used, in a full table too, of a directory whether or not it has children
   pub given_up_dir : LiveIn (dirs s) x → (x ≡ 1 → ⊥) → free_of (dirs (deleted Directory s x)) ≡ free_of (dirs s) + 1
   given_up_dir = given_dir_free s (fine s w) w.sound x
 
   pub given_up_file : LiveIn (files s) x → free_of (files (deleted File s x)) ≡ free_of (files s) + 1
   given_up_file = given_file_free s (fine s w) w.sound x
 
-  -- rename-room: so where an entry may be renamed, one is there for it, and that one is its own
+  -- rename_room: so where an entry may be renamed, one is there for it, and that one is its own
   pub rename_room : (kind : Kind) (p : ℕ) (name : List ℕ) → MayRename kind s x p name → Room kind s x
   rename_room Directory p name m = record {
     some = omega (arith, given_up_dir m.subject (m.not_root refl));
@@ -62,7 +62,7 @@ not_six n = go (eqb n 6) refl
     go true p e = absurd (false≢true e)
     go false p e = eqb-false n 6 p
 
--- rename-space: no rename answers NoSpace, whatever it is lent
+-- rename_space: no rename answers NoSpace, whatever it is lent
 module _ (s : Tables) (opens work : List ℕ) (x p : ℕ) (name : List ℕ) (o : Beside Change) where
   abbrev Other : Change → Type 0
   Other c = c.answer ≡ NoSpace → ⊥

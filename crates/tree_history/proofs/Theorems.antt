@@ -66,16 +66,16 @@ pub run_sound : (s t : State) → Whole s.tables → Run s t → Whole t.tables
 run_sound s t w none = w
 run_sound s t w (calls r u answer run c) = let v : Whole r.tables = run_sound s r w run in (good r v.lent c).stays v
 
--- format-sound: and so from a format that is answered Done
+-- format_sound: and so from a format that is answered Done
 pub format_sound : (s t : State) (dm fm : ℕ) (o : Carry) → Lent s.tables → FormatPromise s.tables dm fm o → o.answer ≡ Done
     → Run (state o.tables s.dir_opens s.file_opens) t → Whole t.tables
 format_sound s t dm fm o L p e r = run_sound (state o.tables s.dir_opens s.file_opens) t ((good_format s L dm fm o p).done e).0 r
 
--- never-broken: after such a history no public call answers BrokenTree, the test among them
+-- never_broken: after such a history no public call answers BrokenTree, the test among them
 pub never_broken : (s t u : State) (answer : Answer) → Whole s.tables → Run s t → Call t answer u → answer ≡ BrokenTree → ⊥
 never_broken s t u answer w r c = let v = run_sound s t w r in (good t v.lent c).unbroken v.sound
 
--- test-accepts: and the test, lent a work list that is long enough, answers Done
+-- test_accepts: and the test, lent a work list that is long enough, answers Done
 pub test_accepts : (s t : State) (work : List ℕ) (o : Tested × List ℕ) → Whole s.tables → Run s t
     → rooms_in t.tables ≤ length work
     → TestPromise t.tables work o
@@ -90,12 +90,12 @@ test_accepts s t work o w r h =
     )
     (λ _. refl)
 
--- run-legal: over any history from sound tables with legal names alone, whatever names the calls are given and whatever they answer, every name stays legal
+-- run_legal: over any history from sound tables with legal names alone, whatever names the calls are given and whatever they answer, every name stays legal
 pub run_legal : (s t : State) → Whole s.tables → AllLegal s.tables → Run s t → AllLegal t.tables
 run_legal s t w a none = a
 run_legal s t w a (calls r u answer run c) = (good r (run_sound s r w run).lent c).named (run_legal s r w a run)
 
--- format-legal: and so from a format that is answered Done, whatever stood there before
+-- format_legal: and so from a format that is answered Done, whatever stood there before
 pub format_legal : (s t : State) (dm fm : ℕ) (o : Carry) → Lent s.tables → FormatPromise s.tables dm fm o → o.answer ≡ Done
     → Run (state o.tables s.dir_opens s.file_opens) t → AllLegal t.tables
 format_legal s t dm fm o L p e r =

@@ -55,7 +55,7 @@ changed kind s t opens = state t (for_dirs kind opens s.dir_opens) (for_files ki
 
 -- a public call on the state s, with its answer and the state afterwards. It is the call's own promise, with its inputs and what it gave; there is no
 -- second account of the calls. Work lists, answer lists, inodes and parents are any; the names and carried bytes that are written are bytes. The call that
--- shows a name answers no number: name-answer is the one beside it that does.
+-- shows a name answers no number: name_answer is the one beside it that does.
 pub data Call (s : State) : Answer → State → Type 0 where
   format : (dm fm : ℕ) (o : Carry) → FormatPromise s.tables dm fm o → Call s o.answer (state o.tables s.dir_opens s.file_opens)
   test : (work : List ℕ) (o : Tested × List ℕ) → TestPromise s.tables work o → Call s o.0.answer s

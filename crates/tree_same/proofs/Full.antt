@@ -40,7 +40,7 @@ module _ (kind : Kind) (s : Tables) (w : Whole s) (o : Opens) (P : InOrder o) (w
   abbrev answer : Beside Outcome → Answer
   answer x = x.given.answer
 
-  -- full-open: an open of a live inode that is not listed, where every place is taken, is TooManyOpens; and TooManyOpens is that, or the limit
+  -- full_open: an open of a live inode that is not listed, where every place is taken, is TooManyOpens; and TooManyOpens is that, or the limit
   pub full_open : (x : ℕ) (want : Want) → LiveIn (kind_view kind s) x
       → PackedPromise s o work (packed.open_tests kind s o x want) (packed.open_done kind s o x want) g
       → (NoPlace o x → answer g ≡ TooManyOpens) × (answer g ≡ TooManyOpens → NoPlace o x ⊎ (65535 ≤ total (record_of o x)))
@@ -57,7 +57,7 @@ module _ (kind : Kind) (s : Tables) (w : Whole s) (o : Opens) (P : InOrder o) (w
       go (inr (a, inr (b, inr (c, inl q)))) = (λ f. absurd (b f), λ e. absurd (not _ (λ z. omega arith) (ap answer q.1) e))
       go (inr (a, inr (b, inr (c, inr (d, q))))) = (λ f. absurd (b f), λ e. absurd (not _ (λ z. omega arith) (ap answer q) e))
 
-  -- full-make: a make that else may go is TooManyOpens exactly where the inode that it takes is not listed and every place is taken
+  -- full_make: a make that else may go is TooManyOpens exactly where the inode that it takes is not listed and every place is taken
   pub full_make : (p : ℕ) (name bytes : List ℕ) → None (dense.make_tests s (kind_view kind s) p name)
       → PackedPromise s o work (packed.make_tests kind s o p name) (packed.make_done kind s o p name bytes) g
       → (NoPlace o (taken (kind_view kind s)) → answer g ≡ TooManyOpens) × (answer g ≡ TooManyOpens → NoPlace o (taken (kind_view kind s)))

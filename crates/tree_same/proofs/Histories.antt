@@ -95,7 +95,7 @@ follow s d f L u (run.next t v a r c) =
     })
     (any_step t q.dirs_then q.files_then q.linked c)
 
--- any-run: whatever is called over packed lists from none open, there is a history over one record for each inode that ends with the same tables and records
+-- any_run: whatever is called over packed lists from none open, there is a history over one record for each inode that ends with the same tables and records
 pub any_run : (s : State) (t : dense.State) → NoneOpen s t → (u : State) → AnyRun s u → (v : dense.State) × history.Run t v × Same u v
 any_run s t N u r =
     let a = none_there t.dir_opens s.dir_opens N.no_dirs N.dir_places N.dirs in

@@ -136,7 +136,7 @@ follow s d f L calls answers u (packed.next before done t v a r c full) =
 pub none_there : (d : List ℕ) (o : Opens) → o.count ≡ 0 → 65536 ≤ length d → ((x : ℕ) → opened d x ≡ 0) → Alike d o × InOrder o
 none_there d o e h z = subst⁻¹ (λ (k : ℕ). Alike d (opens k o.list) × InOrder (opens k o.list)) e (none_alike d o.list h z)
 
--- same-run: over any run of calls from none open, none of which was refused for a full list, the same calls over one record for each inode give the same
+-- same_run: over any run of calls from none open, none of which was refused for a full list, the same calls over one record for each inode give the same
 -- answers, and the tables and records are the same at its end
 pub same_run : (s : State) (t : dense.State) → NoneOpen s t → (calls : List Asked) (answers : List Answer) (u : State) → Run s calls answers u
     → (v : dense.State) × DenseRun t calls answers v × Same u v
