@@ -30,6 +30,7 @@ use Rattle.tree_history.proofs.Sizes.{are_bytes, fine}
 module _ (u u' : ℕ → ℕ) (x : ℕ) (eo : (y : ℕ) → 0 < y → y ≢ x → u' y ≡ u y) where
   -- a way that met x still meets it
   meets : (q : ℕ) (qs zs : List ℕ) → Links u q qs → x ∈ qs → Links u' q zs → x ∈ zs
+  meets q [] zs l m k = elim m [ ]
   meets q (a ∷ qs) [] l m k = absurd (let e : q ≡ a = l.0 in let p : 0 < a = l.1 in let z : q ≡ 0 = k in omega arith)
   meets q (a ∷ qs) (b ∷ zs) l m k =
       let e : q ≡ a = l.0 in
