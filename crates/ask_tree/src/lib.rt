@@ -1,5 +1,6 @@
 // Each tree call by its number in oracle/stored/README.md, for the programs that read from their input what to ask. What is cheap to prove: see ask_blocks.
 #![tactic(auto)]
+
 mod change;
 mod look;
 

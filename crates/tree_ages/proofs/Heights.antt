@@ -78,6 +78,7 @@ module _ (coll next : ℕ → ℕ) where
       step : (x y : ℕ) (xs : List ℕ) → L x → Names coll next x y → Way y xs → Way x (x ∷ xs)
 
     way_newer : {y : ℕ} {xs : List ℕ} → Way y xs → (z : ℕ) → z ∈ xs → (z ≡ y) ⊎ Newer coll next y z
+    way_newer (end x l) z (inr m) = elim m [ ]
     way_newer (end x l) z (inl e) = inl e
     way_newer (step x y xs l n w) z (inl e) = inl e
     way_newer (step x y xs l n w) z (inr m) =
@@ -91,6 +92,7 @@ module _ (coll next : ℕ → ℕ) where
     )
 
     way_low : {x : ℕ} {xs : List ℕ} → Way x xs → (z : ℕ) → z ∈ xs → z < count
+    way_low (end x l) z (inr m) = elim m [ ]
     way_low (end x l) z (inl e) = subst⁻¹ (λ (v : ℕ). v < count) e (low x l)
     way_low (step x y xs l n w) z (inl e) = subst⁻¹ (λ (v : ℕ). v < count) e (low x l)
     way_low (step x y xs l n w) z (inr m) = way_low w z m
