@@ -1,6 +1,7 @@
 // The C interface: every call once, under the name that include/mukthiban.h declares. An export gives the call's own answer with its number in the
 // place of its name, and promises what the call promises: there is an answer with that number and those fields of which the call's promise holds.
 #![tactic(auto)]
+
 mod blocks;
 mod by_list;
 mod change;
