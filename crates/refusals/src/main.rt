@@ -1,6 +1,7 @@
 // Runs every refusal of every call once, with the calls beside it that are due Done: those that its input, the file `stdin`, names, a line for each. The first
 // line of its two halves, of block calls and of tree calls, has the names of what can be asked, in the order of their numbers.
 #![tactic(auto)]
+
 mod blocks;
 mod entries;
 mod line;

@@ -1,6 +1,7 @@
 // Replays the stored answers of block calls, then of tree calls, and writes how many came out as they are stored. oracle/stored/README.md says what the
 // bytes mean.
 #![tactic(auto)]
+
 mod blocks;
 mod entries;
 mod read;
