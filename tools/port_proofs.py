@@ -1,5 +1,10 @@
 #!/usr/bin/env python3
-"""Converts proofs/F/Proof.antt (tie form) into Invariants.antt and Answers.antt by names.json. usage: convert.py ROOT CRATE [F..]"""
+"""Turns proofs/F/Proof.antt of the older form into Invariants.antt and Answers.antt, by the list of old and new names that the checker writes.
+
+usage: NM=NAMES python3 tools/port_proofs.py . CRATE [F..]     after rt check --generated NAMES/CRATE --old-names
+
+It was run once; what it could not turn it lists, and docs/PORT.md says what was mended by hand.
+"""
 import sys,os,re,json,glob,subprocess
 ROOT=sys.argv[1]; CRATE=sys.argv[2]; ONLY=set(sys.argv[3:])
 NM=os.environ.get('NM','/tmp/nm')
@@ -102,7 +107,7 @@ def inline(body,var,places):
         done=True
         for m in ms:
             last=m.group(2).split('.')[-1]
-            if last in('before','args') or norm(last) in steps or m.group(2)==var:
+            if last in('before','args','requires') or norm(last) in steps or m.group(2)==var:
                 body=body[:m.start()]+re.sub(r"(?<![\w'.\-])"+re.escape(m.group(1))+r"(?![\w'\-])",lambda _:m.group(2),body[m.end():])
                 done=False; break
         if done: break
@@ -118,6 +123,8 @@ def field_path(fields,rest):
     return [fields[i]]+r
 def convert(folder):
     rel=os.path.relpath(folder,base).replace('/','.')
+    for z in('Answers.antt','Invariants.antt'):
+        if os.path.exists(folder+'/'+z): os.remove(folder+'/'+z)
     key=f'Rattle-{CRATE}-proofs.{rel}.Lts'
     if key not in names:
         log.append(f'{rel}: no names'); return
@@ -149,6 +156,7 @@ def convert(folder):
             while rest and rest[0]=='before': rest=rest[1:]
             if not rest: return None
         f=norm(rest[0]); tail=rest[1:]
+        if f=='type_size' and not any(norm(p[2][0])=='type_size' for p in x['places']): f='size_of'
         if f=='args': return '.'.join(['args']+tail) if not tail else '.'.join(['args',norm1(tail[0])]+tail[1:])
         if f=='requires':
             if x['pre'] and tail:
@@ -183,6 +191,11 @@ def convert(folder):
                 if best:
                     t=tail[len(best[1]):]
                     return '.'.join([A[0],best[0]]+t)
+        if tail and tail[0] in('new','auto') and len(tail)>1 and tail[1].isdigit() and places[Q][3] in x['params']:
+            ps=x['params'][places[Q][3]]; k2=1; pi=0
+            while k2<len(tail) and tail[k2]=='1' : pi+=1; k2+=1
+            if k2<len(tail) and tail[k2]=='0': k2+=1
+            if pi<len(ps): tail=[tail[0],ps[pi]]+tail[k2:]
         if tail and tail[0]=='ensures' and clauses[i] and len(tail)>1:
             r=field_path(clauses[i],tail[1:])
             if r: tail=['ensures']+r
@@ -212,6 +225,7 @@ def convert(folder):
             for v,p in zip(cv,rest): sub[p]=f'l.{v}'
             def rep(mm):
                 return sub.get(mm.group(0),mm.group(0))
+            body=re.sub(r"«(\w+)»",lambda mm: sub.get(mm.group(0),mm.group(0)),body)
             body2=re.sub(r"(?<![\w'.\-₀-₉◌])"+r"[A-Za-zα-ωκ_][\w'₀-₉]*(?:-[\w'₀-₉]+)*"+r"(?![\w'₀-₉◌])",rep,body)
             com='\n'.join(l for l in b.split('\n') if l.startswith('--'))
             inv.append((com+'\n' if com else '')+f'abbrev pub {kind}-{n} : goal.{kind}-{n}\n'+(unf+'\n' if unf else '')+f'{kind}-{n} l ={body2}')
@@ -227,7 +241,8 @@ def convert(folder):
             var=params.split()[0] if params.split() else 'c'
             body=inline(body,var,places)
             body2=repath(body,var,place)
-            if n in x['asked']:
+            if n in x['asked'] or o in x['asked']:
+                x['asked'].setdefault(n,x['asked'].get(o))
                 pre,tup=last_tuple(body2)
                 fs=flatten(tup,len(x['asked'][n])) if tup else None
                 if fs: body2=' '+pre.strip()+(' ' if pre.strip() else '')+'record { '+'; '.join(f'{a} = {v}' for a,v in zip(x['asked'][n],fs))+' }'
