@@ -7,7 +7,7 @@ It was run once; what it could not turn it lists, and docs/PORT.md says what was
 """
 import sys,os,re,json,glob,subprocess
 ROOT=sys.argv[1]; CRATE=sys.argv[2]; ONLY=set(sys.argv[3:])
-NM=os.environ.get('NM','/tmp/nm')
+NM=os.environ['NM']
 names=json.load(open(f'{NM}/{CRATE}/names.json'))
 base=f'{ROOT}/crates/{CRATE}/proofs'
 norm=lambda s: s.replace('-','_').lower()
