@@ -16,8 +16,8 @@ use fat_judge::{Answered, CarryPlan, judge_carry};
 use fat_walk::{is_file, least, size_at};
 use order::Answer;
 
-// Copies one part over another of the same length. It compiles to a vector loop, 32 bytes a turn: after `rt staticlib mukthiban` look for movups in
-// fat_copy::read_sound and fat_copy::write_sound in `objdump -d target/staticlib/libmukthiban.a`.
+// Copies one part over another of the same length. It compiles to a vector loop, 32 bytes a turn: look for movups in fat_copy::read_sound and
+// fat_copy::write_told in `objdump -d dist/x86_64-unknown-linux-gnu/libmukthiban.a`.
 fn copy(dst: &mut [u8], src: &[u8])
     requires { length src.now ≡ length dst.old }
     ensures { dst.new ≡ src.now }

@@ -1,7 +1,7 @@
 // Entries, nodes and the head of the block table, and its format.
 //
-// Every word of the table is read by words::get_u32 and written by words::put_u32, which compile to 32-bit loads and stores: after `rt staticlib mukthiban`
-// look at mukthiban_fat_format in `objdump -d target/staticlib/libmukthiban.a`.
+// Every word of the table is read by words::get_u32 and written by words::put_u32, which compile to 32-bit loads and stores: look at
+// mukthiban_fat_format in `objdump -d dist/x86_64-unknown-linux-gnu/libmukthiban.a`.
 #![tactic(auto)]
 
 ghost use Rattle.std.specs.Prelude.{◌≡◌, true, ℕ, ◌+◌, ◌*◌, ◌≤◌, ◌<◌, length};

@@ -103,9 +103,9 @@ pub struct Looked {
     pub compared: u32,
 }
 
-// The entry with a key. Its words are read once and mixed in, and never laid out as twenty bytes. To see it: `rt staticlib mukthiban`, then
-// `llvm-objdump -d --disassemble-symbols=mukthiban_tested_tree_lookup_dir target/staticlib/libmukthiban.a`; for make and rename the symbols
-// `tree_make::make_dir`, `tree_judge::judge_make` and `tree_change::rename_file`. A hash is where the number 0x91A2B3C stands.
+// The entry with a key. Its words are read once and mixed in, and never laid out as twenty bytes. To see it:
+// `objdump -d dist/x86_64-unknown-linux-gnu/libmukthiban.a`, at `mukthiban_tested_tree_lookup_dir`; for make and rename at
+// `tree_make::make_dir`, `tree_judge::judge_made` and `tree_change::rename_file`. A hash is where the number 0x91A2B3C stands.
 pub fn lookup(hash: &[u8], table: &[u8], w: usize, key: SaveExtKey) -> Looked
     requires { Single hash.now table.now w }
     ensures { First (lookup_rows (hashed w hash.now table.now) (key_words key)) (lookup_done (hashed w hash.now table.now) (key_words key)) (lookup_gives result.answer result.inode result.compared) }

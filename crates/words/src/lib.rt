@@ -1,5 +1,5 @@
-// A little-endian u32 in a slice of bytes. Each compiles to one 32-bit load or store: `rt staticlib mukthiban`, then
-// `objdump -d target/staticlib/libmukthiban.a` shows it, plainest in mukthiban_fat_format.
+// A little-endian u32 in a slice of bytes. Each compiles to one 32-bit load or store:
+// `objdump -d dist/x86_64-unknown-linux-gnu/libmukthiban.a` shows it, plainest in mukthiban_fat_format.
 #![tactic(auto)]
 
 ghost use Rattle.std.specs.Prelude.{◌≡◌, ◌+◌, ◌*◌, ◌≤◌, length};

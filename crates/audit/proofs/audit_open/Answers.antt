@@ -4,14 +4,11 @@ use native.Mathlib.Omega.{arith}
 use lib.Seq.{length-take-le}
 use Rattle.audit.proofs.audit_open.Goals as goal
 
--- src/lib.rt:35:9
 pub slice_bounds-audit_sound-end-2 : goal.slice_bounds-audit_sound-end-2
 slice_bounds-audit_sound-end-2 c = sym (length-take-le _ _ (omega arith))
 
--- src/lib.rt:30:5
 pub audit_sound-requires : goal.audit_sound-requires
 audit_sound-requires c = record { ready = search (part_ready); file_table_in_bounds = search (part_long); clear = search (part_clear) }
 
--- src/lib.rt:16:1
 pub returns : goal.returns
 returns c = search (part_says)

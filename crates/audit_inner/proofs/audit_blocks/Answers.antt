@@ -4,38 +4,29 @@ use Prim.Native.Nat.{◌-◌}
 use borrow.Author.Rules.{rules}
 use Rattle.audit_inner.proofs.audit_blocks.Goals as goal
 
--- src/lib.rt:246:5
 pub loop-b-init : goal.loop-b-init
 loop-b-init c = blocks_begin _ _ _ _
 
--- src/lib.rt:247:17
 pub bounds-work-b : goal.bounds-work-b
 bounds-work-b c = omega arith
 
--- src/lib.rt:248:9
 pub bounds-work-b-in-loop-b : goal.bounds-work-b-in-loop-b
 bounds-work-b-in-loop-b c = omega arith
 
--- src/lib.rt:249:49
 pub overflow_cast-b : goal.overflow_cast-b
 overflow_cast-b c = omega arith
 
--- src/lib.rt:249:9
 pub put-count-requires : goal.put-count-requires
 put-count-requires c = omega arith
 
--- src/lib.rt:250:9
 pub overflow_add-b : goal.overflow_add-b
 overflow_add-b c = omega arith
 
--- src/lib.rt:246:5
 pub loop-b-smaller : goal.loop-b-smaller
 loop-b-smaller c = omega arith
 
--- src/lib.rt:246:5
 pub loop-b-preserved : goal.loop-b-preserved
 loop-b-preserved c = search (blocks_on, rules)
 
--- src/lib.rt:238:1
 pub returns : goal.returns
 returns c = blocks_end _ _ _ _ _ _ _ _ c.loop-b.invariant (λ h. omega (arith, h))

@@ -2,22 +2,17 @@ use Rattle.audit_inner.proofs.Marking.{node_behind, node_free, node_file, node_f
 use Rattle.fat_walk.proofs.Found.{file_from, are_bytes}
 use Rattle.audit_inner.proofs.chain_at.Goals as goal
 
--- src/lib.rt:39:9
 pub returns-then-prev_of-ne0 : goal.returns-then-prev_of-ne0
 returns-then-prev_of-ne0 c = search (node_behind, are_bytes)
 
--- src/lib.rt:42:9
 pub returns-then-head-b : goal.returns-then-head-b
 returns-then-head-b c = search (node_free, are_bytes)
 
--- src/lib.rt:44:5
 pub count_of-requires : goal.count_of-requires
 count_of-requires c = search (file_from, node_file, are_bytes)
 
--- src/lib.rt:44:5
 pub overflow_cast-result : goal.overflow_cast-result
 overflow_cast-result c = search (node_fits, node_file, are_bytes)
 
--- src/lib.rt:32:1
 pub returns : goal.returns
 returns c = search (node_chain, node_file, are_bytes)

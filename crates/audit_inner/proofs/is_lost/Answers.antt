@@ -1,10 +1,8 @@
 use Rattle.audit_inner.proofs.Judging.{lost_never, lost_told}
 use Rattle.audit_inner.proofs.is_lost.Goals as goal
 
--- src/lib.rt:232:9
 pub returns-then-m-eq0 : goal.returns-then-m-eq0
 returns-then-m-eq0 c = lost_never _ c.if-m-eq0.true
 
--- src/lib.rt:228:1
 pub returns : goal.returns
 returns c = lost_told _ c.if-m-eq0.false

@@ -4,18 +4,14 @@ use mathlib.Core.Path.{refl}
 use borrow.Author.Rules.{rules}
 use Rattle.audit_inner.proofs.judge_chain.Goals as goal
 
--- src/lib.rt:108:9
 pub returns-then-n-b : goal.returns-then-n-b
 returns-then-n-b c = chain_out _ _ _ _ _ _ c.if-n-b.true refl
 
--- src/lib.rt:116:9
 pub returns-then-m-eq0 : goal.returns-then-m-eq0
 returns-then-m-eq0 c = chain_nil _ _ _ _ _ _ (omega arith) c.if-m-eq0.true refl
 
--- src/lib.rt:127:15
 pub overflow_mul-result : goal.overflow_mul-result
 overflow_mul-result c = product_fits _ _ (omega arith) (omega arith)
 
--- src/lib.rt:102:1
 pub returns : goal.returns
 returns c = chain_some _ _ _ _ _ _ (omega arith) (omega arith) (search rules) refl

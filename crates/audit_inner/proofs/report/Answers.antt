@@ -2,10 +2,8 @@ use Rattle.audit_inner.proofs.Sweeping.{report_short, report_done}
 use borrow.Author.Rules.{rules}
 use Rattle.audit_inner.proofs.report.Goals as goal
 
--- src/lib.rt:288:9
 pub returns-then-list-count : goal.returns-then-list-count
 returns-then-list-count c = search (report_short, rules)
 
--- src/lib.rt:274:1
 pub returns : goal.returns
 returns c = search (report_done, rules)

@@ -3,14 +3,11 @@ use native.Mathlib.Omega.{arith}
 use lib.ListN.{length-set}
 use Rattle.audit_inner.proofs.write.Goals as goal
 
--- src/lib.rt:174:9
 pub returns-then-list-at : goal.returns-then-list-at
 returns-then-list-at c = λ l₀ out e w. write_short _ _ _ l₀ out _ e w c.if-list-at.true
 
--- src/lib.rt:177:5
 pub bounds-list-at-2 : goal.bounds-list-at-2
 bounds-list-at-2 c = simp length-set (omega arith)
 
--- src/lib.rt:168:1
 pub returns : goal.returns
 returns c = λ l₀ out e w. write_long _ _ _ l₀ out _ e w

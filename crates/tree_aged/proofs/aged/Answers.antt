@@ -3,14 +3,11 @@ use Rattle.tree_promises.proofs.Gated.{tree_refused}
 use Rattle.tree_aged.proofs.Public.{aged_ready, aged_passed}
 use Rattle.tree_aged.proofs.aged.Goals as goal
 
--- src/lib.rt:205:24
 pub aged_open-requires : goal.aged_open-requires
 aged_open-requires c = search (aged_ready)
 
--- src/lib.rt:189:1
 pub returns-in-Refused : goal.returns-in-Refused
 returns-in-Refused c = search (tree_refused)
 
--- src/lib.rt:189:1
 pub returns-in-Open : goal.returns-in-Open
 returns-in-Open c = search (aged_passed)

@@ -2,10 +2,8 @@
 use Rattle.tree_aged.proofs.Opens.{open_none, open_mark}
 use Rattle.tree_aged.proofs.is_open.Goals as goal
 
--- src/lib.rt:38:9
 pub returns-then-z-eq0 : goal.returns-then-z-eq0
 returns-then-z-eq0 c = search (open_none)
 
--- src/lib.rt:33:1
 pub returns : goal.returns
 returns c = search (open_mark)

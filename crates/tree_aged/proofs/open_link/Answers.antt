@@ -4,30 +4,23 @@ use Rattle.tree_aged.proofs.Opens.{coll_placed, next_placed, open_coll, open_nex
 use native.Mathlib.Omega.{arith}
 use Rattle.tree_aged.proofs.open_link.Goals as goal
 
--- src/lib.rt:48:9
 pub link_of-c-requires : goal.link_of-c-requires
 link_of-c-requires c = search (coll_asked)
 
--- src/lib.rt:49:8
 pub is_open-requires : goal.is_open-requires
 is_open-requires c = search (coll_placed)
 
--- src/lib.rt:50:9
 pub returns-then-is_open : goal.returns-then-is_open
 returns-then-is_open c = search (open_coll)
 
--- src/lib.rt:52:9
 pub link_of-n-requires : goal.link_of-n-requires
 link_of-n-requires c = (entry_in c.requires, omega (arith, c.requires.fits.wide))
 
--- src/lib.rt:53:8
 pub is_open-requires-2 : goal.is_open-requires-2
 is_open-requires-2 c = search (next_placed)
 
--- src/lib.rt:54:9
 pub returns-then-is_open-2 : goal.returns-then-is_open-2
 returns-then-is_open-2 c = search (open_next)
 
--- src/lib.rt:44:1
 pub returns : goal.returns
 returns c = search (open_no)

@@ -3,18 +3,14 @@ use Rattle.tree_aged.proofs.Lowers.{pass_place, pass_known, pass_at, pass_free, 
 use borrow.Author.Rules.{rules}
 use Rattle.tree_aged.proofs.passes.Goals as goal
 
--- src/lib.rt:94:8
 pub bounds-work-index : goal.bounds-work-index
 bounds-work-index c = search (pass_place)
 
--- src/lib.rt:95:9
 pub returns-then-work-index-ne0 : goal.returns-then-work-index-ne0
 returns-then-work-index-ne0 c = search (pass_known)
 
--- src/lib.rt:97:5
 pub ends-requires : goal.ends-requires
 ends-requires c = record { at = search (pass_at); known = search rules; y_value = search (pass_free) }
 
--- src/lib.rt:88:1
 pub returns : goal.returns
 returns c = search (pass_walked)

@@ -1,7 +1,6 @@
 use Rattle.tree_key.specs.Hash.{hash_of}
 use Rattle.tree_key.proofs.hash.Goals as goal
 
--- src/lib.rt:84:1
 pub returns : goal.returns
 unfolding hash_of
 returns c = cc

@@ -4,7 +4,6 @@ use lib.Bits.{bit_xor}
 use Rattle.tree_key.specs.Hash.{mix}
 use Rattle.tree_key.proofs.mix_in.Goals as goal
 
--- src/lib.rt:77:1
 pub returns : goal.returns
 unfolding mix
 returns c = ap (λ (z : ℕ). bit_xor z c.args.w) c.rotate.ensures

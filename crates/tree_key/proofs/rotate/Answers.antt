@@ -2,6 +2,5 @@ use borrow.Author.Rules.{rules}
 use Rattle.tree_key.proofs.Laws.{rotated_is}
 use Rattle.tree_key.proofs.rotate.Goals as goal
 
--- src/lib.rt:70:1
 pub returns : goal.returns
 returns c = rotated_is c.args.h (search rules)

@@ -6,22 +6,17 @@ use borrow.Author.Tests.{not-true, not-false}
 use Rattle.tree_marks.proofs.Climbing.{reach_begin, reach_on, reach_stop, reach_done}
 use Rattle.tree_marks.proofs.all_reach.Goals as goal
 
--- src/lib.rt:239:5
 pub loop-y-init : goal.loop-y-init
 loop-y-init c = reach_begin _ _
 
--- src/lib.rt:240:13
 pub rises-requires : goal.rises-requires
 rises-requires c = omega (arith, c.loop-y.invariant.within.size)
 
--- src/lib.rt:241:13
 pub returns-then-not-rises : goal.returns-then-not-rises
 returns-then-not-rises c = reach_stop c.loop-y.invariant c.rises.ensures (not-true c.rises.result c.if-not-rises.true-raw)
 
--- src/lib.rt:239:5
 pub loop-y-preserved : goal.loop-y-preserved
 loop-y-preserved c = reach_on c.loop-y.invariant c.rises.ensures (not-false c.rises.result c.if-not-rises.false-raw)
 
--- src/lib.rt:234:1
 pub returns : goal.returns
 returns c = reach_done c.loop-y.invariant (search rules)

@@ -21,34 +21,27 @@ told root y mark parent i r W P e em ep T =
     let b : parent ≡ P y = ep ∙ ap P e in
     subst (λ m. Tells (ParentMarked root y m (P y)) r) a (subst (λ p. Tells (ParentMarked root y mark p) r) b T)
 
--- src/lib.rt:173:5
 pub loop-y-init : goal.loop-y-init
 loop-y-init c = check_begin _
 
--- src/lib.rt:175:65
 pub overflow_mul-i : goal.overflow_mul-i
 overflow_mul-i c = let h : c.index-i.result * c.args.w + c.args.w ≤ length c.args.table.now = entry_in _ _ c.args.count _ (omega arith) (omega arith) in omega arith
 
--- src/lib.rt:175:65
 pub overflow_add-i : goal.overflow_add-i
 overflow_add-i c = let h : c.index-i.result * c.args.w + c.args.w ≤ length c.args.table.now = entry_in _ _ c.args.count _ (omega arith) (omega arith) in omega arith
 
--- src/lib.rt:175:43
 pub get_u32-requires : goal.get_u32-requires
 get_u32-requires c = let h : c.index-i.result * c.args.w + c.args.w ≤ length c.args.table.now = entry_in _ _ c.args.count _ (omega arith) (omega arith) in omega arith
 
--- src/lib.rt:176:13
 pub returns-then-not-named : goal.returns-then-not-named
 returns-then-not-named c =
     check_stop {P = λ z. ParentMarked c.args.root z (mark_at c.args.work.now c.args.off z) (link_at c.args.table.now c.args.w 0 z)} c.loop-y.invariant (search rules)
     (told _ _ _ _ _ _ (mark_at c.args.work.now c.args.off) (link_at c.args.table.now c.args.w 0) c.index-i.ensures refl c.get_u32.ensures c.named.ensures) (not-true c.named.result c.if-not-named.true-raw)
 
--- src/lib.rt:173:5
 pub loop-y-preserved : goal.loop-y-preserved
 loop-y-preserved c =
     check_on {P = λ z. ParentMarked c.args.root z (mark_at c.args.work.now c.args.off z) (link_at c.args.table.now c.args.w 0 z)} c.loop-y.invariant
     (told _ _ _ _ _ _ (mark_at c.args.work.now c.args.off) (link_at c.args.table.now c.args.w 0) c.index-i.ensures refl c.get_u32.ensures c.named.ensures) (not-false c.named.result c.if-not-named.false-raw)
 
--- src/lib.rt:168:1
 pub returns : goal.returns
 returns c = check_done {P = λ z. ParentMarked c.args.root z (mark_at c.args.work.now c.args.off z) (link_at c.args.table.now c.args.w 0 z)} c.loop-y.invariant (search rules)

@@ -5,22 +5,17 @@ use borrow.Author.Rules.{rules}
 use Rattle.tree_marks.proofs.Climbing.{climb_begin, climb_on, climb_end, climb_past, climb_long}
 use Rattle.tree_marks.proofs.climbs.Goals as goal
 
--- src/lib.rt:190:5
 pub loop-x-init : goal.loop-x-init
 loop-x-init c = climb_begin _ _ _
 
--- src/lib.rt:192:13
 pub returns-then-x-count : goal.returns-then-x-count
 returns-then-x-count c = climb_past c.loop-x.invariant (search rules) (search rules)
 
--- src/lib.rt:195:13
 pub returns-then-n-count : goal.returns-then-n-count
 returns-then-n-count c = climb_long c.loop-x.invariant (search rules) (search rules) (search rules)
 
--- src/lib.rt:190:5
 pub loop-x-preserved : goal.loop-x-preserved
 loop-x-preserved c = climb_on c.loop-x.invariant _ _ c.index.ensures (search rules) (search rules) (search rules) refl
 
--- src/lib.rt:184:1
 pub returns : goal.returns
 returns c = climb_end c.loop-x.invariant (search rules)

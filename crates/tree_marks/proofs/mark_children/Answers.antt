@@ -5,22 +5,17 @@ use borrow.Author.Tests.{not-true, not-false}
 use Rattle.tree_marks.proofs.Gathering.{children_begin, children_on, children_stop, children_done}
 use Rattle.tree_marks.proofs.mark_children.Goals as goal
 
--- src/lib.rt:82:5
 pub loop-p-init : goal.loop-p-init
 loop-p-init c = children_begin _ _ _ _ _ _
 
--- src/lib.rt:83:13
 pub mark_dir-requires : goal.mark_dir-requires
 mark_dir-requires c = omega (arith, c.loop-p.invariant.within.size)
 
--- src/lib.rt:84:13
 pub returns-then-not-mark_dir : goal.returns-then-not-mark_dir
 returns-then-not-mark_dir c = children_stop c.loop-p.invariant (omega arith) (omega arith) c.mark_dir.ensures (not-true c.mark_dir.result c.if-not-mark_dir.true-raw)
 
--- src/lib.rt:82:5
 pub loop-p-preserved : goal.loop-p-preserved
 loop-p-preserved c = children_on c.loop-p.invariant (omega arith) (omega arith) c.mark_dir.ensures (not-false c.mark_dir.result c.if-not-mark_dir.false-raw)
 
--- src/lib.rt:73:1
 pub returns : goal.returns
 returns c = children_done c.loop-p.invariant (omega arith) (omega arith)

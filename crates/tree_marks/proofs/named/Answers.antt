@@ -5,18 +5,14 @@ use borrow.Author.Rules.{rules}
 use Rattle.tree_marks.proofs.Gathering.{named_gone, named_other, named_some, named_root}
 use Rattle.tree_marks.proofs.named.Goals as goal
 
--- src/lib.rt:153:9
 pub returns-then-mark-eq-GONE : goal.returns-then-mark-eq-GONE
 returns-then-mark-eq-GONE c = named_gone _ _ _ _ c.if-mark-eq-GONE.true
 
--- src/lib.rt:156:9
 pub returns-then-mark-parent : goal.returns-then-mark-parent
 returns-then-mark-parent c = search (named_other)
 
--- src/lib.rt:159:9
 pub returns-then-mark-ne0 : goal.returns-then-mark-ne0
 returns-then-mark-ne0 c = search (named_some)
 
--- src/lib.rt:149:1
 pub returns : goal.returns
 returns c = named_root _ _ _ _ _ (search rules) (search rules) refl

@@ -6,58 +6,45 @@ use Rattle.tree_key.specs.Key.{key_words}
 use Rattle.tree_table.proofs.Chain.{ends_short, goes, fits_at, fits_index, part_key, seek_hit, seek_miss, seek_end}
 use Rattle.tree_table.proofs.get.Goals as goal
 
--- src/lib.rt:100:5
 pub loop-x-init : goal.loop-x-init
 loop-x-init c = (c.requires.0, omega (arith, ends_short c.requires.0), refl)
 
--- src/lib.rt:101:21
 pub overflow_mul-start : goal.overflow_mul-start
 overflow_mul-start c = omega (arith, fits_index c.index.result c.loop-x.invariant.0 (omega arith) c.index.ensures)
 
--- src/lib.rt:102:19
 pub overflow_add-end : goal.overflow_add-end
 overflow_add-end c = omega (arith, fits_index c.index.result c.loop-x.invariant.0 (omega arith) c.index.ensures)
 
--- src/lib.rt:103:9
 pub overflow_add-n : goal.overflow_add-n
 overflow_add-n c = omega (arith, c.loop-x.invariant.1, (goes c.loop-x.invariant.0 (omega arith) refl).less)
 
--- src/lib.rt:104:30
 pub slice_bounds-has_key-count : goal.slice_bounds-has_key-count
 slice_bounds-has_key-count c = omega arith
 
--- src/lib.rt:104:30
 pub slice_bounds-has_key-start : goal.slice_bounds-has_key-start
 slice_bounds-has_key-start c = omega (arith, fits_index c.index.result c.loop-x.invariant.0 (omega arith) c.index.ensures)
 
--- src/lib.rt:104:30
 pub slice_bounds-has_key-end : goal.slice_bounds-has_key-end
 slice_bounds-has_key-end c = omega (arith, fits_index c.index.result c.loop-x.invariant.0 (omega arith) c.index.ensures)
 
--- src/lib.rt:104:12
 pub has_key-requires : goal.has_key-requires
 has_key-requires c = simp (length-take, length-drop) (omega (arith, fits_index c.index.result c.loop-x.invariant.0 (omega arith) c.index.ensures))
 
--- src/lib.rt:105:13
 pub returns-then-has_key : goal.returns-then-has_key
 returns-then-has_key c =
     seek_hit (goes c.loop-x.invariant.0 (omega arith) refl) (key_words c.args.key) c.loop-x.n c.has_key.result
     (part_key c.args.table.now c.args.w (key_words c.args.key) c.index.ensures c.requires.1 c.has_key.ensures) c.if-has_key.true
     ∙ c.loop-x.invariant.2
 
--- src/lib.rt:110:31
 pub overflow_sub-w : goal.overflow_sub-w
 overflow_sub-w c = omega arith
 
--- src/lib.rt:110:9
 pub link_of-x-requires : goal.link_of-x-requires
 link_of-x-requires c = (fits_at c.loop-x.invariant.0 (omega arith), omega arith)
 
--- src/lib.rt:100:5
 pub loop-x-smaller : goal.loop-x-smaller
 loop-x-smaller c = omega (arith, (goes c.loop-x.invariant.0 (omega arith) c.link_of-x.ensures).less)
 
--- src/lib.rt:100:5
 pub loop-x-preserved : goal.loop-x-preserved
 loop-x-preserved c =
     let g = goes c.loop-x.invariant.0 (omega arith) c.link_of-x.ensures in (
@@ -68,6 +55,5 @@ loop-x-preserved c =
           ∙ c.loop-x.invariant.2,
     )
 
--- src/lib.rt:94:1
 pub returns : goal.returns
 returns c = seek_end (key_words c.args.key) c.loop-x.n c.loop-x.invariant.0 (omega arith) ∙ c.loop-x.invariant.2

@@ -3,6 +3,5 @@ use Prim.Native.Nat.{◌-◌, ◌/◌}
 use Rattle.tree_table.proofs.Cases.{hash_at}
 use Rattle.tree_table.proofs.get_hash.Goals as goal
 
--- src/lib.rt:128:1
 pub returns : goal.returns
 returns c = c.get_u32.ensures ∙ hash_at c.args.hash.now c.args.b

@@ -5,14 +5,11 @@ use borrow.Author.Rules.{rules}
 use Rattle.tree_test.proofs.Cases.{told_true, told_false, beyond_not}
 use Rattle.tree_test.proofs.beyond.Goals as goal
 
--- src/lib.rt:182:9
 pub returns-then-n-lt1 : goal.returns-then-n-lt1
 returns-then-n-lt1 c = told_true (inl c.if-n-lt1.true)
 
--- src/lib.rt:185:9
 pub returns-then-n-gt65536 : goal.returns-then-n-gt65536
 returns-then-n-gt65536 c = told_true (inr c.if-n-gt65536.true)
 
--- src/lib.rt:178:1
 pub returns : goal.returns
 returns c = told_false (beyond_not _ (search rules) (search rules))

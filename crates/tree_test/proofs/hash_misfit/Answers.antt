@@ -4,14 +4,11 @@ use Prim.Native.Nat.{◌-◌, ◌/◌}
 use Rattle.tree_test.proofs.Cases.{told_true, told_false}
 use Rattle.tree_test.proofs.hash_misfit.Goals as goal
 
--- src/lib.rt:150:9
 pub returns-then-len-eq0 : goal.returns-then-len-eq0
 returns-then-len-eq0 c = told_true (inl c.if-len-eq0.true)
 
--- src/lib.rt:153:9
 pub returns-then-len-ne0 : goal.returns-then-len-ne0
 returns-then-len-ne0 c = told_true (inr c.if-len-ne0.true)
 
--- src/lib.rt:145:1
 pub returns : goal.returns
 returns c = told_false (⊎_elim c.if-len-eq0.false (λ n. n c.if-len-ne0.false))

@@ -5,23 +5,18 @@ use native.Mathlib.Omega.{arith}
 use Rattle.tree_test.proofs.Cases.{told_true, told_false, tells_not}
 use Rattle.tree_test.proofs.misfit.Goals as goal
 
--- src/lib.rt:163:9
 pub returns-then-hash_misfit : goal.returns-then-hash_misfit
 returns-then-hash_misfit c = told_true (inl (c.hash_misfit.ensures.yes c.if-hash_misfit.true))
 
--- src/lib.rt:166:9
 pub returns-then-dir_table-lt-DIR : goal.returns-then-dir_table-lt-DIR
 returns-then-dir_table-lt-DIR c = told_true (inr (inl c.if-dir_table-lt-DIR.true))
 
--- src/lib.rt:169:9
 pub returns-then-hash_misfit-2 : goal.returns-then-hash_misfit-2
 returns-then-hash_misfit-2 c = told_true (inr (inr (inl (c.hash_misfit-2.ensures.yes c.if-hash_misfit-2.true))))
 
--- src/lib.rt:172:9
 pub returns-then-file_table-lt-FILE : goal.returns-then-file_table-lt-FILE
 returns-then-file_table-lt-FILE c = told_true (inr (inr (inr c.if-file_table-lt-FILE.true)))
 
--- src/lib.rt:159:1
 pub returns : goal.returns
 returns c =
     told_false (⊎_elim (tells_not c.hash_misfit.ensures c.if-hash_misfit.false)

@@ -5,15 +5,12 @@ use borrow.Author.Tests.{not-true, not-false}
 use Rattle.tree_test.proofs.Cases.{zero_marks, later_zero, dirs_count, sound_dirs, sound_files}
 use Rattle.tree_test.proofs.sound.Goals as goal
 
--- src/lib.rt:103:9
 pub test_dirs-requires : goal.test_dirs-requires
 test_dirs-requires c = (c.requires.sized.dir_table, c.requires.sized.dir_room, c.requires.sized.dir_some, c.requires.sized.dir_buckets, omega arith, zero_marks c.args.work.now 0 c.requires.by_index)
 
--- src/lib.rt:104:9
 pub returns-then-not-test_dirs : goal.returns-then-not-test_dirs
 returns-then-not-test_dirs c = sound_dirs c.test_dirs.ensures _ _ (not-true c.test_dirs.result c.if-not-test_dirs.true-raw)
 
--- src/lib.rt:107:5
 pub test_files-requires : goal.test_files-requires
 test_files-requires c =
     let n = dirs_count c.test_dirs.ensures (not-false c.test_dirs.result c.if-not-test_dirs.false-raw) in
@@ -31,6 +28,5 @@ test_files-requires c =
       c.requires.sized.dir_room,
     )
 
--- src/lib.rt:97:1
 pub returns : goal.returns
 returns c = sound_files c.test_dirs.ensures _ _ (not-false c.test_dirs.result c.if-not-test_dirs.false-raw) c.test_files.ensures

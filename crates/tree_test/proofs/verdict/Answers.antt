@@ -8,15 +8,12 @@ use lib.Seq.{length-take-le}
 use Rattle.tree_sound.specs.Sizes.{rooms}
 use Rattle.tree_test.proofs.verdict.Goals as goal
 
--- src/lib.rt:141:55
 pub slice_bounds-judge-end-2 : goal.slice_bounds-judge-end-2
 slice_bounds-judge-end-2 c = sym (length-take-le (rooms c.args.dir_table.now c.args.file_table.now) c.args.work.now (omega arith))
 
--- src/lib.rt:141:5
 pub judge-requires : goal.judge-requires
 judge-requires c = record { sized = c.requires.sized; work_len = length-take-le (rooms c.args.dir_table.now c.args.file_table.now) c.args.work.now (omega arith) }
 
--- src/lib.rt:134:1
 pub returns : goal.returns
 returns c =
     let l : length (take (rooms c.args.dir_table.now c.args.file_table.now) c.args.work.now) ≡ rooms c.args.dir_table.now c.args.file_table.now = length-take-le (rooms c.args.dir_table.now c.args.file_table.now) c.args.work.now (omega arith) in (

@@ -1,10 +1,8 @@
 use Rattle.volume_gate.proofs.Cases.{block_open, block_refused}
 use Rattle.volume_gate.proofs.block_sizes.Goals as goal
 
--- src/lib.rt:31:9
 pub returns-in_default : goal.returns-in_default
 returns-in_default c = search (block_open)
 
--- src/lib.rt:25:1
 pub returns : goal.returns
 returns c = search (block_refused)

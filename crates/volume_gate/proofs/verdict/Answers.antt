@@ -2,6 +2,5 @@ use Rattle.volume_gate.proofs.Cases.{cleared_all}
 use borrow.Author.Rules.{rules}
 use Rattle.volume_gate.proofs.verdict.Goals as goal
 
--- src/lib.rt:122:1
 pub returns : goal.returns
 returns c = (c.sound-told.ensures, search (cleared_all, rules))
