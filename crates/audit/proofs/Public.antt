@@ -9,7 +9,7 @@ use lib.Seq.{length-take-le, take_at}
 use Rattle.order.specs.First.{Row, First}
 use Rattle.order.specs.Gate.{cleared, refusal}
 use Rattle.order.specs.Given.{Given}
-use Rattle.order.specs.declared.Answer.{Answer}
+use Rattle.order.specs.Answer.{Answer}
 use Rattle.order.proofs.Beside as rows
 use Rattle.order.proofs.Gate.{gate_given, gate_none}
 use Rattle.fat_node.specs.Entry.{Bytes}

@@ -4,7 +4,7 @@ use Rattle.order.specs.First.{Row}
 use Rattle.order.specs.Gate.{cleared}
 use Rattle.order.specs.Beside.{Promised}
 pub use Rattle.order.specs.Beside.{Beside, beside}
-use Rattle.order.specs.declared.Answer.{Answer}
+use Rattle.order.specs.Answer.{Answer}
 use Rattle.fat_node.specs.Entry.{Bytes}
 use Rattle.fat_node.specs.Sizes.{blocks}
 use Rattle.tree_sound.specs.Tables.{Tables}

@@ -11,7 +11,7 @@ use lib.ListN.{length, get_or, set, drop, replicate, length-append}
 use lib.Seq.{sets, sets-eq, get_or-set_same, get_or-set_other}
 use Rattle.links.proofs.Held.{same_or}
 use Rattle.order.specs.First.{First}
-use Rattle.order.specs.declared.Answer.TheVariants.{Done, ListTooShort}
+use Rattle.order.specs.Answer.{Done, ListTooShort}
 use Rattle.fat_node.specs.Entry.{Bytes, top}
 use Rattle.fat_node.proofs.Nodes.{le_or_lt}
 use Rattle.tree_table.specs.Chain.{link_at}

@@ -7,8 +7,8 @@ use native.Mathlib.Omega.{arith}
 use lib.ListN.{length}
 use Rattle.words.specs.Word.{word, put_word}
 use Rattle.order.specs.First.{Row, First}
-use Rattle.order.specs.declared.Answer.{Answer}
-use Rattle.order.specs.declared.Answer.TheVariants.{NoSpace, OutOfBound}
+use Rattle.order.specs.Answer.{Answer}
+use Rattle.order.specs.Answer.{NoSpace, OutOfBound}
 use Rattle.fat_node.specs.Entry.{Bytes, get, put}
 use Rattle.fat_node.specs.Sizes.{blocks}
 use Rattle.fat_node.specs.Node.{set_node, set_head, prev_half, next_half}

@@ -6,7 +6,7 @@ use Prim.Native.Nat.{ℕ, ◌+◌, ◌*◌, ◌≤◌, ◌<◌}
 use native.Mathlib.Omega.{arith}
 use lib.ListN.{length}
 use Rattle.words.specs.Word.{word, put_word}
-use Rattle.order.specs.declared.Answer.TheVariants.{InvalidValue}
+use Rattle.order.specs.Answer.{InvalidValue}
 use Rattle.order.specs.First.{First}
 use Rattle.order.proofs.One.{refused}
 use Rattle.fat_node.specs.Entry.{Bytes, get, put}

@@ -8,8 +8,8 @@ use lib.ListN.{length}
 use Rattle.order.specs.First.{Row, First}
 use Rattle.order.specs.Given.{Given, None}
 use Rattle.order.specs.Gate.{cleared}
-use Rattle.order.specs.declared.Answer.{Answer}
-use Rattle.order.specs.declared.Answer.TheVariants.{InvalidValue}
+use Rattle.order.specs.Answer.{Answer}
+use Rattle.order.specs.Answer.{InvalidValue}
 use Rattle.order.proofs.One.{one, refused}
 use Rattle.order.proofs.Beside.{passed}
 use Rattle.order.proofs.Gate.{later_past}

@@ -9,8 +9,8 @@ use lib.ListN.{length, replicate}
 use Rattle.words.specs.Word.{word, put_word}
 use Rattle.order.specs.Beside.{beside}
 use Rattle.order.specs.Given.{None}
-use Rattle.order.specs.declared.Answer.{Answer}
-use Rattle.order.specs.declared.Answer.TheVariants.{Done, NoSpace}
+use Rattle.order.specs.Answer.{Answer}
+use Rattle.order.specs.Answer.{Done, NoSpace}
 use Rattle.tree_key.specs.Key.{name_key}
 use Rattle.tree_key.specs.Hash.{hash_of, mix, rotated}
 use Rattle.tree_table.specs.Field.{field}

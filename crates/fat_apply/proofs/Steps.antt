@@ -8,8 +8,8 @@ use lib.ListN.{length, get_or}
 use lib.Seq.{sets}
 use Rattle.words.proofs.Laws as words
 use Rattle.order.specs.Answer.{number_of}
-use Rattle.order.specs.declared.Answer.{Answer}
-use Rattle.order.specs.declared.Answer.TheVariants.{Done}
+use Rattle.order.specs.Answer.{Answer}
+use Rattle.order.specs.Answer.{Done}
 use Rattle.order.proofs.Tests.{tests_passed}
 use Rattle.fat_node.specs.Entry.{Bytes}
 use Rattle.fat_node.specs.Node.{Run, run}

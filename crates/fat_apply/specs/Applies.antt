@@ -2,7 +2,7 @@
 -- applied plans.
 use Rattle.std.specs.Prelude.{◌≡◌, List, [], ◌∷◌, ◌≢◌, ℕ, ◌+◌, ◌≤◌}
 use Rattle.order.specs.Beside.{Beside}
-use Rattle.order.specs.declared.Answer.TheVariants.{Done}
+use Rattle.order.specs.Answer.{Done}
 use Rattle.fat_node.specs.Entry.{Bytes}
 use Rattle.fat_node.specs.Node.{run}
 use Rattle.fat_node.specs.Sizes.{blocks}

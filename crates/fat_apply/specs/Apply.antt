@@ -4,8 +4,8 @@ use Rattle.std.specs.Prelude.{List, ℕ, ◌*◌, length}
 use Rattle.std.proofs.lemmas.List.Edits.{sets}
 use Rattle.order.specs.First.{Row, First}
 use Rattle.order.specs.Giving.{giving}
-use Rattle.order.specs.declared.Answer.{Answer}
-use Rattle.order.specs.declared.Answer.TheVariants.{Done}
+use Rattle.order.specs.Answer.{Answer}
+use Rattle.order.specs.Answer.{Done}
 use Rattle.fat_node.specs.Entry.{Bytes}
 use Rattle.fat_node.specs.Sizes.{blocks}
 use Rattle.fat_table.specs.Chain.{total, file_at}

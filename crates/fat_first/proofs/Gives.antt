@@ -11,8 +11,8 @@ use Rattle.words.proofs.Laws as words
 use Rattle.order.specs.Tells.{Tells}
 use Rattle.order.specs.First.{First}
 use Rattle.order.specs.Answer.{number_of}
-use Rattle.order.specs.declared.Answer.{Answer}
-use Rattle.order.specs.declared.Answer.TheVariants.{Done, ReadOnlyVolume}
+use Rattle.order.specs.Answer.{Answer}
+use Rattle.order.specs.Answer.{Done, ReadOnlyVolume}
 use Rattle.map_bits.specs.Bits.{words_from, words_in}
 use Rattle.map_bits.specs.Inner.Turns.{Turn, Turnable}
 use Rattle.fat_node.specs.Entry.{Bytes}

@@ -12,8 +12,8 @@ use Rattle.order.specs.Given.{None}
 use Rattle.order.specs.Giving.{giving}
 use Rattle.order.specs.Gate.{cleared}
 use Rattle.order.specs.Beside.{Promised}
-use Rattle.order.specs.declared.Answer.{Answer}
-use Rattle.order.specs.declared.Answer.TheVariants.{Done, SizeMismatch, InvalidValue, WorkTooShort}
+use Rattle.order.specs.Answer.{Answer}
+use Rattle.order.specs.Answer.{Done, SizeMismatch, InvalidValue, WorkTooShort}
 use Rattle.order.proofs.One.{one}
 use Rattle.order.proofs.Tests.{none_giving, giving_none}
 use Rattle.fat_node.specs.Entry.{Bytes}

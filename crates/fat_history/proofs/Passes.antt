@@ -8,7 +8,7 @@ use lib.ListN.{length}
 use Rattle.words.proofs.Laws as words
 use Rattle.order.specs.First.{Row}
 use Rattle.order.specs.Given.{None}
-use Rattle.order.specs.declared.Answer.{Answer}
+use Rattle.order.specs.Answer.{Answer}
 use Rattle.order.proofs.Gate.{later_past, past_later}
 use Rattle.fat_node.specs.Entry.{Bytes}
 use Rattle.fat_node.specs.Sizes.{blocks, Misfit, Outside}

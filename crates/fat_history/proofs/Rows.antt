@@ -13,8 +13,8 @@ use Rattle.order.specs.Giving.{giving}
 use Rattle.order.specs.Gate.{later, gate, cleared}
 use Rattle.order.specs.Beside.{Beside, beside, within}
 use Rattle.order.specs.Answer.{number_of}
-use Rattle.order.specs.declared.Answer.{Answer}
-use Rattle.order.specs.declared.Answer.TheVariants.{Done, SizeMismatch, InvalidValue, WorkTooShort}
+use Rattle.order.specs.Answer.{Answer}
+use Rattle.order.specs.Answer.{Done, SizeMismatch, InvalidValue, WorkTooShort}
 
 -- what each row gives has P
 abbrev pub Each : {A : Type 0} → (A → Type 0) → List (Row A) → Type 0

@@ -3,7 +3,7 @@
 -- its block length is one in use (`run_in_use`).
 use Rattle.std.specs.Prelude.{◌≡◌, List, ℕ, suc}
 use Rattle.words.specs.Word.{AreBytes}
-use Rattle.order.specs.declared.Answer.TheVariants.{Done}
+use Rattle.order.specs.Answer.{Done}
 use Rattle.fat_node.specs.Entry.{Bytes}
 use Rattle.fat_node.specs.Format.{FormatPromise}
 use Rattle.fat_node.specs.declared.Formatted.{Formatted}

@@ -6,7 +6,7 @@ use native.Mathlib.Omega.{arith}
 use native.Mathlib.Numerals.{add-one}
 use Rattle.words.proofs.Laws as words
 use Rattle.order.specs.Given.{Given}
-use Rattle.order.specs.declared.Answer.TheVariants as is
+use Rattle.order.specs.Answer as is
 use Rattle.fat_node.specs.Entry.{Bytes}
 use Rattle.fat_table.specs.Sound.{File}
 use Rattle.fat_promises.specs.Calls.{list_tests, MayList}

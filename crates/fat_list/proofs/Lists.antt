@@ -6,8 +6,8 @@ use native.Mathlib.Omega.{arith}
 use native.Mathlib.Numerals.{add-one}
 use lib.ListN.{length, set, drop, length-set}
 use lib.Seq.{sets, length-sets, sets-eq}
-use Rattle.order.specs.declared.Answer.{Answer}
-use Rattle.order.specs.declared.Answer.TheVariants as is
+use Rattle.order.specs.Answer.{Answer}
+use Rattle.order.specs.Answer as is
 use Rattle.order.proofs.Tests.{test_refused, tests_passed}
 use Rattle.fat_node.specs.Entry.{Bytes}
 use Rattle.fat_table.specs.Sound.{File}

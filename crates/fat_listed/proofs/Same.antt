@@ -12,8 +12,8 @@ use Rattle.order.specs.First.{Row, First}
 use Rattle.order.specs.Giving.{giving}
 use Rattle.order.specs.Gate.{cleared}
 use Rattle.order.specs.Answer.{number_of}
-use Rattle.order.specs.declared.Answer.{Answer}
-use Rattle.order.specs.declared.Answer.TheVariants.{Done}
+use Rattle.order.specs.Answer.{Answer}
+use Rattle.order.specs.Answer.{Done}
 use Rattle.order.proofs.One.{one}
 use Rattle.order.proofs.Beside as rows
 use Rattle.words.specs.Word.{AreBytes}

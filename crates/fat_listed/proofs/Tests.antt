@@ -12,7 +12,7 @@ use lib.ListN.{length, get_or}
 use Rattle.order.specs.First.{Row, First}
 use Rattle.order.specs.Given.{Given, None}
 use Rattle.order.specs.Giving.{giving}
-use Rattle.order.specs.declared.Answer.{Answer}
+use Rattle.order.specs.Answer.{Answer}
 use Rattle.fat_walk.specs.Inner.Chains.{Least}
 use Rattle.order.specs.Tells.{Tells}
 use Rattle.fat_listed.specs.Listed.{Uneven, Unfit}

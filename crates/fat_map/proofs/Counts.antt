@@ -9,7 +9,7 @@ use lib.Dec.{ltb}
 use lib.ListN.{length}
 use borrow.Author.Tests.{ltb-true, lt-ltb}
 use Rattle.order.specs.Tells.{Tells}
-use Rattle.order.specs.declared.Answer.TheVariants.{Done, InvalidValue, WorkTooShort}
+use Rattle.order.specs.Answer.{Done, InvalidValue, WorkTooShort}
 use Rattle.fat_node.proofs.Nodes.{le_or_lt}
 use Rattle.map_bits.specs.Bits.{words_in, counted_in}
 use Rattle.fat_map.specs.Count.{count_gives, CountPromise}

@@ -13,8 +13,8 @@ use Rattle.order.specs.Gate.{cleared, gate, Refusal, refusal}
 use Rattle.order.specs.Given.{Given, None}
 use Rattle.order.specs.Tells.{Tells}
 use Rattle.order.specs.Answer.{unbroken}
-use Rattle.order.specs.declared.Answer.{Answer}
-use Rattle.order.specs.declared.Answer.TheVariants.{BrokenFat, ReadOnlyVolume}
+use Rattle.order.specs.Answer.{Answer}
+use Rattle.order.specs.Answer.{BrokenFat, ReadOnlyVolume}
 use Rattle.order.proofs.Gate.{later_says, later_past}
 use Rattle.fat_node.specs.Entry.{Bytes}
 use Rattle.fat_node.specs.Sizes.{blocks}

@@ -9,8 +9,8 @@ use Rattle.order.specs.First.{Row, First}
 use Rattle.order.specs.Gate.{cleared, refusal}
 use Rattle.order.specs.Giving.{giving}
 use Rattle.order.specs.Given.{Given, None}
-use Rattle.order.specs.declared.Answer.{Answer}
-use Rattle.order.specs.declared.Answer.TheVariants.{Done}
+use Rattle.order.specs.Answer.{Answer}
+use Rattle.order.specs.Answer.{Done}
 use Rattle.order.proofs.Beside as rows
 use Rattle.order.proofs.Gate.{gate_given, gate_none, past_later}
 use Rattle.fat_node.specs.Entry.{Bytes}

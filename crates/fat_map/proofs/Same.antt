@@ -8,7 +8,7 @@ use Rattle.order.specs.First.{Row, First}
 use Rattle.order.specs.Gate.{cleared}
 use Rattle.order.specs.Giving.{giving}
 use Rattle.order.specs.Beside.{within}
-use Rattle.order.specs.declared.Answer.{Answer}
+use Rattle.order.specs.Answer.{Answer}
 use Rattle.fat_node.specs.Entry.{Bytes}
 use Rattle.fat_node.specs.Sizes.{blocks}
 use Rattle.fat_table.specs.Steps.{created, resized, deleted}

@@ -9,8 +9,8 @@ use Rattle.order.specs.First.{Row, First}
 use Rattle.order.specs.Gate.{cleared, later}
 use Rattle.order.specs.Giving.{giving}
 use Rattle.order.specs.Beside.{within}
-use Rattle.order.specs.declared.Answer.{Answer}
-use Rattle.order.specs.declared.Answer.TheVariants.{Done, SizeMismatch, InvalidValue, WorkTooShort, BrokenFat}
+use Rattle.order.specs.Answer.{Answer}
+use Rattle.order.specs.Answer.{Done, SizeMismatch, InvalidValue, WorkTooShort, BrokenFat}
 use Rattle.order.specs.declared.Fault.{Fault}
 use Rattle.fat_node.specs.Entry.{Bytes}
 use Rattle.fat_node.specs.Node.{Run}

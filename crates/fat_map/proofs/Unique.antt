@@ -6,8 +6,8 @@ use Rattle.order.specs.First.{Row}
 use Rattle.order.specs.Gate.{cleared}
 use Rattle.order.specs.Giving.{giving}
 use Rattle.order.specs.Beside.{within}
-use Rattle.order.specs.declared.Answer.{Answer}
-use Rattle.order.specs.declared.Answer.TheVariants.{Done}
+use Rattle.order.specs.Answer.{Answer}
+use Rattle.order.specs.Answer.{Done}
 use Rattle.order.proofs.One.{one}
 use Rattle.fat_node.specs.Entry.{Bytes}
 use Rattle.fat_node.specs.Sizes.{blocks}

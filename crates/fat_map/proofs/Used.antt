@@ -5,7 +5,7 @@ use mathlib.Core.Bool.{Bool, true, false}
 use mathlib.Core.Logic.{◌⊎◌, inl, inr}
 use Prim.Native.Nat.{ℕ}
 use Rattle.order.specs.Tells.{Tells}
-use Rattle.order.specs.declared.Answer.TheVariants.{ReadOnlyVolume}
+use Rattle.order.specs.Answer.{ReadOnlyVolume}
 use Rattle.fat_node.specs.Entry.{Bytes}
 use Rattle.fat_test.specs.Gate.{InUse}
 use Rattle.fat_test.proofs.Change.{not_in_use}

@@ -9,7 +9,7 @@ use lib.ListN.{length, take, get_or, length-take}
 use lib.Seq.{get_or-take}
 use Rattle.words.proofs.Laws as words
 use Rattle.order.specs.Giving.{giving}
-use Rattle.order.specs.declared.Answer.TheVariants.{Done}
+use Rattle.order.specs.Answer.{Done}
 use Rattle.order.proofs.One.{settled}
 use Rattle.fat_node.specs.Entry.{Bytes}
 use Rattle.fat_node.specs.Node.{run}

@@ -3,8 +3,8 @@ use Rattle.std.specs.Prelude.{◌≡◌, List, [], ◌∷◌, ◌++◌, ◌⊎�
 use Rattle.order.specs.First.{Row, row}
 use Rattle.order.specs.Gate.{gate}
 use Rattle.order.specs.Answer.{unbroken}
-use Rattle.order.specs.declared.Answer.{Answer}
-use Rattle.order.specs.declared.Answer.TheVariants.{BrokenFat}
+use Rattle.order.specs.Answer.{Answer}
+use Rattle.order.specs.Answer.{BrokenFat}
 use Rattle.fat_node.specs.Entry.{Bytes}
 use Rattle.fat_node.specs.Sizes.{blocks}
 use Rattle.fat_test.specs.Gate.{unsound, retired, Uneven, Unfit}

@@ -5,8 +5,8 @@ use Rattle.order.specs.Gate.{cleared}
 use Rattle.order.specs.Giving.{giving}
 use Rattle.order.specs.Beside.{Promised}
 pub use Rattle.order.specs.Beside.{Beside, beside}
-use Rattle.order.specs.declared.Answer.{Answer}
-use Rattle.order.specs.declared.Answer.TheVariants.{Done}
+use Rattle.order.specs.Answer.{Answer}
+use Rattle.order.specs.Answer.{Done}
 use Rattle.fat_node.specs.Entry.{Bytes}
 use Rattle.fat_node.specs.Sizes.{blocks}
 use Rattle.map_bits.specs.Bits.{words_in}

@@ -9,8 +9,8 @@ use Rattle.words.proofs.Laws as words
 use Rattle.order.specs.First.{Row}
 use Rattle.order.specs.Gate.{cleared}
 use Rattle.order.specs.Beside.{Beside, beside}
-use Rattle.order.specs.declared.Answer.{Answer}
-use Rattle.order.specs.declared.Answer.TheVariants.{Done, SizeMismatch, InvalidValue, WorkTooShort}
+use Rattle.order.specs.Answer.{Answer}
+use Rattle.order.specs.Answer.{Done, SizeMismatch, InvalidValue, WorkTooShort}
 use Rattle.fat_node.specs.Entry.{Bytes}
 use Rattle.fat_node.specs.Sizes.{blocks, Misfit}
 use Rattle.fat_table.proofs.Files.{Whole}

@@ -1,7 +1,7 @@
 -- What the theorems over merges say: which files two tables have, calls on a table and its data with merges among them, and histories with merges.
 use Rattle.std.specs.Prelude.{◌≡◌, List, ℕ}
 use Rattle.order.specs.Beside.{Beside}
-use Rattle.order.specs.declared.Answer.TheVariants.{Done}
+use Rattle.order.specs.Answer.{Done}
 use Rattle.fat_node.specs.Entry.{Bytes}
 use Rattle.fat_table.specs.Sound.{File}
 use Rattle.fat_table.specs.Chain.{file_at}

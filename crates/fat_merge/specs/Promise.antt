@@ -3,7 +3,7 @@ use Rattle.std.specs.Prelude.{List, [], ℕ}
 use Rattle.order.specs.First.{First}
 use Rattle.order.specs.Gate.{cleared}
 use Rattle.order.specs.Beside.{Beside, beside, Promised}
-use Rattle.order.specs.declared.Answer.TheVariants.{Done}
+use Rattle.order.specs.Answer.{Done}
 use Rattle.fat_node.specs.Entry.{Bytes}
 use Rattle.fat_node.specs.Sizes.{blocks}
 use Rattle.fat_test.specs.Gate.{table_gate}

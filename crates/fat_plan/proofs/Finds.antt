@@ -13,8 +13,8 @@ use lib.Seq.{sets, sets-eq, drop-cons, get_or-take, length-take-le}
 use borrow.Author.Tests.{not-true, not-false}
 use Rattle.words.proofs.Laws as words
 use Rattle.order.specs.Given.{Given}
-use Rattle.order.specs.declared.Answer.{Answer}
-use Rattle.order.specs.declared.Answer.TheVariants as is
+use Rattle.order.specs.Answer.{Answer}
+use Rattle.order.specs.Answer as is
 use Rattle.order.proofs.Tests.{test_refused, tests_passed}
 use Rattle.fat_node.specs.Entry.{Bytes}
 use Rattle.fat_table.specs.Sound.{File}

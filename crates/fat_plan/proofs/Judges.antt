@@ -10,8 +10,8 @@ use lib.ListN.{length, get_or, take, drop, replicate}
 use lib.Seq.{take_at, get_or-take, length-take-le}
 use Rattle.words.proofs.Laws as words
 use borrow.Author.Tests.{not-true, not-false}
-use Rattle.order.specs.declared.Answer.{Answer}
-use Rattle.order.specs.declared.Answer.TheVariants.{Done, InvalidValue, NotAFile}
+use Rattle.order.specs.Answer.{Answer}
+use Rattle.order.specs.Answer.{Done, InvalidValue, NotAFile}
 use Rattle.fat_node.specs.Entry.{Bytes}
 use Rattle.fat_node.specs.Node.{Run, run}
 use Rattle.fat_node.proofs.Nodes.{le_or_lt}

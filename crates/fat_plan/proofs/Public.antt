@@ -8,8 +8,8 @@ use lib.Seq.{take_at, drop_at, length-take-le}
 use Rattle.order.specs.Gate.{cleared}
 use Rattle.order.specs.First.{Row, First}
 use Rattle.order.specs.Beside.{Promised}
-use Rattle.order.specs.declared.Answer.{Answer}
-use Rattle.order.specs.declared.Answer.TheVariants.{Done}
+use Rattle.order.specs.Answer.{Answer}
+use Rattle.order.specs.Answer.{Done}
 use Rattle.fat_node.specs.Entry.{Bytes}
 use Rattle.fat_node.specs.Sizes.{blocks}
 use Rattle.fat_test.specs.Gate.{Uneven, gate_with}

@@ -10,8 +10,8 @@ use Rattle.words.specs.Word.{AreBytes}
 use Rattle.words.proofs.Laws as words
 use Rattle.order.specs.Gate.{cleared}
 use Rattle.order.specs.Given.{None}
-use Rattle.order.specs.declared.Answer.{Answer}
-use Rattle.order.specs.declared.Answer.TheVariants.{Done}
+use Rattle.order.specs.Answer.{Answer}
+use Rattle.order.specs.Answer.{Done}
 use Rattle.fat_node.specs.Entry.{Bytes}
 use Rattle.fat_node.specs.Node.{Run}
 use Rattle.fat_node.specs.Sizes.{blocks}

@@ -6,8 +6,8 @@ use Prim.Native.Nat.{ℕ}
 use Rattle.order.specs.First.{Row}
 use Rattle.order.specs.Gate.{cleared}
 use Rattle.order.specs.Given.{None}
-use Rattle.order.specs.declared.Answer.{Answer}
-use Rattle.order.specs.declared.Answer.TheVariants.{ReadOnlyVolume}
+use Rattle.order.specs.Answer.{Answer}
+use Rattle.order.specs.Answer.{ReadOnlyVolume}
 use Rattle.fat_node.specs.Entry.{Bytes}
 use Rattle.fat_node.specs.Sizes.{blocks}
 use Rattle.fat_test.specs.Gate.{InUse, block_gate}

@@ -5,7 +5,7 @@ use Rattle.order.specs.Gate.{cleared}
 use Rattle.order.specs.Giving.{giving}
 use Rattle.order.specs.Beside.{Promised}
 pub use Rattle.order.specs.Beside.{Beside, beside, within}
-use Rattle.order.specs.declared.Answer.{Answer}
+use Rattle.order.specs.Answer.{Answer}
 use Rattle.fat_node.specs.Entry.{Bytes}
 use Rattle.fat_node.specs.Sizes.{blocks}
 use Rattle.fat_test.specs.Gate.{retired, block_gate, change_gate}

@@ -12,8 +12,8 @@ use Rattle.order.specs.Given.{Given, None}
 use Rattle.order.specs.Gate.{cleared}
 use Rattle.order.specs.Answer.{number_of}
 use Rattle.order.specs.Beside.{Beside, beside}
-use Rattle.order.specs.declared.Answer.{Answer}
-use Rattle.order.specs.declared.Answer.TheVariants.{Done, ListTooShort}
+use Rattle.order.specs.Answer.{Answer}
+use Rattle.order.specs.Answer.{Done, ListTooShort}
 use Rattle.order.proofs.Beside as rows
 use Rattle.fat_node.specs.Entry.{Bytes}
 use Rattle.fat_node.specs.Sizes.{blocks}

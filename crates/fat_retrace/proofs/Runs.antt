@@ -6,7 +6,7 @@ use Prim.Native.Nat.{ℕ, suc, ◌*◌, ◌≤◌}
 use native.Mathlib.Omega.{arith}
 use lib.ListN.{length, replicate, length-replicate}
 use Rattle.words.proofs.Laws as words
-use Rattle.order.specs.declared.Answer.TheVariants.{Done}
+use Rattle.order.specs.Answer.{Done}
 use Rattle.fat_node.specs.Entry.{Bytes}
 use Rattle.fat_node.specs.Node.{Run}
 use Rattle.fat_node.specs.Sizes.{blocks}

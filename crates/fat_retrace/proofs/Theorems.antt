@@ -12,7 +12,7 @@ use Rattle.order.specs.Beside.{Beside, beside}
 use Rattle.order.specs.Beside as rows
 use Rattle.order.specs.Gate.{cleared}
 use Rattle.order.proofs.One.{one}
-use Rattle.order.specs.declared.Answer.TheVariants.{Done}
+use Rattle.order.specs.Answer.{Done}
 use Rattle.fat_node.specs.Entry.{Bytes}
 use Rattle.fat_node.specs.Node.{run}
 use Rattle.fat_node.specs.Sizes.{blocks}

@@ -5,8 +5,8 @@ use Prim.Native.Nat.{ℕ, ◌+◌, ◌-◌, ◌≤◌}
 use native.Mathlib.Omega.{arith}
 use Rattle.words.proofs.Laws as words
 use Rattle.order.specs.First.{First}
-use Rattle.order.specs.declared.Answer.{Answer}
-use Rattle.order.specs.declared.Answer.TheVariants as is
+use Rattle.order.specs.Answer.{Answer}
+use Rattle.order.specs.Answer as is
 use Rattle.order.proofs.Tests.{test_refused, tests_passed}
 use Rattle.fat_node.specs.Entry.{Bytes}
 use Rattle.fat_node.specs.Node.{Run, next_at, set_head}

@@ -10,8 +10,8 @@ use lib.ListN.{length}
 use Rattle.order.specs.First.{First}
 use Rattle.order.specs.Gate.{cleared, Refusal, refusal}
 use Rattle.order.specs.Given.{Given, None}
-use Rattle.order.specs.declared.Answer.{Answer}
-use Rattle.order.specs.declared.Answer.TheVariants.{Done, SizeMismatch, InvalidValue, WorkTooShort}
+use Rattle.order.specs.Answer.{Answer}
+use Rattle.order.specs.Answer.{Done, SizeMismatch, InvalidValue, WorkTooShort}
 use Rattle.fat_node.specs.Entry.{Bytes}
 use Rattle.fat_node.specs.Sizes.{blocks, Misfit, Outside}
 use Rattle.fat_table.specs.Sound.{Sound}

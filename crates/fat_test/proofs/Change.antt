@@ -11,8 +11,8 @@ use Rattle.order.specs.First.{Row}
 use Rattle.order.specs.Gate.{Refusal, refusal}
 use Rattle.order.specs.Given.{Given, None}
 use Rattle.order.specs.Tells.{Tells}
-use Rattle.order.specs.declared.Answer.{Answer}
-use Rattle.order.specs.declared.Answer.TheVariants.{SizeMismatch, InvalidValue, ReadOnlyVolume}
+use Rattle.order.specs.Answer.{Answer}
+use Rattle.order.specs.Answer.{SizeMismatch, InvalidValue, ReadOnlyVolume}
 use Rattle.order.proofs.Gate.{later_says, later_past}
 use Rattle.fat_node.specs.Entry.{Bytes}
 use Rattle.fat_node.specs.Sizes.{blocks, Misfit, Outside}

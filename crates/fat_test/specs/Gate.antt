@@ -3,8 +3,8 @@
 use Rattle.std.specs.Prelude.{◌≡◌, List, [], ◌∷◌, ◌++◌, ◌⊎◌, ℕ, ◌*◌, ◌<◌, length}
 use Rattle.order.specs.First.{Row, row}
 use Rattle.order.specs.Gate.{gate}
-use Rattle.order.specs.declared.Answer.{Answer}
-use Rattle.order.specs.declared.Answer.TheVariants.{BrokenFat, ReadOnlyVolume}
+use Rattle.order.specs.Answer.{Answer}
+use Rattle.order.specs.Answer.{BrokenFat, ReadOnlyVolume}
 use Rattle.fat_node.specs.Entry.{Bytes}
 use Rattle.fat_table.specs.Sound.{Sound}
 use Rattle.fat_fault.specs.Fault.{fault_of}

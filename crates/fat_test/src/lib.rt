@@ -4,7 +4,7 @@
 ghost use Rattle.std.specs.Prelude.{◌≡◌, true, false, ◌⊎◌, ◌+◌, ◌*◌, ◌≤◌, ◌<◌, length, replicate};
 ghost use Rattle.order.specs.Gate.{cleared};
 ghost use Rattle.order.specs.Tells.{Tells};
-ghost use Rattle.order.specs.declared.Answer.TheVariants.{Done};
+ghost use Rattle.order.specs.Answer.{Done};
 ghost use Rattle.fat_node.specs.Sizes.{blocks, Misfit, Outside};
 ghost use Rattle.fat_test.specs.Promise.{tested, TestPromise};
 ghost use Rattle.fat_test.specs.Gate.{InUse};

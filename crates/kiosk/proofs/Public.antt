@@ -8,8 +8,8 @@ use lib.ListN.{length, get_or, take, drop, replicate, take-append-drop}
 use lib.Seq.{length-take-le}
 use Rattle.order.specs.First.{Row, First}
 use Rattle.order.specs.Gate.{cleared}
-use Rattle.order.specs.declared.Answer.{Answer}
-use Rattle.order.specs.declared.Answer.TheVariants.{Done}
+use Rattle.order.specs.Answer.{Answer}
+use Rattle.order.specs.Answer.{Done}
 use Rattle.order.proofs.Beside as rows
 use Rattle.order.proofs.Gate.{gate_given, gate_none}
 use Rattle.fat_node.specs.Entry.{Bytes}

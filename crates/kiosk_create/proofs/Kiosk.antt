@@ -5,7 +5,7 @@ use mathlib.Core.Logic.{◌⊎◌, inl, inr, ⊎_elim}
 use Prim.Native.Nat.{ℕ, zero, suc, ◌+◌, ◌-◌, ◌≤◌, ◌<◌}
 use native.Mathlib.Omega.{arith}
 use Rattle.words.proofs.Laws as words
-use Rattle.order.specs.declared.Answer.TheVariants.{Done, InvalidValue, NoSpace}
+use Rattle.order.specs.Answer.{Done, InvalidValue, NoSpace}
 use Rattle.fat_node.specs.Entry.{Bytes}
 use Rattle.fat_node.specs.Node.{Run, run}
 use Rattle.fat_table.specs.Chain.{free_at}

@@ -8,7 +8,7 @@ use Rattle.words.proofs.Laws as words
 use Rattle.order.specs.First.{First}
 use Rattle.order.specs.Given.{None}
 use Rattle.order.specs.Beside.{Beside, beside}
-use Rattle.order.specs.declared.Answer.TheVariants.{Done}
+use Rattle.order.specs.Answer.{Done}
 use Rattle.fat_node.specs.Entry.{Bytes}
 use Rattle.fat_node.specs.Sizes.{blocks}
 use Rattle.fat_table.specs.Chain.{free_at}

@@ -4,8 +4,8 @@ use Rattle.std.specs.Prelude.{◌≡◌, ℕ, ◌-◌, ◌≤◌, ◌<◌, lengt
 use mathlib.Core.List.{List, [], ◌∷◌, ◌++◌, Memᴰ}
 use Rattle.order.specs.First.{Row, row, First}
 use Rattle.order.specs.Giving.{giving}
-use Rattle.order.specs.declared.Answer.{Answer}
-use Rattle.order.specs.declared.Answer.TheVariants.{Done, InvalidValue, NoSpace}
+use Rattle.order.specs.Answer.{Answer}
+use Rattle.order.specs.Answer.{Done, InvalidValue, NoSpace}
 use Rattle.fat_node.specs.Entry.{Bytes}
 use Rattle.fat_node.specs.Node.{Run}
 use Rattle.fat_node.specs.Sizes.{blocks}

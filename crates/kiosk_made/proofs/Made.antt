@@ -12,7 +12,7 @@ use Rattle.words.specs.Word.{word, AreBytes}
 use Rattle.words.proofs.Laws.{Bytes, word_lt}
 use Rattle.links.specs.Change.{pick}
 use Rattle.order.specs.Beside.{Beside}
-use Rattle.order.specs.declared.Answer.TheVariants.{Done}
+use Rattle.order.specs.Answer.{Done}
 use Rattle.fat_node.specs.Sizes.{blocks}
 use Rattle.fat_promises.specs.Calls.{Create}
 use Rattle.tree_key.specs.Key.{name_key}

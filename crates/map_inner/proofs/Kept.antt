@@ -6,8 +6,8 @@ use native.Mathlib.Omega.{arith}
 use mathlib.Core.Logic.{inl, inr, ⊎_elim}
 use lib.ListN.{replicate}
 use Rattle.words.proofs.Laws as words
-use Rattle.order.specs.declared.Answer.{Answer}
-use Rattle.order.specs.declared.Answer.TheVariants as is
+use Rattle.order.specs.Answer.{Answer}
+use Rattle.order.specs.Answer as is
 use Rattle.map_bits.specs.Bits.{words_from, words_in}
 use Rattle.fat_node.specs.Entry.{Bytes}
 use Rattle.fat_node.specs.Node.{Run}

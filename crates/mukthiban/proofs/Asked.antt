@@ -10,8 +10,8 @@ use Rattle.order.specs.Gate.{gate}
 use Rattle.order.specs.Giving.{giving}
 use Rattle.order.specs.Beside.{Beside, beside, Promised}
 use Rattle.order.specs.Answer.{number_of}
-use Rattle.order.specs.declared.Answer.{Answer}
-use Rattle.order.specs.declared.Answer.TheVariants.{SizeMismatch, InvalidValue, BrokenTree}
+use Rattle.order.specs.Answer.{Answer}
+use Rattle.order.specs.Answer.{SizeMismatch, InvalidValue, BrokenTree}
 use Rattle.tree_sound.specs.Sizes.{Misfit}
 use Rattle.tree_sound.specs.Tables.{Tables, tables, dirs, files, MisfitIn, OutsideIn, rooms_in, SoundIn}
 use Rattle.tree_opens.specs.declared.Want.{Want}

@@ -10,8 +10,8 @@ use Rattle.order.specs.First.{First, row}
 use Rattle.order.specs.Gate.{gate, cleared}
 use Rattle.order.specs.Beside.{Beside, beside, Promised}
 use Rattle.order.specs.Answer.{number_of}
-use Rattle.order.specs.declared.Answer.{Answer}
-use Rattle.order.specs.declared.Answer.TheVariants.{Done, NotFound, BrokenTree, SizeMismatch, InvalidValue}
+use Rattle.order.specs.Answer.{Answer}
+use Rattle.order.specs.Answer.{Done, NotFound, BrokenTree, SizeMismatch, InvalidValue}
 use Rattle.tree_sound.specs.Sizes.{Misfit, rooms}
 use Rattle.tree_test.specs.Promise.{TestPromise}
 use Rattle.tree_test.specs.declared.Tested.{Tested}

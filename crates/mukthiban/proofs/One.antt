@@ -6,9 +6,9 @@ use Prim.Native.Nat.{ℕ, ◌<◌}
 use lib.ListN.{get_or, length}
 use Rattle.order.specs.Beside.{Beside, beside}
 use Rattle.order.specs.Answer.{number_of, fault, fault_in}
-use Rattle.order.specs.declared.Answer.{Answer}
+use Rattle.order.specs.Answer.{Answer}
 use Rattle.order.specs.declared.Fault.{Fault}
-use Rattle.order.specs.declared.Answer.TheVariants.{
+use Rattle.order.specs.Answer.{
   Done,
   SizeMismatch,
   InvalidValue,

@@ -3,7 +3,7 @@ use mathlib.Core.Path.{refl}
 use mathlib.Core.List.{List}
 use Prim.Native.Nat.{ℕ}
 use Rattle.order.specs.Beside.{beside}
-use Rattle.order.specs.declared.Answer.{Answer}
+use Rattle.order.specs.Answer.{Answer}
 use Rattle.tree_sound.specs.Tables.{Tables}
 use Rattle.tree_aged.specs.Calls.{age_gives, AgedPromise}
 use Rattle.tree_aged.proofs.Theorems.{one_aged}

@@ -7,7 +7,7 @@ use lib.ListN.{length}
 use Rattle.order.specs.First.{Row, First}
 use Rattle.order.specs.Giving.{giving}
 use Rattle.order.specs.Beside.{beside}
-use Rattle.order.specs.declared.Answer.{Answer}
+use Rattle.order.specs.Answer.{Answer}
 use Rattle.order.proofs.One.{one}
 use Rattle.tree_test.specs.Gate.{entry_gate}
 use Rattle.tree_sound.specs.Tables.{Tables, OutsideIn, rooms_in}

@@ -3,7 +3,7 @@ use mathlib.Core.Path.{refl}
 use mathlib.Core.List.{List}
 use Prim.Native.Nat.{ℕ}
 use Rattle.order.specs.Beside.{beside}
-use Rattle.order.specs.declared.Answer.{Answer}
+use Rattle.order.specs.Answer.{Answer}
 use Rattle.order.specs.declared.Fault.{Fault}
 use Rattle.fat_node.specs.Entry.{Bytes}
 use Rattle.salvage.specs.Calls.{chain_gives, ChainPromise}

@@ -1,7 +1,7 @@
 -- What an export says of the number that it gives.
 use Rattle.std.specs.Prelude.{◌≡◌, ℕ}
 use Rattle.order.specs.Answer.{number_of, fault, fault_in}
-use Rattle.order.specs.declared.Answer.{Answer}
+use Rattle.order.specs.Answer.{Answer}
 
 -- n is the number (RULES 2.1) of an answer of which the call's own promise P holds
 abbrev pub Exported : ℕ → (Answer → Type 0) → Type 0

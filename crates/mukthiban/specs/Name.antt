@@ -3,8 +3,8 @@
 use Rattle.std.specs.Prelude.{List, [], ◌∷◌, ◌⊎◌, ℕ, zero, suc, ◌+◌, ◌*◌, ◌<◌, length}
 use Rattle.order.specs.First.{Row, row}
 use Rattle.order.specs.Beside.{Beside, beside, Promised}
-use Rattle.order.specs.declared.Answer.{Answer}
-use Rattle.order.specs.declared.Answer.TheVariants.{Done, NotFound}
+use Rattle.order.specs.Answer.{Answer}
+use Rattle.order.specs.Answer.{Done, NotFound}
 use Rattle.tree_table.specs.View.{View, LiveIn}
 use Rattle.tree_test.specs.Gate.{entry_gate}
 use Rattle.tree_sound.specs.Tables.{Tables, dirs, files, OutsideIn, rooms_in}

@@ -3,7 +3,7 @@
 use Rattle.std.specs.Prelude.{List, ◌⊎◌, ℕ, zero, suc, ◌<◌, length}
 use Rattle.order.specs.First.{Row}
 use Rattle.order.specs.Giving.{giving}
-use Rattle.order.specs.declared.Answer.{Answer}
+use Rattle.order.specs.Answer.{Answer}
 use Rattle.order.specs.Beside.{Beside, beside, Promised}
 use Rattle.tree_test.specs.Gate.{entry_gate}
 use Rattle.tree_sound.specs.Tables.{Tables, OutsideIn, rooms_in}

@@ -3,7 +3,7 @@ ghost use Rattle.std.specs.Prelude.{◌≡◌, [], ◌∷◌, ◌≤◌};
 ghost use Rattle.order.specs.Answer.{number_of};
 ghost use Rattle.order.specs.First.{First, row};
 ghost use Rattle.order.specs.Beside.{beside};
-ghost use Rattle.order.specs.declared.Answer.TheVariants.{Done, NotFound, SizeMismatch, InvalidValue};
+ghost use Rattle.order.specs.Answer.{Done, NotFound, SizeMismatch, InvalidValue};
 ghost use Rattle.tree_sound.specs.Sizes.{Misfit};
 ghost use Rattle.tree_sound.specs.Tables.{tables};
 ghost use Rattle.tree_promises.specs.Inner.Ready.{Ready, Single, LiveAt};

@@ -6,7 +6,7 @@ use Prim.Native.Nat.{ℕ}
 use Rattle.order.specs.First.{Row}
 use Rattle.order.specs.Gate.{cleared, later, gate, Refusal, refusal}
 use Rattle.order.specs.Given.{Given, None}
-use Rattle.order.specs.declared.Answer.{Answer}
+use Rattle.order.specs.Answer.{Answer}
 
 module _ {A : Type 0} (refuse : Answer → List ℕ → A) (k : ℕ) (work : List ℕ) where
   later_given : (after : List (Row Answer)) (a : Answer) (w : List ℕ) → Given (later refusal k work after) (refusal a w) → Given (later refuse k work after) (refuse a w)

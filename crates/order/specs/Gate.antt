@@ -1,8 +1,8 @@
 -- The rows that every call begins with: sizes, work list, soundness.
 use Rattle.std.specs.Prelude.{List, [], ◌∷◌, ◌++◌, ℕ, drop, replicate}
 use Rattle.order.specs.First.{Row, row}
-use Rattle.order.specs.declared.Answer.{Answer}
-use Rattle.order.specs.declared.Answer.TheVariants.{SizeMismatch, InvalidValue, WorkTooShort}
+use Rattle.order.specs.Answer.{Answer}
+use Rattle.order.specs.Answer.{SizeMismatch, InvalidValue, WorkTooShort}
 
 -- the work list after a call that came past sizes and work list: its first k places are 0, the others stay
 abbrev pub cleared : ℕ → List ℕ → List ℕ

@@ -1,19 +1,19 @@
-// The answers that a call can give, by the names of RULES 2.1, and the work list's clearing.
+// Why a call is refused, by the names of RULES 2.1, and the work list's clearing.
 #![tactic(auto)]
 
-ghost use Rattle.std.specs.Prelude.{◌≡◌, length, replicate};
-ghost use Rattle.order.specs.Answer.{number_of, fault_in};
+ghost use Rattle.std.specs.Prelude.{◌≡◌, Result, length, replicate};
+ghost use Rattle.order.specs.Answer.{answer_of, fault_in, number_of, number_with};
 
 // Where a block table is broken: an entry, and the rule of RULES 3.6 that it breaks, 1 to 7; 0 and 0 where it is not.
-#[derive(Clone, Copy)]
+#[derive(Clone, Copy, PartialEq, Eq)]
 pub struct Fault {
     pub entry: usize,
     pub rule: u32,
 }
 
-#[derive(Clone, Copy)]
-pub enum Answer {
-    Done,
+// Why a call is refused. A call that is not answers Done, which is Ok.
+#[derive(Clone, Copy, PartialEq, Eq)]
+pub enum Refusal {
     SizeMismatch,
     InvalidValue,
     WorkTooShort,
@@ -34,50 +34,57 @@ pub enum Answer {
     ReadOnlyVolume,
 }
 
-// The answer's number, as a technician reads it and the C interface gives it.
-pub fn number(answer: Answer) -> u32
-    ensures { result ≡ number_of answer }
+impl Refusal {
+    // The refusal's number, as a technician reads it and the C interface gives it.
+    pub fn number(self) -> u32
+        ensures { result ≡ number_with self }
+    {
+        match self {
+            Refusal::SizeMismatch => 1,
+            Refusal::InvalidValue => 2,
+            Refusal::WorkTooShort => 3,
+            Refusal::BrokenFat(_) => 4,
+            Refusal::NotAFile => 5,
+            Refusal::NoSpace => 6,
+            Refusal::OutOfBound => 7,
+            Refusal::ListTooShort => 8,
+            Refusal::BrokenTree => 9,
+            Refusal::NotFound => 10,
+            Refusal::AlreadyExist => 11,
+            Refusal::Busy => 12,
+            Refusal::DeletingRoot => 13,
+            Refusal::NotEmpty => 14,
+            Refusal::IntoItself => 15,
+            Refusal::NotOpen => 16,
+            Refusal::TooManyOpens => 17,
+            Refusal::ReadOnlyVolume => 20,
+        }
+    }
+}
+
+// The number of a call's answer: the refusal's, or 0 for Done.
+pub fn number<T>(answer: &Result<T, Refusal>) -> u32
+    ensures { result ≡ number_of (answer_of answer.now) }
 {
     match answer {
-        Answer::Done => 0,
-        Answer::SizeMismatch => 1,
-        Answer::InvalidValue => 2,
-        Answer::WorkTooShort => 3,
-        Answer::BrokenFat(_) => 4,
-        Answer::NotAFile => 5,
-        Answer::NoSpace => 6,
-        Answer::OutOfBound => 7,
-        Answer::ListTooShort => 8,
-        Answer::BrokenTree => 9,
-        Answer::NotFound => 10,
-        Answer::AlreadyExist => 11,
-        Answer::Busy => 12,
-        Answer::DeletingRoot => 13,
-        Answer::NotEmpty => 14,
-        Answer::IntoItself => 15,
-        Answer::NotOpen => 16,
-        Answer::TooManyOpens => 17,
-        Answer::ReadOnlyVolume => 20,
+        Ok(_) => 0,
+        Err(why) => why.number(),
     }
 }
 
 // Where the block table is broken, as BrokenFat says; 0 and 0 with every other answer.
-pub fn broken_at(answer: Answer) -> Fault
-    ensures { result ≡ fault_in answer }
+pub fn broken_at<T>(answer: &Result<T, Refusal>) -> Fault
+    ensures { result ≡ fault_in (answer_of answer.now) }
 {
-    let Answer::BrokenFat(found) = answer else {
-        return Fault { entry: 0, rule: 0 };
-    };
-    found
+    match answer {
+        Err(Refusal::BrokenFat(found)) => *found,
+        _ => Fault { entry: 0, rule: 0 },
+    }
 }
 
 // Sets every place of a work list, or of a part of one, to 0.
 pub fn clear(work: &mut [u32])
     ensures { work.new ≡ replicate (length work.old) 0 }
 {
-    let mut i: usize = 0;
-    while i < work.len() {
-        work[i] = 0;
-        i += 1;
-    }
+    work.fill(0);
 }

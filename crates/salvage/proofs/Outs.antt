@@ -11,10 +11,10 @@ use borrow.Author.Tests.{not-true}
 use Rattle.order.specs.Answer.{unbroken}
 use Rattle.order.specs.First.{First}
 use Rattle.order.specs.Beside.{beside}
-use Rattle.order.specs.declared.Answer.{Answer}
+use Rattle.order.specs.Answer.{Answer}
 use Rattle.order.specs.declared.Fault.{Fault}
 use Rattle.order.proofs.Beside.{passed}
-use Rattle.order.specs.declared.Answer.TheVariants as is
+use Rattle.order.specs.Answer as is
 use Rattle.fat_node.specs.Entry.{Bytes}
 use Rattle.fat_node.specs.Node.{Run}
 use Rattle.fat_node.specs.Sizes.{blocks, Misfit, Outside}

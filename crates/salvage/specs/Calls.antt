@@ -5,8 +5,8 @@ use Rattle.order.specs.Gate.{cleared, gate}
 use Rattle.order.specs.Giving.{giving}
 use Rattle.order.specs.Beside.{Beside, beside, Promised}
 use Rattle.order.specs.Answer.{unbroken}
-use Rattle.order.specs.declared.Answer.{Answer}
-use Rattle.order.specs.declared.Answer.TheVariants.{Done, NotAFile, ListTooShort}
+use Rattle.order.specs.Answer.{Answer}
+use Rattle.order.specs.Answer.{Done, NotAFile, ListTooShort}
 use Rattle.order.specs.declared.Fault.{Fault}
 use Rattle.fat_node.specs.Entry.{Bytes}
 use Rattle.fat_node.specs.Node.{NodeAt}

@@ -9,7 +9,7 @@ use lib.ListN.{length, take, drop, replicate, length-replicate, length-append}
 use lib.Seq.{sets, sets-eq, length-take-le}
 use borrow.Author.Tests.{not-true, not-false}
 use Rattle.order.specs.Beside.{beside}
-use Rattle.order.specs.declared.Answer.TheVariants as is
+use Rattle.order.specs.Answer as is
 use Rattle.order.proofs.Beside.{passed}
 use Rattle.fat_node.specs.Entry.{Bytes}
 use Rattle.fat_node.specs.Sizes.{blocks, Misfit, Outside}

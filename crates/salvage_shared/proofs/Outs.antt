@@ -9,7 +9,7 @@ use lib.ListN.{length, take, drop, replicate, length-replicate}
 use lib.Seq.{length-take-le}
 use Rattle.order.specs.Beside.{beside}
 use Rattle.order.proofs.Beside.{passed}
-use Rattle.order.specs.declared.Answer.TheVariants as is
+use Rattle.order.specs.Answer as is
 use Rattle.fat_node.specs.Entry.{Bytes}
 use Rattle.fat_node.specs.Sizes.{blocks, Misfit, Outside}
 use Rattle.fat_node.proofs.Sizes.{denied, fit, inside}

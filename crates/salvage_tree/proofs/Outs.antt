@@ -12,7 +12,7 @@ use lib.ListN.{length, take, drop, replicate, length-replicate}
 use lib.Seq.{sets, sets-eq, length-take-le}
 use Rattle.order.specs.Beside.{beside}
 use Rattle.order.proofs.Beside.{passed}
-use Rattle.order.specs.declared.Answer.TheVariants as is
+use Rattle.order.specs.Answer as is
 use Rattle.links.proofs.Held.{same_or}
 use Rattle.tree_table.specs.Field.{field, count_field}
 use Rattle.tree_table.specs.Chain.{link_at}

@@ -4,8 +4,8 @@ use Rattle.order.specs.First.{Row, row}
 use Rattle.order.specs.Gate.{cleared, gate}
 use Rattle.order.specs.Giving.{giving}
 use Rattle.order.specs.Beside.{Beside, beside, Promised}
-use Rattle.order.specs.declared.Answer.{Answer}
-use Rattle.order.specs.declared.Answer.TheVariants.{Done, ListTooShort}
+use Rattle.order.specs.Answer.{Answer}
+use Rattle.order.specs.Answer.{Done, ListTooShort}
 use Rattle.tree_sound.specs.Sizes.{Beyond}
 use Rattle.salvage_tree.specs.Entries.{entries}
 

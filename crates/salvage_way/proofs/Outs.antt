@@ -8,7 +8,7 @@ use lib.ListN.{length, take, drop, replicate, length-replicate}
 use lib.Seq.{sets, sets-eq, length-take-le}
 use Rattle.order.specs.Beside.{beside}
 use Rattle.order.proofs.Beside.{passed}
-use Rattle.order.specs.declared.Answer.TheVariants as is
+use Rattle.order.specs.Answer as is
 use Rattle.tree_sound.specs.Sizes.{Beyond}
 use Rattle.salvage_tree.specs.Entries.{gone}
 use Rattle.salvage_tree.specs.Calls.{Entered, entered_gives, entered_gate}

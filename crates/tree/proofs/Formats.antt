@@ -10,7 +10,7 @@ use lib.ListN.{length, replicate}
 use lib.Seq.{drop-length}
 use Rattle.order.specs.Gate.{cleared}
 use Rattle.tree_key.specs.Hash.{hash_of}
-use Rattle.order.specs.declared.Answer.TheVariants.{Done}
+use Rattle.order.specs.Answer.{Done}
 use Rattle.order.specs.Tells.{Tells}
 use Rattle.tree_marks.proofs.Walks.{le_or_lt}
 use Rattle.tree_test.proofs.Cases.{tells_not}

@@ -6,8 +6,8 @@ use lib.ListN.{length}
 use Rattle.order.specs.First.{First}
 use Rattle.order.specs.Giving.{giving}
 use Rattle.order.specs.Beside.{beside}
-use Rattle.order.specs.declared.Answer.{Answer}
-use Rattle.order.specs.declared.Answer.TheVariants.{Done}
+use Rattle.order.specs.Answer.{Answer}
+use Rattle.order.specs.Answer.{Done}
 use Rattle.tree_sound.specs.Tables.{Tables, tables, dirs, files}
 use Rattle.tree_test.specs.Promise.{TreeGateOf, PackedGateOf}
 use Rattle.tree_test.specs.declared.Gated.{Gated}

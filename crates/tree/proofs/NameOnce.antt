@@ -3,7 +3,7 @@
 use mathlib.Core.List.{List, []}
 use Prim.Native.Nat.{ℕ}
 use Rattle.order.specs.Giving.{giving}
-use Rattle.order.specs.declared.Answer.TheVariants.{Done}
+use Rattle.order.specs.Answer.{Done}
 use Rattle.tree_sound.specs.Tables.{Tables}
 use Rattle.tree_promises.specs.declared.Kind.{Kind}
 use Rattle.tree_promises.proofs.Unique.{One, one_tree}

@@ -3,8 +3,8 @@ use Rattle.std.specs.Prelude.{List, [], ℕ}
 use Rattle.order.specs.First.{Row}
 use Rattle.order.specs.Giving.{giving}
 use Rattle.order.specs.Beside.{Beside}
-use Rattle.order.specs.declared.Answer.{Answer}
-use Rattle.order.specs.declared.Answer.TheVariants.{Done}
+use Rattle.order.specs.Answer.{Answer}
+use Rattle.order.specs.Answer.{Done}
 use Rattle.tree_sound.specs.Tables.{Tables}
 use Rattle.tree_promises.specs.Kinds.{width, kind_table, kind_view}
 use Rattle.tree_promises.specs.Calls.{live_tests, part}

@@ -3,7 +3,7 @@ ghost use Rattle.std.specs.Prelude.{[]};
 ghost use Rattle.order.specs.First.{First};
 ghost use Rattle.order.specs.Giving.{giving};
 ghost use Rattle.order.specs.Beside.{beside};
-ghost use Rattle.order.specs.declared.Answer.TheVariants.{Done};
+ghost use Rattle.order.specs.Answer.{Done};
 ghost use Rattle.tree_sound.specs.Tables.{Tables, tables};
 ghost use Rattle.tree_promises.specs.Calls.{live_tests, part};
 ghost use Rattle.tree_promises.specs.Inner.Ready.{Single, alone};

@@ -11,7 +11,7 @@ use Rattle.order.specs.First.{Row, First}
 use Rattle.order.specs.Beside.{beside}
 use Rattle.order.specs.Given.{None}
 use Rattle.order.specs.Gate.{cleared}
-use Rattle.order.specs.declared.Answer.TheVariants.{Done}
+use Rattle.order.specs.Answer.{Done}
 use Rattle.links.specs.Links.{◌∈◌, Links, Holds}
 use Rattle.links.proofs.Laws.{next_in}
 use Rattle.links.proofs.Held.{same_or}

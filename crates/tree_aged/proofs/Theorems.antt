@@ -6,7 +6,7 @@ use Prim.Native.Nat.{ℕ, zero, suc, ◌+◌, ◌-◌, ◌≤◌, ◌<◌}
 use native.Mathlib.Omega.{arith}
 use Rattle.order.specs.First.{Row, row, First}
 use Rattle.order.specs.Beside.{beside}
-use Rattle.order.specs.declared.Answer.TheVariants.{Done}
+use Rattle.order.specs.Answer.{Done}
 use Rattle.links.proofs.Held.{same_or}
 use Rattle.tree_table.specs.View.{View, LiveIn}
 use Rattle.tree_sound.specs.Tables.{Tables, dirs, files}

@@ -2,8 +2,8 @@
 use Rattle.std.specs.Prelude.{◌≡◌, List, [], ◌∷◌, ◌++◌, ℕ, zero, suc, ◌-◌}
 use Rattle.order.specs.First.{Row, row}
 use Rattle.order.specs.Beside.{Beside}
-use Rattle.order.specs.declared.Answer.{Answer}
-use Rattle.order.specs.declared.Answer.TheVariants.{Done}
+use Rattle.order.specs.Answer.{Answer}
+use Rattle.order.specs.Answer.{Done}
 use Rattle.tree_table.specs.View.{View}
 use Rattle.tree_sound.specs.Tables.{Tables, dirs, files}
 use Rattle.tree_promises.specs.Promise.{TreePromise}

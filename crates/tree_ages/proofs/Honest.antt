@@ -6,7 +6,7 @@ use mathlib.Core.Bool.{true}
 use Prim.Native.Nat.{ℕ, ◌≤◌, ◌<◌}
 use native.Mathlib.Omega.{arith}
 use lib.ListN.{length}
-use Rattle.order.specs.declared.Answer.TheVariants.{Done}
+use Rattle.order.specs.Answer.{Done}
 use Rattle.links.specs.Links.{◌∈◌, Links}
 use Rattle.links.proofs.Laws.{walked, fewer, kept}
 use Rattle.tree_table.specs.Field.{field}

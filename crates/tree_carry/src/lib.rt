@@ -4,7 +4,7 @@
 ghost use Rattle.std.specs.Prelude.{◌≡◌, [], ◌+◌, ◌*◌, ◌≤◌, length, take, drop, replicate};
 ghost use Rattle.words.specs.Word.{word, put_word};
 ghost use Rattle.order.specs.First.{First};
-ghost use Rattle.order.specs.declared.Answer.TheVariants.{Done};
+ghost use Rattle.order.specs.Answer.{Done};
 ghost use Rattle.tree_sound.specs.Tables.{Tables, tables};
 ghost use Rattle.tree_promises.specs.declared.Kind.TheVariants.{Directory, File};
 ghost use Rattle.tree_promises.specs.Steps.{with_carried};

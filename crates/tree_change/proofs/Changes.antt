@@ -6,8 +6,8 @@ use Prim.Native.Nat.{ℕ, ◌+◌, ◌*◌, ◌/◌, ◌≤◌, ◌<◌}
 use native.Mathlib.Omega.{arith}
 use lib.ListN.{length}
 use Rattle.order.specs.Given.{None}
-use Rattle.order.specs.declared.Answer.{Answer}
-use Rattle.order.specs.declared.Answer.TheVariants.{Done}
+use Rattle.order.specs.Answer.{Answer}
+use Rattle.order.specs.Answer.{Done}
 use Rattle.links.specs.Links.{◌∈◌, Holds}
 use Rattle.links.proofs.Laws.{walked, fewer}
 use Rattle.tree_table.specs.Field.{field, wrote}

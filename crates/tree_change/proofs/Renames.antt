@@ -3,8 +3,8 @@ use mathlib.Core.Path.{◌≡◌, subst}
 use mathlib.Core.List.{List, []}
 use Prim.Native.Nat.{ℕ, ◌+◌, ◌*◌, ◌/◌, ◌≤◌, ◌<◌}
 use lib.ListN.{length}
-use Rattle.order.specs.declared.Answer.{Answer}
-use Rattle.order.specs.declared.Answer.TheVariants.{Done}
+use Rattle.order.specs.Answer.{Answer}
+use Rattle.order.specs.Answer.{Done}
 use Rattle.tree_key.specs.Key.{key_words, name_key}
 use Rattle.tree_key.specs.declared.SaveExtKey.{SaveExtKey}
 use Rattle.tree_sound.specs.Tables.{Tables, tables}

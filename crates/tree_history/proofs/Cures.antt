@@ -11,8 +11,8 @@ use borrow.Author.Tests.{eq-eqb, ne_eqb}
 use Rattle.order.specs.First.{Row, First}
 use Rattle.order.specs.Giving.{giving}
 use Rattle.order.specs.Beside.{Beside, beside, within, Promised}
-use Rattle.order.specs.declared.Answer.{Answer}
-use Rattle.order.specs.declared.Answer.TheVariants.{Done, InvalidValue, DeletingRoot, NotOpen}
+use Rattle.order.specs.Answer.{Answer}
+use Rattle.order.specs.Answer.{Done, InvalidValue, DeletingRoot, NotOpen}
 use Rattle.links.specs.Change.{pick}
 use Rattle.tree_key.specs.Key.{name_key}
 use Rattle.tree_table.specs.View.{LiveIn}

@@ -14,7 +14,7 @@ use Rattle.words.specs.Word.{word}
 use Rattle.words.proofs.Laws.{Bytes}
 use Rattle.order.specs.Gate.{cleared}
 use Rattle.order.specs.Answer.{number_of}
-use Rattle.order.specs.declared.Answer.TheVariants.{Done, SizeMismatch, InvalidValue}
+use Rattle.order.specs.Answer.{Done, SizeMismatch, InvalidValue}
 use Rattle.links.specs.Links.{◌∈◌, Distinct, Links, Holds}
 use Rattle.links.specs.Change.{pick, upd}
 use Rattle.links.proofs.Held.{same_or, upd_same, upd_other}

@@ -10,8 +10,8 @@ use Rattle.order.specs.First.{Row}
 use Rattle.order.specs.Given.{None}
 use Rattle.order.specs.Beside.{Beside}
 use Rattle.order.specs.Answer.{number_of}
-use Rattle.order.specs.declared.Answer.{Answer}
-use Rattle.order.specs.declared.Answer.TheVariants.{Done, SizeMismatch, InvalidValue, WorkTooShort, BrokenTree}
+use Rattle.order.specs.Answer.{Answer}
+use Rattle.order.specs.Answer.{Done, SizeMismatch, InvalidValue, WorkTooShort, BrokenTree}
 use Rattle.order.specs.Giving.{giving}
 use Rattle.tree_sound.specs.Tables.{SoundIn}
 use Rattle.tree_promises.specs.declared.Kind.{Kind}

@@ -14,8 +14,8 @@ use Rattle.order.specs.Given.{None}
 use Rattle.order.specs.Beside.{Beside, beside, within}
 use Rattle.order.specs.First.{Row, First}
 use Rattle.order.specs.Answer.{number_of}
-use Rattle.order.specs.declared.Answer.{Answer}
-use Rattle.order.specs.declared.Answer.TheVariants.{Done, Busy, NotOpen}
+use Rattle.order.specs.Answer.{Answer}
+use Rattle.order.specs.Answer.{Done, Busy, NotOpen}
 use Rattle.links.specs.Change.{pick}
 use Rattle.tree_table.specs.View.{LiveIn}
 use Rattle.tree_sound.specs.Tables.{Tables, dirs, files, rooms_in}

@@ -7,8 +7,8 @@ use native.Mathlib.Omega.{arith}
 use lib.ListN.{length, get_or, set}
 use lib.Seq.{get_or-set_other}
 use Rattle.order.specs.Beside.{Beside}
-use Rattle.order.specs.declared.Answer.{Answer}
-use Rattle.order.specs.declared.Answer.TheVariants.{Done}
+use Rattle.order.specs.Answer.{Answer}
+use Rattle.order.specs.Answer.{Done}
 use Rattle.words.specs.Word.{AreBytes}
 use Rattle.links.proofs.Held.{same_or}
 use Rattle.tree_table.specs.View.{LiveIn}

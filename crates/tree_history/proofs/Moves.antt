@@ -14,8 +14,8 @@ use Rattle.order.specs.Given.{None}
 use Rattle.order.specs.Giving.{giving}
 use Rattle.order.specs.Beside.{Beside, beside, within, Promised}
 use Rattle.order.specs.Answer.{number_of}
-use Rattle.order.specs.declared.Answer.{Answer}
-use Rattle.order.specs.declared.Answer.TheVariants.{Done, SizeMismatch, InvalidValue, WorkTooShort, BrokenTree}
+use Rattle.order.specs.Answer.{Answer}
+use Rattle.order.specs.Answer.{Done, SizeMismatch, InvalidValue, WorkTooShort, BrokenTree}
 use Rattle.links.proofs.Laws.{by_eq}
 use Rattle.links.specs.Links.{◌∈◌, Links}
 use Rattle.links.specs.Change.{pick, walk}

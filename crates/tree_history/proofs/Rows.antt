@@ -7,8 +7,8 @@ use lib.ListN.{length}
 use Rattle.order.specs.First.{Row, First}
 use Rattle.order.specs.Given.{None}
 use Rattle.order.specs.Beside.{Beside, beside, within, Promised}
-use Rattle.order.specs.declared.Answer.{Answer}
-use Rattle.order.specs.declared.Answer.TheVariants.{SizeMismatch, InvalidValue, WorkTooShort, BrokenTree}
+use Rattle.order.specs.Answer.{Answer}
+use Rattle.order.specs.Answer.{SizeMismatch, InvalidValue, WorkTooShort, BrokenTree}
 use Rattle.tree_test.specs.Gate.{entry_gate}
 use Rattle.tree_sound.specs.Tables.{Tables, dirs, files, OutsideIn, rooms_in, SoundIn}
 use Rattle.order.specs.Giving.{giving}

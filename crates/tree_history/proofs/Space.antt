@@ -10,8 +10,8 @@ use Rattle.order.specs.First.{Row}
 use Rattle.order.specs.Giving.{giving}
 use Rattle.order.specs.Beside.{Beside}
 use Rattle.order.specs.Answer.{number_of}
-use Rattle.order.specs.declared.Answer.{Answer}
-use Rattle.order.specs.declared.Answer.TheVariants.{Done, SizeMismatch, InvalidValue, WorkTooShort, NoSpace, BrokenTree}
+use Rattle.order.specs.Answer.{Answer}
+use Rattle.order.specs.Answer.{Done, SizeMismatch, InvalidValue, WorkTooShort, NoSpace, BrokenTree}
 use Rattle.tree_table.specs.View.{LiveIn}
 use Rattle.tree_table.specs.Steps.{free_of}
 use Rattle.tree_sound.specs.Tables.{Tables, dirs, files}

@@ -4,8 +4,8 @@ use mathlib.Core.List.{List}
 use Prim.Native.Nat.{ℕ, ◌≤◌, ◌<◌}
 use native.Mathlib.Omega.{arith}
 use lib.ListN.{length}
-use Rattle.order.specs.declared.Answer.{Answer}
-use Rattle.order.specs.declared.Answer.TheVariants.{Done, BrokenTree}
+use Rattle.order.specs.Answer.{Answer}
+use Rattle.order.specs.Answer.{Done, BrokenTree}
 use Rattle.tree_test.specs.Gate.{tree_gate}
 use Rattle.tree_test.specs.Promise.{tested, test_done, TestPromise}
 use Rattle.tree_test.specs.declared.Tested.{Tested}

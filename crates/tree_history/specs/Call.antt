@@ -1,8 +1,8 @@
 -- The public calls on the entry tables, as steps of a history.
 use Rattle.std.specs.Prelude.{◌≡◌, List, ℕ}
 use Rattle.order.specs.Beside.{Beside}
-use Rattle.order.specs.declared.Answer.{Answer}
-use Rattle.order.specs.declared.Answer.TheVariants.{Done}
+use Rattle.order.specs.Answer.{Answer}
+use Rattle.order.specs.Answer.{Done}
 use Rattle.tree_test.specs.Promise.{TestPromise}
 use Rattle.tree_test.specs.declared.Tested.{Tested}
 use Rattle.tree_sound.specs.Tables.{Tables}

@@ -1,8 +1,8 @@
 -- Who holds what, over a history: the opens that calls gave and that were not given back.
 use Rattle.std.specs.Prelude.{◌≡◌, Bool, true, false, ◌&&◌, ℕ, zero, suc, ◌+◌, ◌-◌, eqb}
 use Rattle.order.specs.Answer.{number_of}
-use Rattle.order.specs.declared.Answer.{Answer}
-use Rattle.order.specs.declared.Answer.TheVariants.{Done, Busy, NotOpen}
+use Rattle.order.specs.Answer.{Answer}
+use Rattle.order.specs.Answer.{Done, Busy, NotOpen}
 use Rattle.links.specs.Change.{pick}
 use Rattle.tree_table.specs.View.{LiveIn}
 use Rattle.tree_opens.specs.Opens.{opened}

@@ -1,7 +1,7 @@
 -- The names that stand in the tables.
 use Rattle.std.specs.Prelude.{◌≡◌, List, [], ◌∷◌, ◌++◌, Bool, true, ℕ, ◌/◌, ◌%◌, eqb, get_or}
-use Rattle.order.specs.declared.Answer.{Answer}
-use Rattle.order.specs.declared.Answer.TheVariants.{Done, InvalidValue, DeletingRoot, NotOpen}
+use Rattle.order.specs.Answer.{Answer}
+use Rattle.order.specs.Answer.{Done, InvalidValue, DeletingRoot, NotOpen}
 use Rattle.links.specs.Change.{pick}
 use Rattle.tree_table.specs.View.{View, LiveIn}
 use Rattle.tree_sound.specs.Tables.{Tables, dirs, files}

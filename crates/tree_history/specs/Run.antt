@@ -1,5 +1,5 @@
 -- A history of the entry tables: public calls one after the other, whatever each answers.
-use Rattle.order.specs.declared.Answer.{Answer}
+use Rattle.order.specs.Answer.{Answer}
 use Rattle.tree_history.specs.Call.{State, Call}
 
 -- from the state s by calls to a state

@@ -11,8 +11,8 @@ use lib.ListN.{length}
 use borrow.Author.Tests.{not-true, not-false, eq-eqb, ne_eqb, le-leb, leb-true}
 use Rattle.order.specs.First.{Row, row, First}
 use Rattle.order.specs.Given.{Given, None}
-use Rattle.order.specs.declared.Answer.{Answer}
-use Rattle.order.specs.declared.Answer.TheVariants.{NotFound, NotOpen, Busy, DeletingRoot, NotEmpty}
+use Rattle.order.specs.Answer.{Answer}
+use Rattle.order.specs.Answer.{NotFound, NotOpen, Busy, DeletingRoot, NotEmpty}
 use Rattle.links.specs.Links.{◌∈◌}
 use Rattle.links.specs.Change.{walk}
 use Rattle.tree_key.specs.Hash.{hash_of}

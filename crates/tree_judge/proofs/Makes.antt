@@ -6,8 +6,8 @@ use mathlib.Core.Logic.{inl}
 use Prim.Native.Nat.{ℕ, ◌-◌}
 use Rattle.order.specs.First.{Row, row}
 use Rattle.order.specs.Given.{None}
-use Rattle.order.specs.declared.Answer.{Answer}
-use Rattle.order.specs.declared.Answer.TheVariants.{TooManyOpens}
+use Rattle.order.specs.Answer.{Answer}
+use Rattle.order.specs.Answer.{TooManyOpens}
 use Rattle.tree_table.specs.Chain.{link_at}
 use Rattle.links.specs.Change.{pick}
 use Rattle.links.proofs.Laws.{by_eq}

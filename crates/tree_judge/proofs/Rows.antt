@@ -8,8 +8,8 @@ use native.Mathlib.Omega.{arith}
 use borrow.Author.Tests.{not-true, not-false}
 use Rattle.order.specs.First.{Row, row, First}
 use Rattle.order.specs.Given.{Given, None}
-use Rattle.order.specs.declared.Answer.{Answer}
-use Rattle.order.specs.declared.Answer.TheVariants.{InvalidValue, NotFound, DeletingRoot, IntoItself, AlreadyExist, NoSpace}
+use Rattle.order.specs.Answer.{Answer}
+use Rattle.order.specs.Answer.{InvalidValue, NotFound, DeletingRoot, IntoItself, AlreadyExist, NoSpace}
 use Rattle.links.specs.Links.{◌∈◌, Links}
 use Rattle.links.proofs.Held.{same_or}
 use Rattle.tree_key.specs.Key.{name_key}

@@ -5,7 +5,7 @@ use mathlib.Core.Logic.{inl, inr}
 use Rattle.order.specs.First.{Row, First}
 use Rattle.order.specs.Given.{Given, None}
 use Rattle.order.specs.Giving.{giving}
-use Rattle.order.specs.declared.Answer.{Answer}
+use Rattle.order.specs.Answer.{Answer}
 
 pub given_first : {A : Type 0} (g : Answer → A) (d : A) (rs : List (Row Answer)) (a : Answer) → Given rs a → First (giving g rs) d (g a)
 given_first g d [] a p = absurd p

@@ -7,7 +7,7 @@ use Prim.Native.Nat.{ℕ, ◌+◌, ◌-◌, ◌*◌, ◌/◌, ◌%◌, ◌<◌}
 use native.Mathlib.Omega.{arith}
 use lib.ListN.{length}
 use Rattle.order.specs.First.{First}
-use Rattle.order.specs.declared.Answer.TheVariants.{Done, NotFound}
+use Rattle.order.specs.Answer.{Done, NotFound}
 use Rattle.words.specs.Word.{word}
 use Rattle.links.specs.Links.{◌∈◌}
 use Rattle.links.specs.Change.{pick}

@@ -10,8 +10,8 @@ use lib.ListN.{length, take, drop}
 use Rattle.order.specs.First.{Row, First}
 use Rattle.order.specs.Giving.{giving}
 use Rattle.order.specs.Given.{Given, None}
-use Rattle.order.specs.declared.Answer.{Answer}
-use Rattle.order.specs.declared.Answer.TheVariants.{Done, NotFound, TooManyOpens}
+use Rattle.order.specs.Answer.{Answer}
+use Rattle.order.specs.Answer.{Done, NotFound, TooManyOpens}
 use Rattle.tree_table.specs.Field.{field}
 use Rattle.order.specs.Tells.{Tells}
 use Rattle.tree_test.proofs.Cases.{tells_not}

@@ -3,7 +3,7 @@ use mathlib.Core.Path.{◌≡◌, refl, sym, ap, ◌∙◌}
 use mathlib.Core.Logic.{inl, inr}
 use Prim.Native.Nat.{ℕ, ◌+◌, ◌-◌, ◌≤◌, ◌<◌}
 use native.Mathlib.Omega.{arith}
-use Rattle.order.specs.declared.Answer.TheVariants.{Busy, NotOpen, TooManyOpens}
+use Rattle.order.specs.Answer.{Busy, NotOpen, TooManyOpens}
 use Rattle.tree_opens.specs.Record.{readers, writer, total, writer_alone}
 use Rattle.tree_opens.specs.Step.{holds, more, less, more_tests, less_tests, SteppedBy}
 use Rattle.tree_opens.specs.declared.Want.{Want}

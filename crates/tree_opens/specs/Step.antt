@@ -3,8 +3,8 @@
 use Rattle.std.specs.Prelude.{◌≡◌, List, [], ◌∷◌, ℕ, ◌+◌, ◌-◌, ◌≤◌}
 use Rattle.order.specs.First.{Row, row}
 use Rattle.order.specs.Given.{Given, None}
-use Rattle.order.specs.declared.Answer.{Answer}
-use Rattle.order.specs.declared.Answer.TheVariants.{Busy, NotOpen, TooManyOpens}
+use Rattle.order.specs.Answer.{Answer}
+use Rattle.order.specs.Answer.{Busy, NotOpen, TooManyOpens}
 use Rattle.tree_opens.specs.Record.{readers, writer, total, writer_alone}
 use Rattle.tree_opens.specs.declared.Want.{Want}
 use Rattle.tree_opens.specs.declared.Want.TheVariants.{Reader, Writer}

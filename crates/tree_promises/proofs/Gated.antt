@@ -12,8 +12,8 @@ use Rattle.order.specs.Gate.{refusal}
 use Rattle.order.specs.Given.{None}
 use Rattle.order.specs.Giving.{giving}
 use Rattle.order.specs.Beside.{beside, Promised}
-use Rattle.order.specs.declared.Answer.{Answer}
-use Rattle.order.specs.declared.Answer.TheVariants.{BrokenTree}
+use Rattle.order.specs.Answer.{Answer}
+use Rattle.order.specs.Answer.{BrokenTree}
 use Rattle.order.proofs.Gate.{gate_given, gate_none}
 use Rattle.order.proofs.Beside.{refused, passed}
 use Rattle.tree_sound.specs.Tables.{Tables, MisfitIn, OutsideIn, rooms_in, SoundIn}

@@ -6,8 +6,8 @@ use Prim.Native.Nat.{ℕ}
 use lib.ListN.{length, replicate}
 use Rattle.order.specs.First.{Row}
 use Rattle.order.specs.Beside.{Beside, beside, within, Promised}
-use Rattle.order.specs.declared.Answer.{Answer}
-use Rattle.order.specs.declared.Answer.TheVariants.{Done}
+use Rattle.order.specs.Answer.{Answer}
+use Rattle.order.specs.Answer.{Done}
 use Rattle.order.proofs.One.{one}
 use Rattle.tree_key.specs.Key.{name_key}
 use Rattle.tree_table.specs.View.{View}

@@ -3,8 +3,8 @@
 use Rattle.std.specs.Prelude.{◌≡◌, List, [], ◌∷◌, ◌++◌, false, ◌⊎◌, ℕ, ◌+◌, ◌-◌, ◌*◌, ◌<◌, length, take, drop}
 use Rattle.order.specs.First.{Row, row, First}
 use Rattle.order.specs.Giving.{giving}
-use Rattle.order.specs.declared.Answer.{Answer}
-use Rattle.order.specs.declared.Answer.TheVariants.{
+use Rattle.order.specs.Answer.{Answer}
+use Rattle.order.specs.Answer.{
   Done,
   InvalidValue,
   NoSpace,

@@ -3,7 +3,7 @@
 use Rattle.std.specs.Prelude.{List, [], ◌∷◌, ◌⊎◌, ℕ, ◌*◌, ◌%◌, ◌<◌, length, replicate}
 use Rattle.order.specs.First.{Row, row, First}
 use Rattle.order.specs.Gate.{cleared}
-use Rattle.order.specs.declared.Answer.TheVariants.{Done, SizeMismatch, InvalidValue}
+use Rattle.order.specs.Answer.{Done, SizeMismatch, InvalidValue}
 use Rattle.tree_key.specs.Hash.{hash_of}
 use Rattle.tree_table.specs.Field.{write, wrote, collision_field, count_field, maximum_field}
 use Rattle.tree_sound.specs.Sizes.{buckets}

@@ -5,8 +5,8 @@ use Rattle.std.specs.Prelude.{List, [], ◌∷◌, ◌++◌, ℕ}
 use Rattle.order.specs.First.{Row, row, First}
 use Rattle.order.specs.Giving.{giving}
 use Rattle.order.specs.Beside.{Beside, beside, Promised}
-use Rattle.order.specs.declared.Answer.{Answer}
-use Rattle.order.specs.declared.Answer.TheVariants.{Done, TooManyOpens}
+use Rattle.order.specs.Answer.{Answer}
+use Rattle.order.specs.Answer.{Done, TooManyOpens}
 use Rattle.tree_table.specs.View.{View}
 use Rattle.tree_table.specs.Steps.{taken}
 use Rattle.tree_test.specs.Gate.{packed_gate}

@@ -4,7 +4,7 @@ use Rattle.std.specs.Prelude.{List, ℕ, length}
 use Rattle.order.specs.First.{Row}
 use Rattle.order.specs.Gate.{cleared}
 use Rattle.order.specs.Beside.{Beside, beside, Promised}
-use Rattle.order.specs.declared.Answer.{Answer}
+use Rattle.order.specs.Answer.{Answer}
 use Rattle.tree_sound.specs.Tables.{Tables, rooms_in}
 use Rattle.tree_test.specs.Gate.{tree_gate, open_gate}
 use Rattle.tree_promises.specs.declared.Kind.{Kind}

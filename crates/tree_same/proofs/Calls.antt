@@ -10,8 +10,8 @@ use Rattle.order.specs.First.{Row, row}
 use Rattle.order.specs.Given.{Given, None}
 use Rattle.order.specs.Giving.{giving}
 use Rattle.order.specs.Beside.{Beside, beside}
-use Rattle.order.specs.declared.Answer.{Answer}
-use Rattle.order.specs.declared.Answer.TheVariants.{Done, InvalidValue, NotFound, AlreadyExist, Busy, TooManyOpens}
+use Rattle.order.specs.Answer.{Answer}
+use Rattle.order.specs.Answer.{Done, InvalidValue, NotFound, AlreadyExist, Busy, TooManyOpens}
 use Rattle.links.specs.Change.{pick}
 use Rattle.links.proofs.Laws.{by_eq}
 use Rattle.tree_key.specs.Key.{name_key}

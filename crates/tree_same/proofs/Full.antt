@@ -10,8 +10,8 @@ use Rattle.order.specs.Given.{None}
 use Rattle.order.specs.Giving.{giving}
 use Rattle.order.specs.Beside.{Beside, beside, within}
 use Rattle.order.specs.Answer.{number_of}
-use Rattle.order.specs.declared.Answer.{Answer}
-use Rattle.order.specs.declared.Answer.TheVariants.{TooManyOpens}
+use Rattle.order.specs.Answer.{Answer}
+use Rattle.order.specs.Answer.{TooManyOpens}
 use Rattle.tree_table.specs.View.{LiveIn}
 use Rattle.tree_table.specs.Steps.{taken}
 use Rattle.tree_sound.specs.Tables.{Tables, rooms_in}

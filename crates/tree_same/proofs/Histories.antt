@@ -9,8 +9,8 @@ use lib.ListN.{length}
 use Rattle.order.specs.First.{Row, row}
 use Rattle.order.specs.Given.{Given, None}
 use Rattle.order.specs.Beside.{Beside, beside}
-use Rattle.order.specs.declared.Answer.{Answer}
-use Rattle.order.specs.declared.Answer.TheVariants.{TooManyOpens}
+use Rattle.order.specs.Answer.{Answer}
+use Rattle.order.specs.Answer.{TooManyOpens}
 use Rattle.links.proofs.Held.{same_or}
 use Rattle.tree_table.specs.Steps.{taken}
 use Rattle.tree_sound.specs.Tables.{Tables}

@@ -10,8 +10,8 @@ use Rattle.order.specs.First.{Row, row, First}
 use Rattle.order.specs.Given.{Given, None}
 use Rattle.order.specs.Giving.{giving}
 use Rattle.order.specs.Beside.{Beside, beside, within}
-use Rattle.order.specs.declared.Answer.{Answer}
-use Rattle.order.specs.declared.Answer.TheVariants.{SizeMismatch, InvalidValue, WorkTooShort, BrokenTree}
+use Rattle.order.specs.Answer.{Answer}
+use Rattle.order.specs.Answer.{SizeMismatch, InvalidValue, WorkTooShort, BrokenTree}
 use Rattle.tree_sound.specs.Tables.{Tables, dirs, files, OutsideIn, rooms_in, SoundIn}
 use Rattle.tree_promises.specs.declared.Kind.{Kind}
 use Rattle.tree_promises.specs.declared.Kind.TheVariants.{Directory, File}

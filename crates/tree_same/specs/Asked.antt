@@ -1,6 +1,6 @@
 -- What a call is asked, and that a call over one record for each inode is asked just that.
 use Rattle.std.specs.Prelude.{◌≡◌, List, ℕ}
-use Rattle.order.specs.declared.Answer.{Answer}
+use Rattle.order.specs.Answer.{Answer}
 use Rattle.tree_opens.specs.declared.Want.{Want}
 use Rattle.tree_promises.specs.declared.Kind.{Kind}
 use Rattle.tree_history.specs.Call as dense

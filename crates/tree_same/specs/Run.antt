@@ -1,8 +1,8 @@
 -- Runs of the calls over the packed lists, and over one record for each inode.
 use Rattle.std.specs.Prelude.{◌≡◌, List, [], ◌∷◌, ℕ, ◌≤◌, length}
 use Rattle.order.specs.Beside.{Beside}
-use Rattle.order.specs.declared.Answer.{Answer}
-use Rattle.order.specs.declared.Answer.TheVariants.{TooManyOpens}
+use Rattle.order.specs.Answer.{Answer}
+use Rattle.order.specs.Answer.{TooManyOpens}
 use Rattle.words.specs.Word.{AreBytes}
 use Rattle.tree_table.specs.Steps.{taken}
 use Rattle.tree_sound.specs.Tables.{Tables}

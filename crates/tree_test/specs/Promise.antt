@@ -3,8 +3,8 @@ use Rattle.std.specs.Prelude.{◌≡◌, List, ℕ}
 use Rattle.order.specs.First.{Row, First}
 use Rattle.order.specs.Gate.{cleared, Refusal, refusal}
 use Rattle.order.specs.Given.{Given, None}
-use Rattle.order.specs.declared.Answer.{Answer}
-use Rattle.order.specs.declared.Answer.TheVariants.{Done}
+use Rattle.order.specs.Answer.{Answer}
+use Rattle.order.specs.Answer.{Done}
 use Rattle.tree_sound.specs.Tables.{Tables, rooms_in, SoundIn}
 use Rattle.tree_packed.specs.Opens.{Opens}
 use Rattle.tree_test.specs.Gate.{tree_gate, packed_gate}

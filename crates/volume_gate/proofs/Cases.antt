@@ -11,8 +11,8 @@ use Rattle.order.specs.Gate.{later, gate, cleared, Refusal, refusal}
 use Rattle.order.specs.Given.{Given, None}
 use Rattle.order.proofs.Gate.{later_says, later_past, past_later}
 use Rattle.order.specs.Answer.{number_of}
-use Rattle.order.specs.declared.Answer.{Answer}
-use Rattle.order.specs.declared.Answer.TheVariants.{SizeMismatch, InvalidValue, WorkTooShort, BrokenTree}
+use Rattle.order.specs.Answer.{Answer}
+use Rattle.order.specs.Answer.{SizeMismatch, InvalidValue, WorkTooShort, BrokenTree}
 use Rattle.fat_node.specs.Entry.{Bytes}
 use Rattle.fat_node.specs.Sizes.{blocks}
 use Rattle.fat_node.proofs.Sizes.{inside}

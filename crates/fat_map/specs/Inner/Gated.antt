@@ -3,7 +3,7 @@ use Rattle.std.specs.Prelude.{◌≡◌, List, [], ℕ}
 use Rattle.order.specs.First.{Row, First}
 use Rattle.order.specs.Gate.{cleared, refusal}
 use Rattle.order.specs.Given.{Given, None}
-use Rattle.order.specs.declared.Answer.{Answer}
+use Rattle.order.specs.Answer.{Answer}
 use Rattle.fat_node.specs.Entry.{Bytes}
 use Rattle.fat_node.specs.Sizes.{blocks}
 use Rattle.fat_table.specs.Sound.{Sound}

@@ -3,7 +3,7 @@ use mathlib.Core.Path.{◌≡◌, refl, sym, ap, subst, ◌∙◌}
 use Prim.Native.Nat.{ℕ}
 use native.Mathlib.Omega.{arith}
 use lib.ListN.{length, replicate}
-use Rattle.order.specs.declared.Answer.TheVariants.{BrokenFat}
+use Rattle.order.specs.Answer.{BrokenFat}
 use Rattle.fat_ends.specs.Promise.{Judged}
 use Rattle.fat_fault.specs.Fault.{fault_of}
 use Rattle.fat_test.proofs.ruling.Goals as goal

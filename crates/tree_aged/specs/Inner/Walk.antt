@@ -1,7 +1,7 @@
 -- What the walk along the links says: a depth-first walk, with a mark for each entry in the work list.
 use Rattle.std.specs.Prelude.{◌≡◌, List, ◌∷◌, ◌++◌, ◌⊎◌, Bool, true, false, ℕ, ◌*◌, ◌/◌, ◌≤◌, ◌<◌, length, get_or, take, replicate}
 use Rattle.order.specs.First.{Row, row, First}
-use Rattle.order.specs.declared.Answer.TheVariants.{Done}
+use Rattle.order.specs.Answer.{Done}
 use Rattle.links.specs.Links.{◌∈◌, Links}
 use Rattle.tree_table.specs.Field.{field}
 use Rattle.tree_table.specs.View.{View, removed_of}

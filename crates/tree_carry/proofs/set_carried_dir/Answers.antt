@@ -1,7 +1,7 @@
 use mathlib.Core.Path.{refl, ap}
 use mathlib.Core.Logic.{inl, inr}
 use borrow.Author.Tests.{not-true, not-false}
-use Rattle.order.specs.declared.Answer.TheVariants.{Done}
+use Rattle.order.specs.Answer.{Done}
 use Rattle.tree_promises.specs.Inner.Ready.{set_gives}
 use Rattle.tree_test.proofs.Cases.{tells_not}
 use Rattle.tree_look.proofs.Opens.{live_fits}

@@ -4,7 +4,7 @@ use Rattle.tree_promises.specs.Inner.Ready.{alone}
 use Prim.Native.Nat.{◌<◌}
 use mathlib.Core.List.{[], ◌∷◌}
 use Rattle.order.specs.First.{row}
-use Rattle.order.specs.declared.Answer.TheVariants.{Busy}
+use Rattle.order.specs.Answer.{Busy}
 use Rattle.tree_opens.specs.Record.{readers}
 use Rattle.tree_judge.proofs.judge_delete.Goals as goal
 

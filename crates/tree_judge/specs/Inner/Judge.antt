@@ -2,7 +2,7 @@
 use Rattle.std.specs.Prelude.{List}
 use Rattle.order.specs.First.{Row}
 use Rattle.order.specs.Given.{Given, None}
-use Rattle.order.specs.declared.Answer.{Answer}
+use Rattle.order.specs.Answer.{Answer}
 use Rattle.tree_judge.specs.declared.Judged.{Judged}
 use Rattle.tree_judge.specs.declared.Judged.TheVariants.{Go, Refused}
 

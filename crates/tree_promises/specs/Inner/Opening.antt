@@ -2,8 +2,8 @@
 use Rattle.std.specs.Prelude.{ℕ}
 use Rattle.order.specs.First.{First}
 use Rattle.order.specs.Giving.{giving}
-use Rattle.order.specs.declared.Answer.{Answer}
-use Rattle.order.specs.declared.Answer.TheVariants.{Done}
+use Rattle.order.specs.Answer.{Answer}
+use Rattle.order.specs.Answer.{Done}
 use Rattle.tree_table.specs.View.{View}
 use Rattle.tree_packed.specs.Opens.{Opens, record_of}
 use Rattle.tree_opens.specs.declared.Want.{Want}

@@ -2,7 +2,7 @@
 use Rattle.std.specs.Prelude.{List, ℕ, ◌/◌, ◌≤◌, ◌<◌, length}
 use Rattle.order.specs.First.{Row}
 use Rattle.order.specs.Giving.{giving}
-use Rattle.order.specs.declared.Answer.{Answer}
+use Rattle.order.specs.Answer.{Answer}
 use Rattle.tree_table.specs.Field.{field}
 use Rattle.tree_table.specs.View.{View, view_of, hash_at, LiveIn}
 use Rattle.tree_sound.specs.Sizes.{buckets, dir_room, file_room}
