@@ -1,15 +1,13 @@
 -- What open and close do to the record r of an inode, and the rows that are about the record alone. Opening says which it wants, a reader's open or the
 -- writer's; closing says which it gives back.
-use Rattle.std.specs.Prelude.{◌≡◌, List, [], ◌∷◌, ℕ, ◌+◌, ◌-◌, ◌≤◌}
+use Rattle.std.specs.Prelude.{◌≡◌, List, [], ◌∷◌, Result, Ok, Err, ℕ, ◌+◌, ◌-◌, ◌≤◌}
 use Rattle.order.specs.First.{Row, row}
 use Rattle.order.specs.Given.{Given, None}
-use Rattle.order.specs.Answer.{Answer}
-use Rattle.order.specs.Answer.{Busy, NotOpen, TooManyOpens}
+use Rattle.order.specs.Answer.{Answer, Busy, NotOpen, TooManyOpens}
+use Rattle.order.specs.declared.Refusal.{Refusal}
 use Rattle.tree_opens.specs.Record.{readers, writer, total, writer_alone}
 use Rattle.tree_opens.specs.declared.Want.{Want}
 use Rattle.tree_opens.specs.declared.Want.TheVariants.{Reader, Writer}
-use Rattle.tree_opens.specs.declared.Stepped.{Stepped}
-use Rattle.tree_opens.specs.declared.Stepped.TheVariants.{To, Refused}
 
 -- how many opens of the kind are held
 abbrev pub holds : (r : ℕ) (want : Want) → ℕ
@@ -40,6 +38,6 @@ abbrev pub less_tests : (r : ℕ) (want : Want) → List (Row Answer)
 less_tests r want = row (holds r want ≡ 0) NotOpen ∷ []
 
 -- what the code decides: no row applies and this is the record to be, or the first row that applies gives the answer
-abbrev pub SteppedBy : (tests : List (Row Answer)) (to : ℕ) → Stepped → Type 0
-SteppedBy tests to (To r) = None tests × (r ≡ to)
-SteppedBy tests to (Refused answer) = Given tests answer
+abbrev pub SteppedBy : (tests : List (Row Answer)) (to : ℕ) → Result ℕ Refusal → Type 0
+SteppedBy tests to (Ok r) = None tests × (r ≡ to)
+SteppedBy tests to (Err why) = Given tests (Err why)

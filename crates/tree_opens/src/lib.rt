@@ -6,23 +6,16 @@ ghost use Rattle.std.specs.Prelude.{◌≡◌};
 ghost use Rattle.tree_opens.specs.Record.{readers, writer, total};
 ghost use Rattle.tree_opens.specs.Step.{more, less, more_tests, less_tests, SteppedBy};
 
-use order::Answer;
+use order::Refusal;
 
 // The top bit.
 const WRITER: u32 = 2147483648;
 
 // Which open is asked for, or given back.
-#[derive(Drop)]
+#[derive(Clone, Copy)]
 pub enum Want {
     Reader,
     Writer,
-}
-
-// A record after an open or a close, or the answer that refuses it.
-#[derive(Drop)]
-pub enum Stepped {
-    To(u32),
-    Refused { answer: Answer },
 }
 
 // The readers in a record.
@@ -47,47 +40,39 @@ fn total_in(record: u32) -> u32
 }
 
 // The record with one open more: TooManyOpens, Busy.
-pub fn one_more(record: u32, want: Want) -> Stepped
+pub fn one_more(record: u32, want: Want) -> Result<u32, Refusal>
     ensures { SteppedBy (more_tests «record» want) (more «record» want) result }
 {
     if total_in(record) >= 65535 {
-        return Stepped::Refused {
-            answer: Answer::TooManyOpens,
-        };
+        return Err(Refusal::TooManyOpens);
     }
     match want {
-        Want::Reader => Stepped::To(record + 1),
+        Want::Reader => Ok(record + 1),
         Want::Writer => {
             if writer_in(record) != 0 {
-                return Stepped::Refused {
-                    answer: Answer::Busy,
-                };
+                return Err(Refusal::Busy);
             }
-            Stepped::To(record + WRITER)
+            Ok(record + WRITER)
         }
     }
 }
 
 // The record with one open less: NotOpen.
-pub fn one_less(record: u32, want: Want) -> Stepped
+pub fn one_less(record: u32, want: Want) -> Result<u32, Refusal>
     ensures { SteppedBy (less_tests «record» want) (less «record» want) result }
 {
     match want {
         Want::Reader => {
             if readers_in(record) == 0 {
-                return Stepped::Refused {
-                    answer: Answer::NotOpen,
-                };
+                return Err(Refusal::NotOpen);
             }
-            Stepped::To(record - 1)
+            Ok(record - 1)
         }
         Want::Writer => {
             if writer_in(record) == 0 {
-                return Stepped::Refused {
-                    answer: Answer::NotOpen,
-                };
+                return Err(Refusal::NotOpen);
             }
-            Stepped::To(record - WRITER)
+            Ok(record - WRITER)
         }
     }
 }

@@ -1,9 +1,7 @@
 -- The open records of one table's inodes, packed: the list, and the number of records in it.
-use Rattle.std.specs.Prelude.{List, ℕ}
+use Rattle.std.specs.Prelude.{List, ℕ, Option, Some, None}
 use Rattle.tree_packed.specs.Packed.{Packed, rec}
 use Rattle.tree_packed.specs.Put.{IsFull, put_of}
-use Rattle.tree_packed.specs.declared.Kept.{Kept}
-use Rattle.tree_packed.specs.declared.Kept.TheVariants.{Records, Full}
 
 pub record Opens : Type 0 where
   pub count : ℕ
@@ -25,9 +23,9 @@ abbrev pub NoPlace : (o : Opens) (x : ℕ) → Type 0
 NoPlace o x = IsFull o.count o.list x
 
 -- how many records there are after a put: as many as before where it found no place
-abbrev pub many : (before : ℕ) → Kept → ℕ
-many before (Records count) = count
-many before Full = before
+abbrev pub many : (before : ℕ) → Option ℕ → ℕ
+many before (Some count) = count
+many before None = before
 
 -- the records once inode x has the record r: inserted, replaced or, where r is 0, taken out; as they were where there is no place for it
 abbrev pub with_record : (o : Opens) (x r : ℕ) → Opens

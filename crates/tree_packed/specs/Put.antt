@@ -1,9 +1,7 @@
 -- A record put into a packed list: inserted, replaced or, where it is 0, taken out.
-use Rattle.std.specs.Prelude.{◌≡◌, List, [], ◌∷◌, ◌++◌, ℕ, ◌+◌, ◌-◌, ◌*◌, ◌<◌, eqb, ltb, length, set, take, drop}
+use Rattle.std.specs.Prelude.{◌≡◌, List, [], ◌∷◌, ◌++◌, Option, Some, None, ℕ, ◌+◌, ◌-◌, ◌*◌, ◌<◌, eqb, ltb, length, set, take, drop}
 use Rattle.links.specs.Change.{pick}
 use Rattle.tree_packed.specs.Packed.{rec, below}
-use Rattle.tree_packed.specs.declared.Kept.{Kept}
-use Rattle.tree_packed.specs.declared.Kept.TheVariants.{Records, Full}
 
 -- the record at place j taken out of k: those behind it come down by one record, and the two places that the last of them left keep what stood there,
 -- as does every place after them
@@ -18,12 +16,12 @@ put_in k j x r l = take (2 * j) l ++ ((x ∷ r ∷ []) ++ (take (2 * k - 2 * j) 
 abbrev pub IsFull : ℕ → List ℕ → ℕ → Type 0
 IsFull k l x = (rec k l x ≡ 0) × (length l < 2 * (k + 1))
 
--- what a put gives: the number of records, or that the list is full; and the list
+-- what a put gives: the number of records, or none where the list is full; and the list
 pub record Put : Type 0 where
-  pub kept : Kept
+  pub kept : Option ℕ
   pub list : List ℕ
 
-abbrev pub gives : Kept → List ℕ → Put
+abbrev pub gives : Option ℕ → List ℕ → Put
 gives a l = record { kept = a; list = l }
 
 -- the record r of x put into the k records of l
@@ -31,10 +29,10 @@ unfoldable pub put_of : ℕ → List ℕ → ℕ → ℕ → Put
 put_of k l x r =
     pick (eqb (rec k l x) 0)
     (pick (eqb r 0)
-    (gives (Records k) l)
+    (gives (Some k) l)
     (pick (ltb (length l) (2 * (k + 1)))
-    (gives Full l)
-    (gives (Records (k + 1)) (put_in k (below k l x) x r l))))
+    (gives None l)
+    (gives (Some (k + 1)) (put_in k (below k l x) x r l))))
     (pick (eqb r 0)
-    (gives (Records (k - 1)) (taken_out k (below k l x) l))
-    (gives (Records k) (set l (2 * below k l x + 1) r)))
+    (gives (Some (k - 1)) (taken_out k (below k l x) l))
+    (gives (Some k) (set l (2 * below k l x + 1) r)))

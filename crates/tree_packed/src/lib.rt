@@ -102,35 +102,28 @@ fn put_in(list: &mut [u32], k: usize, j: usize, inode: u32, record: u32)
     list[i + 1] = record;
 }
 
-// What a put gives: the number of records afterwards, or that no place is left.
-#[derive(Drop)]
-pub enum Kept {
-    Records(usize),
-    Full,
-}
-
-// Puts the record of an inode: inserted, replaced or, where it is 0, taken out.
-pub fn put(list: &mut [u32], k: usize, inode: u32, record: u32) -> Kept
+// Puts the record of an inode: inserted, replaced or, where it is 0, taken out. The number of records afterwards, or None where no place is left.
+pub fn put(list: &mut [u32], k: usize, inode: u32, record: u32) -> Option<usize>
     requires { Packed k list.old }
     ensures { gives result list.new ≡ put_of k list.old inode «record» }
 {
     let j = place_of(list, k, inode);
     if record_of(list, k, inode) == 0 {
         if record == 0 {
-            return Kept::Records(k);
+            return Some(k);
         }
         if list.len() / 2 <= k {
-            return Kept::Full;
+            return None;
         }
         put_in(list, k, j, inode, record);
-        return Kept::Records(k + 1);
+        return Some(k + 1);
     }
     if record == 0 {
         take_out(list, k, j);
-        return Kept::Records(k - 1);
+        return Some(k - 1);
     }
     list[2 * j + 1] = record;
-    Kept::Records(k)
+    Some(k)
 }
 
 // The same where the number of records is lent with the list. Where the inode is not listed and every place is taken, nothing changes.
@@ -138,10 +131,7 @@ pub fn put_record(list: &mut [u32], opened: &mut usize, inode: u32, record: u32)
     requires { InOrder (opens opened.old list.old) }
     ensures { opens opened.new list.new ≡ with_record (opens opened.old list.old) inode «record» }
 {
-    let k = *opened;
-    let kept = put(list, k, inode, record);
-    let Kept::Records(next) = kept else {
-        return;
-    };
-    *opened = next;
+    if let Some(next) = put(list, *opened, inode, record) {
+        *opened = next;
+    }
 }

@@ -92,7 +92,7 @@ pub fn write_list(table: &[u8], w: usize, at: usize, first: u32, list: &mut [u32
 }
 
 // What a walk along a bucket finds: the entry's inode, 0 for none, and the number of entries compared.
-#[derive(Drop)]
+#[derive(Clone, Copy)]
 pub struct Hit {
     pub inode: u32,
     pub compared: u32,

@@ -15,20 +15,7 @@ ghost use Rattle.tree_test.specs.Promise.{TestPromise, TreeGateOf, PackedGateOf}
 ghost use Rattle.tree_packed.specs.Opens.{opens};
 ghost use Rattle.tree_test.specs.Inner.Halves.{RootFits, DirsTested, FilesTested, Sized};
 
-use order::Answer;
-
-// The test's answer: Done for sound tables.
-#[derive(Drop)]
-pub struct Tested {
-    pub answer: Answer,
-}
-
-// What the gate of a tree call tells: the tables are sound and the sizes fit, or the refusal.
-#[derive(Drop)]
-pub enum Gated {
-    Open,
-    Refused { answer: Answer },
-}
+use order::Refusal;
 
 // The widths of the two entry types.
 const DIR: usize = tree_key::SaveExtDirEntry::WIDTH;
@@ -240,37 +227,29 @@ fn outside(dir_hash: &[u8], dir_table: &[u8], file_hash: &[u8], file_table: &[u8
     false
 }
 
-// The gate of a call that takes no open records.
+// The gate of a call that takes no open records: Ok where the tables are sound and the sizes fit.
 pub fn gate(
     dir_hash: &[u8],
     dir_table: &[u8],
     file_hash: &[u8],
     file_table: &[u8],
     work: &mut [u32],
-) -> Gated
+) -> Result<(), Refusal>
     ensures { TreeGateOf (tables dir_hash.now dir_table.now file_hash.now file_table.now) work.old work.new result }
 {
     if misfit(dir_hash, dir_table, file_hash, file_table) {
-        return Gated::Refused {
-            answer: Answer::SizeMismatch,
-        };
+        return Err(Refusal::SizeMismatch);
     }
     if outside(dir_hash, dir_table, file_hash, file_table) {
-        return Gated::Refused {
-            answer: Answer::InvalidValue,
-        };
+        return Err(Refusal::InvalidValue);
     }
     if work.len() < dir_table.len() / DIR + file_table.len() / FILE {
-        return Gated::Refused {
-            answer: Answer::WorkTooShort,
-        };
+        return Err(Refusal::WorkTooShort);
     }
     if !verdict(dir_hash, dir_table, file_hash, file_table, work) {
-        return Gated::Refused {
-            answer: Answer::BrokenTree,
-        };
+        return Err(Refusal::BrokenTree);
     }
-    Gated::Open
+    Ok(())
 }
 
 // The gate of a call that takes a packed list of open records also, whose order is judged with the sizes.
@@ -282,20 +261,16 @@ pub fn open_gate(
     list: &[u32],
     opened: usize,
     work: &mut [u32],
-) -> Gated
+) -> Result<(), Refusal>
     ensures { PackedGateOf (tables dir_hash.now dir_table.now file_hash.now file_table.now) (opens opened list.now) work.old work.new result }
 {
     if tree_packed::well_formed(list, opened) {
         return gate(dir_hash, dir_table, file_hash, file_table, work);
     }
     if misfit(dir_hash, dir_table, file_hash, file_table) {
-        return Gated::Refused {
-            answer: Answer::SizeMismatch,
-        };
+        return Err(Refusal::SizeMismatch);
     }
-    Gated::Refused {
-        answer: Answer::InvalidValue,
-    }
+    Err(Refusal::InvalidValue)
 }
 
 // The test of the two entry tables. Done: they are sound.
@@ -305,14 +280,8 @@ pub fn test(
     file_hash: &[u8],
     file_table: &[u8],
     work: &mut [u32],
-) -> Tested
+) -> Result<(), Refusal>
     ensures { TestPromise (tables dir_hash.now dir_table.now file_hash.now file_table.now) work.old (result, work.new) }
 {
-    let g = gate(dir_hash, dir_table, file_hash, file_table, work);
-    let Gated::Refused { answer } = g else {
-        return Tested {
-            answer: Answer::Done,
-        };
-    };
-    Tested { answer }
+    gate(dir_hash, dir_table, file_hash, file_table, work)
 }
