@@ -9,45 +9,31 @@ ghost use Rattle.fat_ends.specs.Inner.Marks.{HeadFits};
 ghost use Rattle.fat_ends.specs.Inner.Ends.{span, Packed, State, Backs, TiedEnds, TiledAs, Linked, Joinable, Joined, JoinSays, LinkSays, AtNodes, LeftAs};
 ghost use Rattle.fat_ends.specs.Promise.{Judged};
 
-use fat_node::{HeadRead, NodeRead};
-
-// A sound table, with its free blocks and the number of its other chains; or one that is not sound.
-#[derive(Drop)]
-pub enum Verdict {
-    Good { free: u32, files: u32 },
-    Broken,
-}
+use fat_node::Counts;
 
 // The low 20 bits of a word of the work list hold an index, the 12 above them a part of a sum.
 const SPAN: u32 = 1048576;
-
-// The same number, wider.
-fn wide(x: u32) -> usize
-    ensures { result ≡ x }
-{
-    x as usize
-}
 
 // A word of the work list: an end in the low 20 bits, a part of a sum above.
 fn pack(e: usize, p: u32) -> u32
     requires { (e < span) × (p < 4096) }
     ensures { (result % span ≡ e) × (result / span ≡ p) }
 {
-    (e as u32) + p * SPAN
+    e as u32 + p * SPAN
 }
 
 // The size of a single node, or 2048 for one of that size and more, which the table has.
 fn part(s: usize) -> u32
     ensures { (s < 2048 → result ≡ s) × (2048 ≤ s → result ≡ 2048) × (result < 4096) }
 {
-    if s < 2048 { s as u32 } else { 2048 }
+    s.min(2048) as u32
 }
 
 // 1, if there is a previous node.
 fn some(p: usize) -> u32
     ensures { ((p ≡ 0) × (result ≡ 0)) ⊎ ((0 < p) × (result ≡ 1)) }
 {
-    if p == 0 { 0 } else { 1 }
+    u32::from(p != 0)
 }
 
 // 1, if block b with the previous p starts a chain that is not the one of index h.
@@ -55,24 +41,18 @@ fn file(p: usize, h: usize, b: usize) -> u32
     requires { b ≤ 1000000 }
     ensures { ((p ≡ 0) × (h ≡ b + 1 → ⊥) × (result ≡ 1)) ⊎ ((p ≡ 0 → h ≡ b + 1) × (result ≡ 0)) }
 {
-    if p != 0 {
-        return 0;
-    }
-    if h == b + 1 {
-        return 0;
-    }
-    1
+    u32::from(p == 0 && h != b + 1)
 }
 
-// The nodes cover the blocks end to end: how many start a chain other than the free one, and how many have a previous. Or they don't.
-#[derive(Drop)]
-pub enum Tiles {
-    Whole { files: u32, backs: u32 },
-    Ragged,
+// Nodes that cover the blocks end to end: how many start a chain other than the free one, and how many have a previous.
+#[derive(Clone, Copy)]
+pub struct Tiles {
+    pub files: u32,
+    pub backs: u32,
 }
 
-// The first pass: walks the nodes from block 0, hopping by size, and makes each a fragment of one. h is the head's index.
-fn tile(table: &[u8], work: &mut [u32], h: usize) -> Tiles
+// The first pass: walks the nodes from block 0, hopping by size, and makes each a fragment of one. h is the head's index. None, where they don't cover the blocks.
+fn tile(table: &[u8], work: &mut [u32], h: usize) -> Option<Tiles>
     requires table_len { length table.now ≡ 8 * (length work.old + 1) }
     requires work_nonzero { (0 < length work.old) × (length work.old ≤ 1000000) }
     requires work_value { work.old ≡ replicate (length work.old) 0 }
@@ -84,16 +64,15 @@ fn tile(table: &[u8], work: &mut [u32], h: usize) -> Tiles
     let mut files: u32 = 0;
     let mut backs: u32 = 0;
     while b < n {
-        let r = fat_node::get_node(table, n, b);
-        let NodeRead::Found(node) = r else {
-            return Tiles::Ragged;
+        let Ok(node) = fat_node::get_node(table, n, b) else {
+            return None;
         };
         work[b] = pack(b + 1, part(node.size));
         backs += some(node.prev);
         files += file(node.prev, h, b);
         b += node.size;
     }
-    Tiles::Whole { files, backs }
+    Some(Tiles { files, backs })
 }
 
 // Whether the head's index h names none or a node with no previous.
@@ -102,26 +81,14 @@ fn head_fits(table: &[u8], work: &[u32], h: usize) -> bool
     requires work_len_bound { length work.now ≤ 1000000 }
     ensures { (result ≡ true → HeadFits table.now work.now h) × (HeadFits table.now work.now h → result ≡ true) }
 {
-    if h == 0 {
-        return true;
-    }
-    if h > work.len() {
-        return false;
-    }
-    if work[h - 1] == 0 {
-        return false;
-    }
-    fat_node::prev_of(table, h - 1) == 0
+    h == 0 || h <= work.len() && work[h - 1] != 0 && fat_node::prev_of(table, h - 1) == 0
 }
 
 // Whether no node begins a chain: so many files, none, and a head that names none. Then every node lies in a ring.
 fn headless(files: u32, h: usize) -> bool
     ensures { result ≡ true → (files ≡ 0) × (h ≡ 0) }
 {
-    if files != 0 {
-        return false;
-    }
-    h == 0
+    files == 0 && h == 0
 }
 
 // The sum of the sizes of the fragment from block h to block z.
@@ -155,19 +122,7 @@ fn tie_ends(work: &mut [u32], h: usize, z: usize, p: u32, q: u32)
 fn grows(p: u32, q: u32, h: usize, b: usize) -> bool
     ensures { result ≡ true → (2048 ≤ p) × (q < 2048) × (p + q < 4096) × (h ≡ b → ⊥) }
 {
-    if p < 2048 {
-        return false;
-    }
-    if q >= 2048 {
-        return false;
-    }
-    if p >= 4096 - q {
-        return false;
-    }
-    if h == b {
-        return false;
-    }
-    true
+    2048 <= p && q < 2048 && p < 4096 - q && h != b
 }
 
 // Joins the node at block b to its next, at block j: the fragments from h to b and from j to z become one.
@@ -211,23 +166,20 @@ fn join(table: &[u8], work: &mut [u32], b: usize, x: usize) -> bool
     }
     let j = x - 1;
     let v = work[j];
-    if v == 0 {
+    if v == 0 || fat_node::prev_of(table, j) != b + 1 {
         return false;
     }
-    if fat_node::prev_of(table, j) != b + 1 {
-        return false;
-    }
-    let h = wide(work[b] % SPAN) - 1;
+    let h = (work[b] % SPAN) as usize - 1;
     if h == j {
         return false;
     }
-    let z = wide(v % SPAN) - 1;
+    let z = (v % SPAN) as usize - 1;
     merge(table, work, b, j, h, z);
     true
 }
 
-// Joins the node at block b to its next, if there is one: the number of joins, or 2 where the links are broken.
-fn link(table: &[u8], work: &mut [u32], b: usize) -> u32
+// Joins the node at block b to its next, if there is one: the number of joins. None, where the links are broken.
+fn link(table: &[u8], work: &mut [u32], b: usize) -> Option<u32>
     requires table_len { length table.now ≡ 8 * (length work.old + 1) }
     requires b_in_bounds { (b < length work.old) × (length work.old ≤ 1000000) }
     requires node { IsNode table.now (length work.old) b }
@@ -236,12 +188,12 @@ fn link(table: &[u8], work: &mut [u32], b: usize) -> u32
 {
     let x = fat_node::next_of(table, b);
     if x == 0 {
-        return 0;
+        return Some(0);
     }
     if join(table, work, b, x) {
-        return 1;
+        return Some(1);
     }
-    2
+    None
 }
 
 // The second pass: joins every link. Where the joins are as many as the nodes that have a previous, every previous is answered.
@@ -257,18 +209,14 @@ fn links(table: &[u8], work: &mut [u32], backs: u32) -> bool
     let mut joins: u32 = 0;
     while b < n {
         // The hop is worked out before the join: after it, LLVM takes the previous index that was just read for b + 1, and the loop waits for memory.
-        let e = b + wide(fat_node::size_of(table, n, b));
-        let k = link(table, work, b);
-        if k == 2 {
+        let end = b + fat_node::size_of(table, n, b) as usize;
+        let Some(k) = link(table, work, b) else {
             return false;
-        }
+        };
         joins += k;
-        b = e;
+        b = end;
     }
-    if joins != backs {
-        return false;
-    }
-    true
+    joins == backs
 }
 
 // The free blocks: those along the chain from the head's index h.
@@ -283,36 +231,27 @@ fn free_of(table: &[u8], work: &[u32], h: usize) -> u32
         return 0;
     }
     let f = h - 1;
-    let z = wide(work[f] % SPAN) - 1;
+    let z = (work[f] % SPAN) as usize - 1;
     sum_of(table, work, f, z)
 }
 
 // The verdict, with a work list that is 0 before it: head, first pass, second pass, free count. Where no chain begins, the second pass is not needed. On a
 // sound table only the places where nodes start are not 0 after it.
-fn judge(table: &[u8], work: &mut [u32]) -> Verdict
+fn judge(table: &[u8], work: &mut [u32]) -> Option<Counts>
     requires table_len { length table.now ≡ 8 * (length work.old + 1) }
     requires work_nonzero { (0 < length work.old) × (length work.old ≤ 1000000) }
     requires work_value { work.old ≡ replicate (length work.old) 0 }
     ensures { Judged table.now (length work.old) result × LeftAs table.now (length work.old) work.new result }
 {
-    let head = fat_node::get_head(table);
-    let HeadRead::First(h) = head else {
-        return Verdict::Broken;
-    };
-    let r = tile(table, work, h);
-    let Tiles::Whole { files, backs } = r else {
-        return Verdict::Broken;
-    };
-    if headless(files, h) {
-        return Verdict::Broken;
+    let h = fat_node::get_head(table)?;
+    let tiles = tile(table, work, h)?;
+    if headless(tiles.files, h) || !head_fits(table, work, h) || !links(table, work, tiles.backs) {
+        return None;
     }
-    if head_fits(table, work, h) {
-        if links(table, work, backs) {
-            let free = free_of(table, work, h);
-            return Verdict::Good { free, files };
-        }
-    }
-    Verdict::Broken
+    Some(Counts {
+        free: free_of(table, work, h) as usize,
+        files: tiles.files as usize,
+    })
 }
 
 // So many places of the work list may be cleared node by node before the rest is cleared place by place, which on many nodes is quicker.
@@ -333,24 +272,25 @@ fn wipe(table: &[u8], work: &mut [u32])
             order::clear(&mut work[b..]);
             return;
         }
-        let e = b + wide(fat_node::size_of(table, n, b));
+        let end = b + fat_node::size_of(table, n, b) as usize;
         work[b] = 0;
         left -= 1;
-        b = e;
+        b = end;
     }
 }
 
-// The verdict on a table, with any work list of as many places as blocks, which is 0 after it.
-pub fn run(table: &[u8], work: &mut [u32]) -> Verdict
+// The verdict on a table, with any work list of as many places as blocks, which is 0 after it: the counts of a sound table, or none.
+pub fn run(table: &[u8], work: &mut [u32]) -> Option<Counts>
     requires table_len { length table.now ≡ 8 * (length work.old + 1) }
     requires work_nonzero { (0 < length work.old) × (length work.old ≤ 1000000) }
     ensures { Judged table.now (length work.old) result × (work.new ≡ replicate (length work.old) 0) }
 {
     order::clear(work);
-    let r = judge(table, work);
-    match r {
-        Verdict::Good { free: _, files: _ } => wipe(table, work),
-        Verdict::Broken => order::clear(work),
+    let judged = judge(table, work);
+    if judged.is_some() {
+        wipe(table, work);
+    } else {
+        order::clear(work);
     }
-    r
+    judged
 }

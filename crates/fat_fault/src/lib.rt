@@ -6,26 +6,15 @@ ghost use Rattle.std.specs.Prelude.{◌≡◌, true, false, ℕ, suc, ◌+◌, �
 ghost use Rattle.fat_node.specs.Node.{prev_at, next_at};
 ghost use Rattle.fat_fault.specs.Fault.{answered, head_fits, loose, hop, untied, lowest, fault_of};
 ghost use Rattle.fat_fault.specs.Inner.Ring.{Ring};
-ghost use Rattle.fat_fault.specs.Inner.Marks.{Marked, Fresh, Walked, Coloured, Closed, Rounded, Came};
+ghost use Rattle.fat_fault.specs.Inner.Marks.{Marked, Fresh, Walked, Names, Hops, Coloured, Closed, Rounded, Came};
 
-use fat_node::NodeRead;
 use order::Fault;
-
-// The top bit of a word of an entry.
-const FLAG: u32 = 2147483648;
 
 // The mark of a node that lies in a ring.
 const ROUND: u32 = 2147483648;
 
-// The same number, wider.
-fn wide(x: u32) -> usize
-    ensures { result ≡ x }
-{
-    x as usize
-}
-
-// The first node that can't be read, along the walk from block 0; without one, every node is marked by 1.
-fn walk(table: &[u8], n: usize, work: &mut [u32]) -> Fault
+// Marks every node by 1, along the walk from block 0; or finds the first that can't be read.
+fn walk(table: &[u8], n: usize, work: &mut [u32]) -> Result<(), Fault>
     requires table_len { length table.now ≡ 8 * (n + 1) }
     requires n_bound { (n ≤ 1000000) × (length work.old ≡ n) }
     requires work_value { work.old ≡ replicate n 0 }
@@ -33,18 +22,22 @@ fn walk(table: &[u8], n: usize, work: &mut [u32]) -> Fault
 {
     let mut b: usize = 0;
     while b < n {
-        let r = fat_node::get_node(table, n, b);
-        match r {
-            NodeRead::Broken(found) => {
-                return found;
-            }
-            NodeRead::Found(node) => {
-                work[b] = 1;
-                b += node.size;
-            }
-        }
+        let node = fat_node::get_node(table, n, b)?;
+        work[b] = 1;
+        b += node.size;
     }
-    Fault { entry: 0, rule: 0 }
+    Ok(())
+}
+
+// The block of the node that index i names, if it names one.
+fn named(work: &[u32], i: usize) -> Option<usize>
+    ensures { Names work.now i result }
+{
+    if 0 < i && i <= work.len() && work[i - 1] != 0 {
+        Some(i - 1)
+    } else {
+        None
+    }
 }
 
 // Whether index i is 0, or names a node whose previous is p.
@@ -54,17 +47,10 @@ fn prev_is(table: &[u8], n: usize, work: &[u32], i: usize, p: usize) -> bool
     requires marked { Marked n table.now work.now }
     ensures { result ≡ answered n table.now (prev_at table.now) i p }
 {
-    if i == 0 {
-        return true;
+    match named(work, i) {
+        Some(j) => fat_node::prev_of(table, j) == p,
+        None => i == 0,
     }
-    if n < i {
-        return false;
-    }
-    let j = i - 1;
-    if work[j] == 0 {
-        return false;
-    }
-    fat_node::prev_of(table, j) == p
 }
 
 // Whether index i is 0, or names a node whose next is p.
@@ -74,17 +60,10 @@ fn next_is(table: &[u8], n: usize, work: &[u32], i: usize, p: usize) -> bool
     requires marked { Marked n table.now work.now }
     ensures { result ≡ answered n table.now (next_at table.now) i p }
 {
-    if i == 0 {
-        return true;
+    match named(work, i) {
+        Some(j) => fat_node::next_of(table, j) == p,
+        None => i == 0,
     }
-    if n < i {
-        return false;
-    }
-    let j = i - 1;
-    if work[j] == 0 {
-        return false;
-    }
-    fat_node::next_of(table, j) == p
 }
 
 // Whether the head has its form, and names none or a node with no previous.
@@ -94,14 +73,10 @@ fn head_fits(table: &[u8], n: usize, work: &[u32]) -> bool
     requires marked { Marked n table.now work.now }
     ensures { result ≡ head_fits n table.now }
 {
-    if fat_node::u_of(table, 0) != 0 {
-        return false;
+    match fat_node::get_head(table) {
+        Some(h) => prev_is(table, n, work, h, 0),
+        None => false,
     }
-    let v = fat_node::v_of(table, 0);
-    if FLAG <= v {
-        return false;
-    }
-    prev_is(table, n, work, wide(v), 0)
 }
 
 // Whether a link of the node at block b names no node, or one that does not name it back.
@@ -111,30 +86,18 @@ fn loose(table: &[u8], n: usize, work: &[u32], b: usize) -> bool
     requires marked { Marked n table.now work.now }
     ensures { result ≡ loose n table.now b }
 {
-    if !prev_is(table, n, work, fat_node::next_of(table, b), b + 1) {
-        return true;
-    }
-    !next_is(table, n, work, fat_node::prev_of(table, b), b + 1)
+    !prev_is(table, n, work, fat_node::next_of(table, b), b + 1)
+        || !next_is(table, n, work, fat_node::prev_of(table, b), b + 1)
 }
 
-// The index of the node that next names at block b, 0 where it names none.
-fn hop(table: &[u8], n: usize, work: &[u32], b: usize) -> usize
+// The block of the node that next names at block b, if it names one.
+fn hop(table: &[u8], n: usize, work: &[u32], b: usize) -> Option<usize>
     requires table_len { length table.now ≡ 8 * (n + 1) }
     requires b_lt_n { (b < n) × (n ≤ 1000000) }
     requires marked { Marked n table.now work.now }
-    ensures { result ≡ hop n table.now b }
+    ensures { Hops n table.now b result }
 {
-    let i = fat_node::next_of(table, b);
-    if i == 0 {
-        return 0;
-    }
-    if n < i {
-        return 0;
-    }
-    if work[i - 1] == 0 {
-        return 0;
-    }
-    i
+    named(work, fat_node::next_of(table, b))
 }
 
 // Gives every node of the ring that block j lies in the ring's mark.
@@ -146,10 +109,13 @@ fn ring(table: &[u8], n: usize, work: &mut [u32], j: usize)
     requires ring { Ring (hop n table.now) j }
     ensures { Rounded n table.now j work.old work.new }
 {
-    let mut i = j;
-    while work[i] != ROUND {
+    let mut at = Some(j);
+    while let Some(i) = at {
+        if work[i] == ROUND {
+            return;
+        }
         work[i] = ROUND;
-        i = hop(table, n, work, i) - 1;
+        at = hop(table, n, work, i);
     }
 }
 
@@ -161,9 +127,8 @@ fn colour(table: &[u8], n: usize, work: &mut [u32], b: usize) -> bool
     ensures { Came n table.now b work.new result }
 {
     let own = b as u32 + 2;
-    let mut i = b + 1;
-    while i != 0 {
-        let j = i - 1;
+    let mut at = Some(b);
+    while let Some(j) = at {
         let m = work[j];
         if m != 1 {
             if m == own {
@@ -175,7 +140,7 @@ fn colour(table: &[u8], n: usize, work: &mut [u32], b: usize) -> bool
             return false;
         }
         work[j] = own;
-        i = hop(table, n, work, j);
+        at = hop(table, n, work, j);
     }
     false
 }
@@ -191,13 +156,7 @@ fn untied(table: &[u8], n: usize, work: &mut [u32], b: usize) -> bool
         return true;
     }
     let m = work[b];
-    if m == 0 {
-        return false;
-    }
-    if m == ROUND {
-        return true;
-    }
-    loose(table, n, work, b)
+    m == ROUND || m != 0 && loose(table, n, work, b)
 }
 
 // The lowest node that is loose or in a ring. It is told as soon as it is come to.
@@ -207,15 +166,13 @@ fn lowest(table: &[u8], n: usize, work: &mut [u32]) -> Fault
     requires fresh { Fresh n table.now work.old }
     ensures { result ≡ lowest n table.now n 0 }
 {
-    let mut b: usize = 0;
-    while b < n {
+    for b in 0..n {
         if untied(table, n, work, b) {
             return Fault {
                 entry: b + 1,
                 rule: 7,
             };
         }
-        b += 1;
     }
     Fault { entry: 0, rule: 0 }
 }
@@ -227,9 +184,8 @@ fn find(table: &[u8], n: usize, work: &mut [u32]) -> Fault
     requires work_value { work.old ≡ replicate n 0 }
     ensures { result ≡ fault_of n table.now }
 {
-    let f = walk(table, n, work);
-    if f.rule != 0 {
-        return f;
+    if let Err(found) = walk(table, n, work) {
+        return found;
     }
     if !head_fits(table, n, work) {
         return Fault { entry: 0, rule: 6 };
@@ -244,7 +200,7 @@ pub fn locate(table: &[u8], n: usize, work: &mut [u32]) -> Fault
     requires work_value { work.old ≡ replicate n 0 }
     ensures { (result ≡ fault_of n table.now) × (work.new ≡ replicate n 0) }
 {
-    let f = find(table, n, work);
+    let found = find(table, n, work);
     order::clear(work);
-    f
+    found
 }

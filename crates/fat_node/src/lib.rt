@@ -9,42 +9,28 @@ ghost use Rattle.fat_node.specs.Entry.{entry, put, top, u_at, v_at};
 ghost use Rattle.fat_node.specs.Node.{run, prev_at, next_at, NodeAt, prev_half, set_node, set_head};
 ghost use Rattle.fat_node.specs.Sizes.{blocks, Misfit, Outside};
 ghost use Rattle.fat_node.specs.Format.{FormatPromise};
-ghost use Rattle.fat_node.specs.Inner.Reads.{Reads, HeadReads};
-ghost use Rattle.fat_node.specs.Fault.{bad_start, bad_second, differs, span_fault};
+ghost use Rattle.fat_node.specs.Inner.Reads.{EndReads, Reads, HeadReads};
+ghost use Rattle.fat_node.specs.Fault.{bad_start, bad_second, differs};
 
-use order::Fault;
+use order::{Fault, Refusal};
 
 // A run of size blocks, with the indexes of the previous node and of the next: block numbers plus 1, or 0 for none.
-#[derive(Drop)]
+#[derive(Clone, Copy)]
 pub struct Node {
     pub size: usize,
     pub prev: usize,
     pub next: usize,
 }
 
-// What stands at a block: a node, or something that can't be read as one, with the entry and the rule that say why.
-#[derive(Drop)]
-pub enum NodeRead {
-    Found(Node),
-    Broken(Fault),
-}
-
-// The index of the first free node, 0 for none; or the head has not its form.
-#[derive(Drop)]
-pub enum HeadRead {
-    First(usize),
-    BrokenHead,
+// Of a sound table: its free blocks, and the number of its other chains.
+#[derive(Clone, Copy)]
+pub struct Counts {
+    pub free: usize,
+    pub files: usize,
 }
 
 // The top bit of a word of an entry.
 const FLAG: u32 = 2147483648;
-
-// The same number, wider.
-fn wide(x: u32) -> usize
-    ensures { result ≡ x }
-{
-    x as usize
-}
 
 // The first word of entry e.
 pub fn u_of(table: &[u8], e: usize) -> u32
@@ -67,7 +53,7 @@ pub fn prev_of(table: &[u8], b: usize) -> usize
     requires { 8 * b + 16 ≤ length table.now }
     ensures { result ≡ prev_at table.now b }
 {
-    wide(u_of(table, b + 1) % FLAG)
+    (u_of(table, b + 1) % FLAG) as usize
 }
 
 // The index of its next node.
@@ -75,7 +61,7 @@ pub fn next_of(table: &[u8], b: usize) -> usize
     requires { 8 * b + 16 ≤ length table.now }
     ensures { result ≡ next_at table.now b }
 {
-    wide(v_of(table, b + 1) % FLAG)
+    (v_of(table, b + 1) % FLAG) as usize
 }
 
 // The size of the node that is known to stand at block b.
@@ -95,10 +81,7 @@ pub fn size_of(table: &[u8], n: usize, b: usize) -> u32
 fn bad_start(u: u32) -> bool
     ensures { result ≡ bad_start u }
 {
-    if u == 0 {
-        return true;
-    }
-    FLAG < u
+    u == 0 || FLAG < u
 }
 
 // Whether u and v are not what the second entry of a node of several blocks at block b holds.
@@ -106,13 +89,7 @@ fn bad_second(u: u32, v: u32, b: usize) -> bool
     requires { b ≤ 1000000 }
     ensures { result ≡ bad_second u v b }
 {
-    if wide(u) != 2147483648 + (b + 1) {
-        return true;
-    }
-    if FLAG <= v {
-        return true;
-    }
-    wide(v) < b + 2
+    u as usize != 2147483648 + (b + 1) || FLAG <= v || (v as usize) < b + 2
 }
 
 // Whether entry e does not hold u and v.
@@ -120,47 +97,47 @@ fn differs(table: &[u8], e: usize, u: u32, v: u32) -> bool
     requires { 8 * e + 8 ≤ length table.now }
     ensures { result ≡ differs table.now e u v }
 {
-    if u_of(table, e) != u {
-        return true;
-    }
-    v_of(table, e) != v
+    u_of(table, e) != u || v_of(table, e) != v
 }
 
-// The first of rules 2 to 5 that is broken at block b, whose start entry says several blocks.
-fn span_fault(table: &[u8], n: usize, b: usize) -> Fault
+// The end of the node at block b, whose start entry says several blocks; or the first of rules 2 to 5 that is broken there.
+fn span_end(table: &[u8], n: usize, b: usize) -> Result<usize, Fault>
     requires table_len { length table.now ≡ 8 * (n + 1) }
     requires b_lt_n { (b < n) × (n ≤ 1000000) }
-    ensures { result ≡ span_fault n table.now b }
+    ensures { EndReads table.now n b result }
 {
     if n < b + 2 {
-        return Fault {
+        return Err(Fault {
             entry: b + 1,
             rule: 2,
-        };
+        });
     }
     let u = u_of(table, b + 2);
     let v = v_of(table, b + 2);
     if bad_second(u, v, b) {
-        return Fault {
+        return Err(Fault {
             entry: b + 2,
             rule: 3,
-        };
+        });
     }
-    let e = wide(v);
-    if n < e {
-        return Fault {
+    let end = v as usize;
+    if n < end {
+        return Err(Fault {
             entry: b + 2,
             rule: 4,
-        };
+        });
     }
-    if differs(table, e, u, v) {
-        return Fault { entry: e, rule: 5 };
+    if differs(table, end, u, v) {
+        return Err(Fault {
+            entry: end,
+            rule: 5,
+        });
     }
-    Fault { entry: 0, rule: 0 }
+    Ok(end)
 }
 
 // The node that stands at block b of n, or where it can't be read, and by which rule.
-pub fn get_node(table: &[u8], n: usize, b: usize) -> NodeRead
+pub fn get_node(table: &[u8], n: usize, b: usize) -> Result<Node, Fault>
     requires table_len { length table.now ≡ 8 * (n + 1) }
     requires b_lt_n { (b < n) × (n ≤ 1000000) }
     ensures { Reads table.now n b result }
@@ -168,29 +145,20 @@ pub fn get_node(table: &[u8], n: usize, b: usize) -> NodeRead
     let u = u_of(table, b + 1);
     let v = v_of(table, b + 1);
     if bad_start(u) {
-        return NodeRead::Broken(Fault {
+        return Err(Fault {
             entry: b + 1,
             rule: 1,
         });
     }
-    let prev = wide(u % FLAG);
-    let next = wide(v % FLAG);
-    if v < FLAG {
-        return NodeRead::Found(Node {
-            size: 1,
-            prev,
-            next,
-        });
-    }
-    let f = span_fault(table, n, b);
-    if f.rule != 0 {
-        return NodeRead::Broken(f);
-    }
-    let end = wide(v_of(table, b + 2));
-    NodeRead::Found(Node {
+    let end = if v < FLAG {
+        b + 1
+    } else {
+        span_end(table, n, b)?
+    };
+    Ok(Node {
         size: end - b,
-        prev,
-        next,
+        prev: (u % FLAG) as usize,
+        next: (v % FLAG) as usize,
     })
 }
 
@@ -235,20 +203,16 @@ pub fn set_node(table: &mut [u8], n: usize, b: usize, node: Node)
     }
 }
 
-// The index of the first free node.
-pub fn get_head(table: &[u8]) -> HeadRead
+// The index of the first free node, 0 for none; or nothing, where the head has not its form.
+pub fn get_head(table: &[u8]) -> Option<usize>
     requires { 8 ≤ length table.now }
     ensures { HeadReads table.now result }
 {
-    let u = u_of(table, 0);
     let v = v_of(table, 0);
-    if u != 0 {
-        return HeadRead::BrokenHead;
+    if u_of(table, 0) != 0 || FLAG <= v {
+        return None;
     }
-    if FLAG <= v {
-        return HeadRead::BrokenHead;
-    }
-    HeadRead::First(wide(v))
+    Some(v as usize)
 }
 
 // Names the first free node in the head.
@@ -263,21 +227,14 @@ pub fn set_head(table: &mut [u8], first: usize)
 pub fn blocks(table: &[u8]) -> usize
     ensures { result ≡ blocks table.now }
 {
-    let entries = table.len() / 8;
-    if entries == 0 {
-        return 0;
-    }
-    entries - 1
+    (table.len() / 8).saturating_sub(1)
 }
 
 // Whether a table is under 8 bytes or no multiple of 8.
 pub fn misfit(table: &[u8]) -> bool
     ensures { (result ≡ true → Misfit table.now) × (Misfit table.now → result ≡ true) }
 {
-    if table.len() < 8 {
-        return true;
-    }
-    table.len() % 8 != 0
+    table.len() < 8 || table.len() % 8 != 0
 }
 
 // Whether a table has no block or more than a million.
@@ -285,45 +242,30 @@ pub fn outside(table: &[u8]) -> bool
     ensures { (result ≡ true → Outside table.now) × (Outside table.now → result ≡ true) }
 {
     let n = blocks(table);
-    if n < 1 {
-        return true;
-    }
-    1000000 < n
-}
-
-// What format answers.
-#[derive(Drop)]
-pub struct Formatted {
-    pub answer: order::Answer,
+    n < 1 || 1000000 < n
 }
 
 // Makes of a table of any bytes one whose blocks are all free, in one node.
-pub fn format(table: &mut [u8]) -> Formatted
+pub fn format(table: &mut [u8]) -> Result<(), Refusal>
     ensures { FormatPromise table.old result table.new }
 {
     if misfit(table) {
-        return Formatted {
-            answer: order::Answer::SizeMismatch,
-        };
+        return Err(Refusal::SizeMismatch);
     }
     if outside(table) {
-        return Formatted {
-            answer: order::Answer::InvalidValue,
-        };
+        return Err(Refusal::InvalidValue);
     }
-    let n = blocks(table);
+    let size = blocks(table);
     set_node(
         table,
-        n,
+        size,
         0,
         Node {
-            size: n,
+            size,
             prev: 0,
             next: 0,
         },
     );
     set_head(table, 1);
-    Formatted {
-        answer: order::Answer::Done,
-    }
+    Ok(())
 }

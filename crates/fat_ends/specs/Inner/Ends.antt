@@ -2,12 +2,11 @@
 -- names its last node, and that of the last the first, in the low 20 bits; the 12 bits above hold the sum of its sizes: at both ends, if it is below
 -- 2,048; else, but for a single node, whose size the table has, the high part at the first node and the low part at the last.
 use Rattle.std.specs.Prelude.{◌≡◌, List, ◌⊎◌, Bool, true, ℕ, ◌+◌, ◌/◌, ◌%◌, ◌<◌, ◌≤◌, length, get_or, set}
+use Rattle.std.specs.Option.{Option, Some, None}
 use Rattle.fat_node.specs.Node.{NodeAt, prev_at, next_at}
 use Rattle.fat_table.specs.Sound.{IsNode, Path, Along, Covered, Counted, File, Sound}
+use Rattle.fat_node.specs.declared.Counts.{Counts}
 use Rattle.fat_ends.specs.declared.Tiles.{Tiles}
-use Rattle.fat_ends.specs.declared.Tiles.TheVariants.{Whole, Ragged}
-use Rattle.fat_ends.specs.declared.Verdict.{Verdict}
-use Rattle.fat_ends.specs.declared.Verdict.TheVariants.{Good, Broken}
 use Rattle.fat_ends.specs.Inner.Marks.{sum, SizesAt}
 
 -- the low 20 bits of a word count so many
@@ -67,9 +66,9 @@ abbrev pub AtNodes : List ℕ → ℕ → List ℕ → Type 0
 AtNodes t n w = (x : ℕ) → 0 < get_or w x 0 → IsNode t n x
 
 -- so on a sound table
-abbrev pub LeftAs : List ℕ → ℕ → List ℕ → Verdict → Type 0
-LeftAs t n w (Good free files) = AtNodes t n w
-LeftAs t n w Broken = ◌≡◌ {A = ℕ} 0 0
+abbrev pub LeftAs : List ℕ → ℕ → List ℕ → Option Counts → Type 0
+LeftAs t n w (Some c) = AtNodes t n w
+LeftAs t n w None = Unit {0}
 
 -- k of the nodes below b have a previous
 pub record Backs (t : List ℕ) (n b k : ℕ) : Type 0 where
@@ -106,9 +105,9 @@ abbrev pub Joined : List ℕ → ℕ → ℕ → List ℕ → List ℕ → Type 
 Joined t n b w w' = (k : ℕ) → State t n b w k → State t n (b + 1) w' (k + 1)
 
 -- what the first pass tells
-abbrev pub TiledAs : List ℕ → ℕ → List ℕ → Tiles → Type 0
-TiledAs t n w (Whole files backs) = Tile t n w × Backs t n n backs × Counted (File t n) n files
-TiledAs t n w Ragged = Covered t n → ⊥
+abbrev pub TiledAs : List ℕ → ℕ → List ℕ → Option Tiles → Type 0
+TiledAs t n w (Some tiles) = Tile t n w × Backs t n n tiles.backs × Counted (File t n) n tiles.files
+TiledAs t n w None = Covered t n → ⊥
 
 -- all links are joined: as many as nodes have a previous
 abbrev pub Linked : List ℕ → ℕ → List ℕ → Type 0
@@ -119,8 +118,7 @@ pub record JoinSays (t : List ℕ) (n b : ℕ) (w w' : List ℕ) (r : Bool) : Ty
   pub yes : r ≡ true → Joined t n b w w'
   pub sound : Sound t n → r ≡ true
 
--- what the link of the node at b answers: the number of joins, or 2 where the table is not sound
-pub record LinkSays (t : List ℕ) (n b : ℕ) (w w' : List ℕ) (r : ℕ) : Type 0 where
-  pub few : r ≤ 2
-  pub joins : r < 2 → (k : ℕ) → State t n b w k → State t n (b + 1) w' (k + r)
-  pub broken : r ≡ 2 → Sound t n → ⊥
+-- what the link of the node at b answers: the number of joins, none or one; or nothing, where the table is not sound
+abbrev pub LinkSays : List ℕ → ℕ → ℕ → List ℕ → List ℕ → Option ℕ → Type 0
+LinkSays t n b w w' (Some r) = (r ≤ 1) × ((k : ℕ) → State t n b w k → State t n (b + 1) w' (k + r))
+LinkSays t n b w w' None = Sound t n → ⊥

@@ -1,6 +1,8 @@
 -- What the passes say of the work list: 0 where no node starts, 1 at a node that was not come to yet, a colour or the ring's mark at one that was.
 -- Contracts inside the crate.
-use Rattle.std.specs.Prelude.{◌≡◌, Bool, true, false, List, ◌⊎◌, ℕ, suc, ◌+◌, ◌<◌, ◌≤◌, length, get_or}
+use Rattle.std.specs.Prelude.{◌≡◌, Bool, true, false, List, ◌⊎◌, ℕ, zero, suc, ◌+◌, ◌<◌, ◌≤◌, length, get_or, Result, Ok, Err}
+use Rattle.std.specs.Option.{Option, Some, None}
+use Rattle.order.specs.Answer.{unbroken}
 use Rattle.fat_node.specs.Entry.{Bytes}
 use Rattle.order.specs.declared.Fault.{Fault}
 use Rattle.fat_fault.specs.Fault.{walk_fault, is_node, hop}
@@ -21,10 +23,20 @@ pub record Fresh (n : ℕ) (t : Bytes) (w : List ℕ) : Type 0 where
   pub marked : Marked n t w
   pub least : (x : ℕ) → get_or w x 0 ≤ 1
 
--- what the walk finds; without a fault it leaves the marks
-pub record Walked (n : ℕ) (t : Bytes) (w : List ℕ) (f : Fault) : Type 0 where
-  pub found : f ≡ walk_fault n t
-  pub fresh : f.rule ≡ 0 → Fresh n t w
+-- the walk leaves the marks, or finds the first fault
+abbrev pub Walked : ℕ → Bytes → List ℕ → Result (Unit {0}) Fault → Type 0
+Walked n t w (Ok done) = (walk_fault n t ≡ unbroken) × Fresh n t w
+Walked n t w (Err f) = (f ≡ walk_fault n t) × (f.rule ≡ 0 → ⊥)
+
+-- index i names block j, whose place is not 0; or it names none
+abbrev pub Names : List ℕ → ℕ → Option ℕ → Type 0
+Names w i (Some j) = (i ≡ j + 1) × (0 < get_or w j 0)
+Names w i None = (j : ℕ) → i ≡ j + 1 → get_or w j 0 ≡ 0
+
+-- next at block b names the node at block j, or it names none
+abbrev pub Hops : ℕ → Bytes → ℕ → Option ℕ → Type 0
+Hops n t b (Some j) = hop n t b ≡ suc j
+Hops n t b None = hop n t b ≡ zero
 
 -- the nodes below block c, and what they lead to, are coloured: with a colour below c + 2, or in a ring with its mark
 pub record Coloured (n : ℕ) (t : Bytes) (c : ℕ) (w : List ℕ) : Type 0 where
