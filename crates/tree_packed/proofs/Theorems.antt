@@ -13,22 +13,21 @@ use Rattle.links.specs.Change.{pick, upd}
 use Rattle.tree_packed.specs.Packed.{inode_at, Packed, Place, rec, below}
 use Rattle.tree_packed.specs.Put.{Put, IsFull, gives, taken_out, put_in, put_of}
 use Rattle.tree_packed.specs.Run.{Change, change, dense, Run, none, put}
-use Rattle.tree_packed.specs.declared.Kept.{Kept}
-use Rattle.tree_packed.specs.declared.Kept.TheVariants.{Records, Full}
+use Rattle.std.proofs.Common.{Option, Some, None}
 use Rattle.tree_packed.proofs.Laws.{le_or_lt, same_or_not, listed}
 use Rattle.tree_packed.proofs.Moves.{taken_down, put_risen}
 use Rattle.tree_packed.proofs.Cases.{put_nothing, put_full, put_new, put_out, put_over}
 use Rattle.tree_packed.proofs.Keeps.{Keeps, below_place, keeps_over, keeps_out, keeps_in}
 
 -- two outcomes that are one
-same_count : {a b : ℕ} {p q : List ℕ} → gives (Records a) p ≡ gives (Records b) q → a ≡ b
-same_count {a} {b} {p} {q} e = let f : Records a ≡ Records b = ap (λ (z : Put). z.kept) e in cc
+same_count : {a b : ℕ} {p q : List ℕ} → gives (Some a) p ≡ gives (Some b) q → a ≡ b
+same_count {a} {b} {p} {q} e = let f : Some a ≡ Some b = ap (λ (z : Put). z.kept) e in cc
 
-same_list : {a b : Kept} {p q : List ℕ} → gives a p ≡ gives b q → p ≡ q
+same_list : {a b : Option ℕ} {p q : List ℕ} → gives a p ≡ gives b q → p ≡ q
 same_list e = ap (λ (z : Put). z.list) e
 
-not_both : {a : ℕ} {p q : List ℕ} → gives (Records a) p ≡ gives Full q → ⊥
-not_both {a} {p} {q} e = let f : Records a ≡ Full = ap (λ (z : Put). z.kept) e in let z : ◌≡◌ {A = ℕ} 0 1 = cc in omega arith
+not_both : {a : ℕ} {p q : List ℕ} → gives (Some a) p ≡ gives None q → ⊥
+not_both {a} {p} {q} e = let f : Some a ≡ None = ap (λ (z : Put). z.kept) e in let z : ◌≡◌ {A = ℕ} 0 1 = cc in omega arith
 
 -- nothing put over nothing
 keeps_nothing : {k : ℕ} {l : List ℕ} {x r : ℕ} → Packed k l → rec k l x ≡ 0 → r ≡ 0 → Keeps k l x r k l
@@ -40,10 +39,10 @@ keeps_nothing {k} {l} {x} {r} P e z =
       past = λ i h. refl;
     }
 
--- what a put gives: a list that is in order, with the number of records that goes with it, or Full with the list as it was
+-- what a put gives: a list that is in order, with the number of records that goes with it, or None with the list as it was
 data Outcome (k : ℕ) (l : List ℕ) (x r : ℕ) : Type 0 where
-  stored : (m : ℕ) (l' : List ℕ) → put_of k l x r ≡ gives (Records m) l' → Keeps k l x r m l' → Outcome k l x r
-  full : put_of k l x r ≡ gives Full l → IsFull k l x → r ≢ 0 → Outcome k l x r
+  stored : (m : ℕ) (l' : List ℕ) → put_of k l x r ≡ gives (Some m) l' → Keeps k l x r m l' → Outcome k l x r
+  full : put_of k l x r ≡ gives None l → IsFull k l x → r ≢ 0 → Outcome k l x r
 
 outcome : {k : ℕ} {l : List ℕ} {x : ℕ} (r : ℕ) → Packed k l → 0 < x → Outcome k l x r
 outcome {k} {l} {x} r P some =
@@ -70,7 +69,7 @@ outcome {k} {l} {x} r P some =
     (same_or_not (rec k l x) 0)
 
 -- a put that is not full: the list stays in order, x has the record put, every other inode the one that it had, and places past the records stay
-pub put_keeps : {k : ℕ} {l : List ℕ} {x r m : ℕ} {l' : List ℕ} → Packed k l → 0 < x → put_of k l x r ≡ gives (Records m) l' → Keeps k l x r m l'
+pub put_keeps : {k : ℕ} {l : List ℕ} {x r m : ℕ} {l' : List ℕ} → Packed k l → 0 < x → put_of k l x r ≡ gives (Some m) l' → Keeps k l x r m l'
 put_keeps {k} {l} {x} {r} {m} {l'} P some e = go (outcome r P some)
   where
     go : Outcome k l x r → Keeps k l x r m l'
@@ -79,14 +78,14 @@ put_keeps {k} {l} {x} {r} {m} {l'} P some e = go (outcome r P some)
     go (full q f z) = absurd (not_both (sym e ∙ q))
 
 -- full exactly when no record of x is listed and every pair of places is taken, and the record put is not 0; then nothing has changed
-pub full_only : {k : ℕ} {l : List ℕ} {x r : ℕ} {l' : List ℕ} → Packed k l → 0 < x → put_of k l x r ≡ gives Full l' → IsFull k l x × (r ≢ 0) × (l' ≡ l)
+pub full_only : {k : ℕ} {l : List ℕ} {x r : ℕ} {l' : List ℕ} → Packed k l → 0 < x → put_of k l x r ≡ gives None l' → IsFull k l x × (r ≢ 0) × (l' ≡ l)
 full_only {k} {l} {x} {r} {l'} P some e = go (outcome r P some)
   where
     go : Outcome k l x r → IsFull k l x × (r ≢ 0) × (l' ≡ l)
     go (stored a p q K) = absurd (not_both (sym q ∙ e))
     go (full q f z) = (f, z, same_list (sym e ∙ q))
 
-pub full_if : {k : ℕ} {l : List ℕ} (x r : ℕ) → Packed k l → IsFull k l x → r ≢ 0 → put_of k l x r ≡ gives Full l
+pub full_if : {k : ℕ} {l : List ℕ} (x r : ℕ) → Packed k l → IsFull k l x → r ≢ 0 → put_of k l x r ≡ gives None l
 full_if {k} {l} x r P f z = sym (put_full P x r (rec k l x) refl f.0 z (let g : length l < 2 * (k + 1) = f.1 in omega arith))
 
 -- no records
@@ -117,6 +116,6 @@ same_set opens x r h y =
 
 -- so a put keeps the two equal
 pub same_put : {k : ℕ} {l : List ℕ} {m : ℕ} {l' : List ℕ} (opens : List ℕ) (x r : ℕ) → Packed k l → 0 < x → x < length opens
-    → ((y : ℕ) → rec k l y ≡ get_or opens y 0) → put_of k l x r ≡ gives (Records m) l' → (y : ℕ) → rec m l' y ≡ get_or (set opens x r) y 0
+    → ((y : ℕ) → rec k l y ≡ get_or opens y 0) → put_of k l x r ≡ gives (Some m) l' → (y : ℕ) → rec m l' y ≡ get_or (set opens x r) y 0
 same_put {k} {l} opens x r P some h s e y =
     (put_keeps P some e).records y ∙ upd_same (rec k l) (λ z. get_or opens z 0) s x r y ∙ sym (same_set opens x r h y)

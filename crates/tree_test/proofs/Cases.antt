@@ -7,10 +7,10 @@ use Prim.Native.Nat.{ℕ, zero, suc, ◌+◌, ◌-◌, ◌*◌, ◌/◌, ◌%◌
 use native.Mathlib.Omega.{arith}
 use native.Mathlib.Nat.{zero-add}
 use lib.ListN.{length, get_or, replicate, get_or-replicate, length-replicate}
+use Rattle.std.proofs.Common.{Ok, Err}
 use Rattle.order.specs.Gate.{cleared, Refusal, refusal}
 use Rattle.order.specs.Given.{Given, None}
-use Rattle.order.specs.Answer.{Answer}
-use Rattle.order.specs.Answer.{Done, SizeMismatch, InvalidValue, WorkTooShort, BrokenTree}
+use Rattle.order.specs.Answer.{Answer, Done, SizeMismatch, InvalidValue, WorkTooShort, BrokenTree}
 use Rattle.links.specs.Links.{◌∈◌}
 use Rattle.tree_table.specs.Field.{field}
 use Rattle.tree_table.specs.View.{dir_view, file_view, removed_of}
@@ -25,10 +25,7 @@ use Rattle.tree_packed.specs.Packed.{Packed}
 use Rattle.tree_packed.specs.Opens.{opens}
 use Rattle.tree_test.specs.Gate.{tree_gate}
 use Rattle.tree_test.specs.Promise.{tested, TestPromise, TreeGateOf, PackedGateOf}
-use Rattle.tree_test.specs.declared.Gated.{Gated}
-use Rattle.tree_test.specs.declared.Gated.TheVariants.{Open, Refused}
 use Rattle.tree_test.specs.Inner.Halves.{DirsTested, FilesTested, Sized}
-use Rattle.tree_test.specs.declared.Tested.{Tested}
 
 pub told_true : {P : Type 0} → P → Tells P true
 told_true p = record { yes = λ _. p; only = λ _. refl }
@@ -139,19 +136,19 @@ module _ (dh d fh f work : List ℕ) (k : ℕ) (l : List ℕ) (b : Bool) (F : (b
   s = tables dh d fh f
 
   -- a list in order: the tables' own gate
-  pub in_order : (work' : List ℕ) (g : Gated) → b ≡ true → TreeGateOf s work work' g → PackedGateOf s (opens k l) work work' g
+  pub in_order : (work' : List ℕ) (g : Answer) → b ≡ true → TreeGateOf s work work' g → PackedGateOf s (opens k l) work work' g
   unfolding TreeGateOf PackedGateOf
-  in_order work' Open e p = ((p.0.0, (⊎_elim p.0.1.0 (λ n. n (F.0 e)), p.0.1.1)), p.1, p.2)
-  in_order work' (Refused answer) e (inl p) = inl p
-  in_order work' (Refused answer) e (inr (m, inl p)) = inr (m, inl (inl p.0, p.1))
-  in_order work' (Refused answer) e (inr (m, inr (i, p))) = inr (m, inr (⊎_elim i (λ n. n (F.0 e)), p))
+  in_order work' (Ok done) e p = ((p.0.0, (⊎_elim p.0.1.0 (λ n. n (F.0 e)), p.0.1.1)), p.1, p.2)
+  in_order work' (Err why) e (inl p) = inl p
+  in_order work' (Err why) e (inr (m, inl p)) = inr (m, inl (inl p.0, p.1))
+  in_order work' (Err why) e (inr (m, inr (i, p))) = inr (m, inr (⊎_elim i (λ n. n (F.0 e)), p))
 
   module _ (no : b ≡ false) (r : Bool) (T : Tells (Misfit dh d fh f) r) where
-    pub sizes_first : r ≡ true → PackedGateOf s (opens k l) work work (Refused SizeMismatch)
+    pub sizes_first : r ≡ true → PackedGateOf s (opens k l) work work SizeMismatch
     unfolding PackedGateOf
     sizes_first e = inl (T.yes e, refl)
 
-    pub disordered : r ≡ false → PackedGateOf s (opens k l) work work (Refused InvalidValue)
+    pub disordered : r ≡ false → PackedGateOf s (opens k l) work work InvalidValue
     unfolding PackedGateOf
     disordered e = inr (tells_not T e, inl (inr (λ P. false≢true (sym no ∙ F.1 P)), refl))
 
@@ -161,21 +158,12 @@ module _ (dh d fh f work : List ℕ) where
   answered : {a b : Answer} {v w : List ℕ} → refusal a v ≡ refusal b w → tested a v ≡ tested b w
   answered e = ap (λ (r : Refusal). tested r.answer r.work) e
 
-  pub test_refused : (work' : List ℕ) (answer : Answer) → TreeGateOf (tables dh d fh f) work work' (Refused answer) → TestPromise (tables dh d fh f) work (tested answer work')
+  -- the gate's answer is the test's
+  pub test_told : (work' : List ℕ) (g : Answer) → TreeGateOf (tables dh d fh f) work work' g → TestPromise (tables dh d fh f) work (tested g work')
   unfolding TreeGateOf
-  test_refused work' answer (inl p) = inl (p.0, answered p.1)
-  test_refused work' answer (inr (m, inl p)) = inr (m, inl (p.0, answered p.1))
-  test_refused work' answer (inr (m, inr (q, inl p))) = inr (m, inr (q, inl (p.0, answered p.1)))
-  test_refused work' answer (inr (m, inr (q, inr (s, inl p)))) = inr (m, inr (q, inr (s, inl (p.0, answered p.1))))
-  test_refused work' answer (inr (m, inr (q, inr (s, inr p)))) = absurd p.1
-
-  pub test_open : (work' : List ℕ) → TreeGateOf (tables dh d fh f) work work' Open → TestPromise (tables dh d fh f) work (tested Done work')
-  unfolding TreeGateOf
-  test_open work' p = inr (p.0.0, inr (p.0.1.0, inr (p.0.1.1.0, inr (p.0.1.1.1.0, ap (λ (l : List ℕ). tested Done l) p.2))))
-
-  pub test_opened : (work' : List ℕ) (g : Gated) → g ≡ Open → TreeGateOf (tables dh d fh f) work work' g → TestPromise (tables dh d fh f) work (tested Done work')
-  test_opened work' g e p = test_open work' (subst (λ (x : Gated). TreeGateOf (tables dh d fh f) work work' x) e p)
-
-  pub test_shut : (work' : List ℕ) (g : Gated) (answer : Answer) → g ≡ Refused answer → TreeGateOf (tables dh d fh f) work work' g
-      → TestPromise (tables dh d fh f) work (tested answer work')
-  test_shut work' g answer e p = test_refused work' answer (subst (λ (x : Gated). TreeGateOf (tables dh d fh f) work work' x) e p)
+  test_told work' (Ok done) p = inr (p.0.0, inr (p.0.1.0, inr (p.0.1.1.0, inr (p.0.1.1.1.0, ap (λ (l : List ℕ). tested Done l) p.2))))
+  test_told work' (Err why) (inl p) = inl (p.0, answered p.1)
+  test_told work' (Err why) (inr (m, inl p)) = inr (m, inl (p.0, answered p.1))
+  test_told work' (Err why) (inr (m, inr (q, inl p))) = inr (m, inr (q, inl (p.0, answered p.1)))
+  test_told work' (Err why) (inr (m, inr (q, inr (s, inl p)))) = inr (m, inr (q, inr (s, inl (p.0, answered p.1))))
+  test_told work' (Err why) (inr (m, inr (q, inr (s, inr p)))) = absurd p.1
