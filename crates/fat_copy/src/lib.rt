@@ -12,26 +12,12 @@ ghost use Rattle.fat_walk.specs.Volume.{Volume, Data};
 ghost use Rattle.fat_walk.specs.Inner.Chains.{Standing};
 ghost use Rattle.fat_judge.specs.Inner.Stretches.{StretchOf, Carries, CarriesAt};
 
-use fat_judge::{Answered, CarryPlan, judge_carry};
-use fat_walk::{is_file, least, size_at};
-use order::Answer;
-
-// Copies one part over another of the same length. It compiles to a vector loop, 32 bytes a turn: look for movups in fat_copy::read_sound and
-// fat_copy::write_told in `objdump -d dist/x86_64-unknown-linux-gnu/libmukthiban.a`.
-fn copy(dst: &mut [u8], src: &[u8])
-    requires { length src.now ≡ length dst.old }
-    ensures { dst.new ≡ src.now }
-{
-    let len = dst.len();
-    let mut i = 0;
-    while i < len {
-        dst[i] = src[i];
-        i += 1;
-    }
-}
+use fat_judge::judge_carry;
+use fat_walk::{is_file, size_at};
+use order::Refusal;
 
 // Bytes of a file that lie in a row in the data: `len` of them from place `at` on; index `next` names the node after theirs.
-#[derive(Drop)]
+#[derive(Clone, Copy)]
 struct Stretch {
     at: usize,
     len: usize,
@@ -53,7 +39,7 @@ fn stretch_at(
 {
     let size = size_at(table, n, b);
     let at = b * block_len + from;
-    let len = least(want, size * block_len - from);
+    let len = want.min(size * block_len - from);
     let next = fat_node::next_of(table, b);
     Stretch { at, len, next }
 }
@@ -78,10 +64,8 @@ fn fetch(
     let mut done: usize = 0;
     while done < len {
         let s = stretch_at(table, block_len, n, i - 1, f, len - done);
-        let at = s.at;
-        let to = at + s.len;
         let end = done + s.len;
-        copy(&mut buf[done..end], &data[at..to]);
+        buf[done..end].copy_from_slice(&data[s.at..s.at + s.len]);
         done = end;
         f = 0;
         i = s.next;
@@ -97,11 +81,9 @@ fn put_row(data: &mut [u8], block_len: usize, at: usize, buf: &[u8])
     let mut i: usize = 0;
     while i < len {
         let a = at + i;
-        let share = least(len - i, block_len - a % block_len);
-        let e = a + share;
-        let j = i + share;
-        copy(&mut data[a..e], &buf[i..j]);
-        i = j;
+        let share = (len - i).min(block_len - a % block_len);
+        data[a..a + share].copy_from_slice(&buf[i..i + share]);
+        i += share;
     }
 }
 
@@ -143,22 +125,15 @@ pub fn read_told(
     begins: bool,
     pos: usize,
     buf: &mut [u8],
-) -> Answered
+) -> Result<(), Refusal>
     requires volume { Volume n table.now }
     requires file { (begins ≡ true → File table.now n first_block) × (File table.now n first_block → begins ≡ true) }
     requires fact { Data n (length «data».now) block_len }
-    ensures { ReadSound n table.now «data».now block_len first_block pos buf.old (carry_gives result.answer buf.new) }
+    ensures { ReadSound n table.now «data».now block_len first_block pos buf.old (carry_gives result buf.new) }
 {
-    let plan = judge_carry(table, n, block_len, first_block, pos, buf.len(), begins);
-    match plan {
-        CarryPlan::Refused { answer } => Answered { answer },
-        CarryPlan::Within { index, from } => {
-            fetch(table, data, block_len, n, index, from, buf);
-            Answered {
-                answer: Answer::Done,
-            }
-        }
-    }
+    let first = judge_carry(table, n, block_len, first_block, pos, buf.len(), begins)?;
+    fetch(table, data, block_len, n, first.index, first.from, buf);
+    Ok(())
 }
 
 // The same where it is not told.
@@ -170,10 +145,10 @@ pub fn read_sound(
     first_block: usize,
     pos: usize,
     buf: &mut [u8],
-) -> Answered
+) -> Result<(), Refusal>
     requires volume { Volume n table.now }
     requires fact { Data n (length «data».now) block_len }
-    ensures { ReadSound n table.now «data».now block_len first_block pos buf.old (carry_gives result.answer buf.new) }
+    ensures { ReadSound n table.now «data».now block_len first_block pos buf.old (carry_gives result buf.new) }
 {
     let begins = is_file(table, n, first_block);
     read_told(table, data, block_len, n, first_block, begins, pos, buf)
@@ -189,22 +164,15 @@ pub fn write_told(
     begins: bool,
     pos: usize,
     buf: &[u8],
-) -> Answered
+) -> Result<(), Refusal>
     requires volume { Volume n table.now }
     requires file { (begins ≡ true → File table.now n first_block) × (File table.now n first_block → begins ≡ true) }
     requires fact { Data n (length «data».old) block_len }
-    ensures { WriteSound n table.now «data».old block_len first_block pos buf.now (carry_gives result.answer «data».new) }
+    ensures { WriteSound n table.now «data».old block_len first_block pos buf.now (carry_gives result «data».new) }
 {
-    let plan = judge_carry(table, n, block_len, first_block, pos, buf.len(), begins);
-    match plan {
-        CarryPlan::Refused { answer } => Answered { answer },
-        CarryPlan::Within { index, from } => {
-            store(table, data, block_len, n, index, from, buf);
-            Answered {
-                answer: Answer::Done,
-            }
-        }
-    }
+    let first = judge_carry(table, n, block_len, first_block, pos, buf.len(), begins)?;
+    store(table, data, block_len, n, first.index, first.from, buf);
+    Ok(())
 }
 
 // The same where it is not told.
@@ -216,10 +184,10 @@ pub fn write_sound(
     first_block: usize,
     pos: usize,
     buf: &[u8],
-) -> Answered
+) -> Result<(), Refusal>
     requires volume { Volume n table.now }
     requires fact { Data n (length «data».old) block_len }
-    ensures { WriteSound n table.now «data».old block_len first_block pos buf.now (carry_gives result.answer «data».new) }
+    ensures { WriteSound n table.now «data».old block_len first_block pos buf.now (carry_gives result «data».new) }
 {
     let begins = is_file(table, n, first_block);
     write_told(table, data, block_len, n, first_block, begins, pos, buf)

@@ -10,52 +10,36 @@ ghost use Rattle.fat_judge.specs.Inner.Stretches.{CursorAt, Reaches};
 ghost use Rattle.fat_judge.specs.Inner.Plans.{CreatePlanned, ResizePlanned, DeletePlanned, ListPlanned, CarryPlanned};
 
 use fat_walk::{Sought, head_of, is_end, last_from, last_of, seek, seek_on, size_at};
-use order::Answer;
+use order::Refusal;
 
-// What a create will do: its file, of first block `first`, is the free chain cut after `part` blocks of the node at block `node`. Or its refusal.
-#[derive(Drop)]
-pub enum CreatePlan {
-    Refused {
-        answer: Answer,
-    },
-    Cut {
-        first: usize,
-        node: usize,
-        part: usize,
-    },
+// What a create will do: its file, of first block `first`, is the free chain cut after `part` blocks of the node at block `node`.
+#[derive(Clone, Copy)]
+pub struct Cut {
+    pub first: usize,
+    pub node: usize,
+    pub part: usize,
 }
 
 // Judges a create of so many blocks: InvalidValue, NoSpace.
-pub fn judge_create(table: &[u8], n: usize, block_count: usize) -> CreatePlan
+pub fn judge_create(table: &[u8], n: usize, block_count: usize) -> Result<Cut, Refusal>
     requires { Volume n table.now }
     ensures { CreatePlanned n table.now block_count result }
 {
     if block_count == 0 {
-        return CreatePlan::Refused {
-            answer: Answer::InvalidValue,
-        };
+        return Err(Refusal::InvalidValue);
     }
     let head = head_of(table);
-    let sought = seek(table, n, head, block_count);
-    let Sought::Within { node, part } = sought else {
-        return CreatePlan::Refused {
-            answer: Answer::NoSpace,
-        };
+    let Sought::Within { node, part } = seek(table, n, head, block_count) else {
+        return Err(Refusal::NoSpace);
     };
-    CreatePlan::Cut {
-        first: head - 1,
-        node,
-        part,
-    }
+    let first = head - 1;
+    Ok(Cut { first, node, part })
 }
 
 // What a resize will do to the file whose last node is at block `last`: nothing; or it ends after `part` blocks of the node at block `node`, which is its
-// own, or a free one. Or its refusal.
-#[derive(Drop)]
+// own, or a free one.
+#[derive(Clone, Copy)]
 pub enum ResizePlan {
-    Refused {
-        answer: Answer,
-    },
     Same,
     Shrink {
         last: usize,
@@ -70,34 +54,31 @@ pub enum ResizePlan {
 }
 
 // Judges a resize of a file to some blocks: NoSpace.
-fn judge_count(table: &[u8], n: usize, first_block: usize, block_count: usize) -> ResizePlan
+fn judge_count(
+    table: &[u8],
+    n: usize,
+    first_block: usize,
+    block_count: usize,
+) -> Result<ResizePlan, Refusal>
     requires volume { Volume n table.now }
     requires file { File table.now n first_block }
     requires le_block_count { 1 ≤ block_count }
     ensures { ResizePlanned n table.now first_block block_count result }
 {
-    let sought = seek(table, n, first_block + 1, block_count);
-    match sought {
+    match seek(table, n, first_block + 1, block_count) {
         Sought::Within { node, part } => {
             if is_end(table, n, node, part) {
-                return ResizePlan::Same;
+                return Ok(ResizePlan::Same);
             }
             let last = last_from(table, n, node);
-            ResizePlan::Shrink { last, node, part }
+            Ok(ResizePlan::Shrink { last, node, part })
         }
         Sought::Past { last, part } => {
-            let head = head_of(table);
-            let more = seek(table, n, head, part);
-            match more {
-                Sought::Within { node, part } => ResizePlan::Grow {
-                    last: last - 1,
-                    node,
-                    part,
-                },
-                Sought::Past { last: _, part: _ } => ResizePlan::Refused {
-                    answer: Answer::NoSpace,
-                },
-            }
+            let Sought::Within { node, part } = seek(table, n, head_of(table), part) else {
+                return Err(Refusal::NoSpace);
+            };
+            let last = last - 1;
+            Ok(ResizePlan::Grow { last, node, part })
         }
     }
 }
@@ -110,73 +91,58 @@ pub fn judge_resize(
     first_block: usize,
     block_count: usize,
     begins: bool,
-) -> ResizePlan
+) -> Result<ResizePlan, Refusal>
     requires volume { Volume n table.now }
     requires file { (begins ≡ true → File table.now n first_block) × (File table.now n first_block → begins ≡ true) }
     ensures { ResizePlanned n table.now first_block block_count result }
 {
     if !begins {
-        return ResizePlan::Refused {
-            answer: Answer::NotAFile,
-        };
+        return Err(Refusal::NotAFile);
     }
     if block_count == 0 {
-        return ResizePlan::Refused {
-            answer: Answer::InvalidValue,
-        };
+        return Err(Refusal::InvalidValue);
     }
     judge_count(table, n, first_block, block_count)
 }
 
-// What a delete will do: the free chain comes after the file's last node, at block `last`. Or its refusal.
-#[derive(Drop)]
-pub enum DeletePlan {
-    Refused { answer: Answer },
-    Join { last: usize },
-}
-
-// Judges a delete of the file at a block: NotAFile.
-pub fn judge_delete(table: &[u8], n: usize, first_block: usize, begins: bool) -> DeletePlan
+// Judges a delete of the file at a block: NotAFile. Answers the block of the file's last node, after which the free chain will come.
+pub fn judge_delete(
+    table: &[u8],
+    n: usize,
+    first_block: usize,
+    begins: bool,
+) -> Result<usize, Refusal>
     requires volume { Volume n table.now }
     requires file { (begins ≡ true → File table.now n first_block) × (File table.now n first_block → begins ≡ true) }
     ensures { DeletePlanned n table.now first_block result }
 {
     if !begins {
-        return DeletePlan::Refused {
-            answer: Answer::NotAFile,
-        };
+        return Err(Refusal::NotAFile);
     }
-    let last = last_of(table, n, first_block + 1);
-    DeletePlan::Join { last }
-}
-
-// What an open list will do: list the file's blocks. Or its refusal.
-#[derive(Drop)]
-pub enum ListPlan {
-    Refused { answer: Answer },
-    Listing,
+    Ok(last_of(table, n, first_block + 1))
 }
 
 // Judges an open list of the file at a block, into a list of room places: NotAFile, ListTooShort. Into n places any file fits, and no chain is followed.
-pub fn judge_list(table: &[u8], n: usize, first_block: usize, room: usize, begins: bool) -> ListPlan
+pub fn judge_list(
+    table: &[u8],
+    n: usize,
+    first_block: usize,
+    room: usize,
+    begins: bool,
+) -> Result<(), Refusal>
     requires volume { Volume n table.now }
     requires file { (begins ≡ true → File table.now n first_block) × (File table.now n first_block → begins ≡ true) }
     ensures { ListPlanned n table.now first_block room result }
 {
     if !begins {
-        return ListPlan::Refused {
-            answer: Answer::NotAFile,
-        };
+        return Err(Refusal::NotAFile);
     }
     if n <= room {
-        return ListPlan::Listing;
+        return Ok(());
     }
-    let sought = seek(table, n, first_block + 1, room + 1);
-    match sought {
-        Sought::Within { node: _, part: _ } => ListPlan::Refused {
-            answer: Answer::ListTooShort,
-        },
-        Sought::Past { last: _, part: _ } => ListPlan::Listing,
+    match seek(table, n, first_block + 1, room + 1) {
+        Sought::Within { .. } => Err(Refusal::ListTooShort),
+        Sought::Past { .. } => Ok(()),
     }
 }
 
@@ -184,10 +150,7 @@ pub fn judge_list(table: &[u8], n: usize, first_block: usize, room: usize, begin
 fn passes(size: usize, pos: usize, len: usize) -> bool
     ensures { (result ≡ true → size < pos + len) × (result ≡ false → pos + len ≤ size) }
 {
-    if size < pos {
-        return true;
-    }
-    size - pos < len
+    size < pos || size - pos < len
 }
 
 // Whether a file goes on for len bytes, from byte `from` of its node at block b on. Its chain is followed as far as they reach.
@@ -202,19 +165,17 @@ fn goes_on(table: &[u8], n: usize, block_len: usize, b: usize, from: usize, len:
         return true;
     }
     let next = fat_node::next_of(table, b);
-    let sought = seek_on(table, n, next, b + 1, (end - reach - 1) / block_len + 1);
-    match sought {
-        Sought::Within { node: _, part: _ } => true,
-        Sought::Past { last: _, part: _ } => false,
+    match seek_on(table, n, next, b + 1, (end - reach - 1) / block_len + 1) {
+        Sought::Within { .. } => true,
+        Sought::Past { .. } => false,
     }
 }
 
-// A read or a write lies within the file, and its first byte is byte `from` of the node that index `index` names; at the file's end they say nothing. Or
-// its refusal.
-#[derive(Drop)]
-pub enum CarryPlan {
-    Refused { answer: Answer },
-    Within { index: usize, from: usize },
+// Where a read or a write within the file begins: at byte `from` of the node that index `index` names; at the file's end they say nothing.
+#[derive(Clone, Copy)]
+pub struct Cursor {
+    pub index: usize,
+    pub from: usize,
 }
 
 // Judges a read or write of so many bytes of a file from byte pos on, no more than there are data: OutOfBound.
@@ -225,32 +186,27 @@ fn judge_bytes(
     first_block: usize,
     pos: usize,
     len: usize,
-) -> CarryPlan
+) -> Result<Cursor, Refusal>
     requires volume { Volume n table.now }
     requires file { File table.now n first_block }
     requires le_block_len { (1 ≤ block_len) × (block_len ≤ 65536) × (pos + len ≤ n * block_len) }
     ensures { CarryPlanned n table.now block_len first_block pos len result }
 {
     let count = pos / block_len + 1;
-    let sought = seek(table, n, first_block + 1, count);
-    match sought {
+    match seek(table, n, first_block + 1, count) {
         Sought::Within { node, part } => {
             let from = (part - 1) * block_len + pos % block_len;
-            if goes_on(table, n, block_len, node, from, len) {
-                let index = node + 1;
-                return CarryPlan::Within { index, from };
+            if !goes_on(table, n, block_len, node, from, len) {
+                return Err(Refusal::OutOfBound);
             }
-            CarryPlan::Refused {
-                answer: Answer::OutOfBound,
-            }
+            let index = node + 1;
+            Ok(Cursor { index, from })
         }
-        Sought::Past { last: _, part } => {
+        Sought::Past { part, .. } => {
             if passes((count - part) * block_len, pos, len) {
-                return CarryPlan::Refused {
-                    answer: Answer::OutOfBound,
-                };
+                return Err(Refusal::OutOfBound);
             }
-            CarryPlan::Within { index: 0, from: 0 }
+            Ok(Cursor { index: 0, from: 0 })
         }
     }
 }
@@ -264,27 +220,17 @@ pub fn judge_carry(
     pos: usize,
     len: usize,
     begins: bool,
-) -> CarryPlan
+) -> Result<Cursor, Refusal>
     requires volume { Volume n table.now }
     requires file { (begins ≡ true → File table.now n first_block) × (File table.now n first_block → begins ≡ true) }
     requires le_block_len { (1 ≤ block_len) × (block_len ≤ 65536) }
     ensures { CarryPlanned n table.now block_len first_block pos len result }
 {
     if !begins {
-        return CarryPlan::Refused {
-            answer: Answer::NotAFile,
-        };
+        return Err(Refusal::NotAFile);
     }
     if passes(n * block_len, pos, len) {
-        return CarryPlan::Refused {
-            answer: Answer::OutOfBound,
-        };
+        return Err(Refusal::OutOfBound);
     }
     judge_bytes(table, n, block_len, first_block, pos, len)
-}
-
-// The answer of a call that answers its number alone.
-#[derive(Drop)]
-pub struct Answered {
-    pub answer: Answer,
 }

@@ -3,6 +3,8 @@
 
 ghost use Rattle.std.specs.Prelude.{◌≡◌, true, ◌+◌, ◌≤◌, ◌<◌, length};
 ghost use Rattle.std.proofs.lemmas.List.Edits.{sets};
+ghost use Rattle.std.specs.Result.{result_unwrap_or};
+ghost use Rattle.order.specs.Answer.{answer_of};
 ghost use Rattle.fat_table.specs.Sound.{File};
 ghost use Rattle.fat_table.specs.Chain.{total, chain_at};
 ghost use Rattle.fat_promises.specs.Blocks.{blocks_from, blocks_of};
@@ -10,9 +12,9 @@ ghost use Rattle.fat_promises.specs.Calls.{list_gives, ListSound};
 ghost use Rattle.fat_walk.specs.Volume.{Volume};
 ghost use Rattle.fat_walk.specs.Inner.Chains.{ChainFrom};
 
-use fat_judge::{ListPlan, judge_list};
+use fat_judge::judge_list;
 use fat_walk::{is_file, size_at};
-use order::Answer;
+use order::Refusal;
 
 // Writes the numbers of size blocks from block b on into a list, from place at on.
 pub fn number_run(list: &mut [u32], at: usize, b: usize, size: usize)
@@ -20,10 +22,8 @@ pub fn number_run(list: &mut [u32], at: usize, b: usize, size: usize)
     requires size_bound { b + size ≤ 1000000 }
     ensures { list.new ≡ sets list.old at (blocks_from size b) }
 {
-    let mut k: usize = 0;
-    while k < size {
+    for k in 0..size {
         list[at + k] = (b + k) as u32;
-        k += 1;
     }
 }
 
@@ -45,42 +45,31 @@ fn number_chain(table: &[u8], n: usize, first: usize, list: &mut [u32]) -> usize
     at
 }
 
-// The answer of open_list: the number of the file's blocks.
-#[derive(Drop)]
-pub struct Listed {
-    pub answer: Answer,
-    pub count: usize,
-}
-
-// Lists the blocks of the file at a block, on a sound table, in chain order. It is told whether the block begins a file.
+// Lists the blocks of the file at a block, on a sound table, in chain order. Answers how many they are. It is told whether the block begins a file.
 pub fn open_list_told(
     table: &[u8],
     n: usize,
     first_block: usize,
     begins: bool,
     list: &mut [u32],
-) -> Listed
+) -> Result<usize, Refusal>
     requires volume { Volume n table.now }
     requires file { (begins ≡ true → File table.now n first_block) × (File table.now n first_block → begins ≡ true) }
-    ensures { ListSound n table.now first_block list.old (list_gives result.answer result.count list.new) }
+    ensures { ListSound n table.now first_block list.old (list_gives (answer_of result) (result_unwrap_or result 0) list.new) }
 {
-    let plan = judge_list(table, n, first_block, list.len(), begins);
-    match plan {
-        ListPlan::Refused { answer } => Listed { answer, count: 0 },
-        ListPlan::Listing => {
-            let count = number_chain(table, n, first_block + 1, list);
-            Listed {
-                answer: Answer::Done,
-                count,
-            }
-        }
-    }
+    judge_list(table, n, first_block, list.len(), begins)?;
+    Ok(number_chain(table, n, first_block + 1, list))
 }
 
 // The same where it is not told.
-pub fn open_list_sound(table: &[u8], n: usize, first_block: usize, list: &mut [u32]) -> Listed
+pub fn open_list_sound(
+    table: &[u8],
+    n: usize,
+    first_block: usize,
+    list: &mut [u32],
+) -> Result<usize, Refusal>
     requires { Volume n table.now }
-    ensures { ListSound n table.now first_block list.old (list_gives result.answer result.count list.new) }
+    ensures { ListSound n table.now first_block list.old (list_gives (answer_of result) (result_unwrap_or result 0) list.new) }
 {
     let begins = is_file(table, n, first_block);
     open_list_told(table, n, first_block, begins, list)

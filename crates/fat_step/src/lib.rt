@@ -2,6 +2,8 @@
 #![tactic(auto)]
 
 ghost use Rattle.std.specs.Prelude.{◌≡◌, true, ℕ, ◌+◌, ◌≤◌, ◌<◌};
+ghost use Rattle.std.specs.Result.{result_unwrap_or};
+ghost use Rattle.order.specs.Answer.{answer_of};
 ghost use Rattle.fat_node.specs.Node.{next_at};
 ghost use Rattle.fat_table.specs.Sound.{File};
 ghost use Rattle.fat_table.specs.Chain.{size_at, free_at};
@@ -12,12 +14,10 @@ ghost use Rattle.fat_walk.specs.Inner.Chains.{Standing, StandingAt, Inside};
 ghost use Rattle.fat_step.specs.Inner.Writes.{with_prev, join_at, end_at, split_at, cut_at};
 ghost use Rattle.fat_judge.specs.Inner.Plans.{TakeAt, Recut, RecutAt, DeleteAt};
 
-use fat_judge::{
-    Answered, CreatePlan, DeletePlan, ResizePlan, judge_create, judge_delete, judge_resize,
-};
+use fat_judge::{ResizePlan, judge_create, judge_delete, judge_resize};
 use fat_node::Node;
 use fat_walk::{head_of, is_file, node_at, size_at};
-use order::Answer;
+use order::Refusal;
 
 // Gives the node that index i names, if it names one, another previous.
 fn set_prev(table: &mut [u8], n: usize, i: usize, prev: usize)
@@ -30,9 +30,7 @@ fn set_prev(table: &mut [u8], n: usize, i: usize, prev: usize)
     }
     let b = i - 1;
     let node = node_at(table, n, b);
-    let size = node.size;
-    let next = node.next;
-    fat_node::set_node(table, n, b, Node { size, prev, next });
+    fat_node::set_node(table, n, b, Node { prev, ..node });
 }
 
 // Lets the chain whose last node is at block y go on with the chain that index i starts.
@@ -43,19 +41,8 @@ fn join(table: &mut [u8], n: usize, y: usize, i: usize)
     ensures { table.new ≡ join_at table.old y i }
 {
     let node = node_at(table, n, y);
-    let size = node.size;
-    let prev = node.prev;
     set_prev(table, n, i, y + 1);
-    fat_node::set_node(
-        table,
-        n,
-        y,
-        Node {
-            size,
-            prev,
-            next: i,
-        },
-    );
+    fat_node::set_node(table, n, y, Node { next: i, ..node });
 }
 
 // Ends a chain after the node at block b; what comes after it becomes the free chain.
@@ -65,21 +52,9 @@ fn end_at(table: &mut [u8], n: usize, b: usize)
     ensures { table.new ≡ end_at table.old b }
 {
     let node = node_at(table, n, b);
-    let size = node.size;
-    let prev = node.prev;
-    let next = node.next;
-    set_prev(table, n, next, 0);
-    fat_node::set_node(
-        table,
-        n,
-        b,
-        Node {
-            size,
-            prev,
-            next: 0,
-        },
-    );
-    fat_node::set_head(table, next);
+    set_prev(table, n, node.next, 0);
+    fat_node::set_node(table, n, b, Node { next: 0, ..node });
+    fat_node::set_head(table, node.next);
 }
 
 // Ends a chain after m blocks of the node at block b; the rest of the node and what comes after it become the free chain.
@@ -90,31 +65,20 @@ fn split_at(table: &mut [u8], n: usize, b: usize, m: usize)
     ensures { table.new ≡ split_at table.old b m }
 {
     let node = node_at(table, n, b);
-    let prev = node.prev;
-    let next = node.next;
-    let rest = node.size - m;
     let right = b + m;
-    set_prev(table, n, next, right + 1);
-    fat_node::set_node(
-        table,
-        n,
-        b,
-        Node {
-            size: m,
-            prev,
-            next: 0,
-        },
-    );
-    fat_node::set_node(
-        table,
-        n,
-        right,
-        Node {
-            size: rest,
-            prev: 0,
-            next,
-        },
-    );
+    let left = Node {
+        size: m,
+        next: 0,
+        ..node
+    };
+    let rest = Node {
+        size: node.size - m,
+        prev: 0,
+        ..node
+    };
+    set_prev(table, n, node.next, right + 1);
+    fat_node::set_node(table, n, b, left);
+    fat_node::set_node(table, n, right, rest);
     fat_node::set_head(table, right + 1);
 }
 
@@ -125,8 +89,7 @@ fn cut(table: &mut [u8], n: usize, b: usize, m: usize)
     requires le_m { (1 ≤ m) × (m ≤ size_at table.old b) }
     ensures { table.new ≡ cut_at table.old b m }
 {
-    let size = size_at(table, n, b);
-    if m == size {
+    if m == size_at(table, n, b) {
         end_at(table, n, b);
     } else {
         split_at(table, n, b, m);
@@ -164,29 +127,14 @@ pub fn delete_step(table: &mut [u8], n: usize, first_block: usize, last: usize)
     fat_node::set_head(table, first_block + 1);
 }
 
-// The answer of create: the first block of the file that it made.
-#[derive(Drop)]
-pub struct Created {
-    pub answer: Answer,
-    pub first: usize,
-}
-
-// Creates a file of so many blocks, on a sound table: the first of the free chain.
-pub fn create_sound(table: &mut [u8], n: usize, block_count: usize) -> Created
+// Creates a file of so many blocks, on a sound table: the first of the free chain. Answers the file's first block.
+pub fn create_sound(table: &mut [u8], n: usize, block_count: usize) -> Result<usize, Refusal>
     requires { Volume n table.old }
-    ensures { CreateSound n table.old block_count (create_gives result.answer result.first table.new) }
+    ensures { CreateSound n table.old block_count (create_gives (answer_of result) (result_unwrap_or result 0) table.new) }
 {
-    let plan = judge_create(table, n, block_count);
-    match plan {
-        CreatePlan::Refused { answer } => Created { answer, first: 0 },
-        CreatePlan::Cut { first, node, part } => {
-            create_step(table, n, node, part);
-            Created {
-                answer: Answer::Done,
-                first,
-            }
-        }
-    }
+    let cut = judge_create(table, n, block_count)?;
+    create_step(table, n, cut.node, cut.part);
+    Ok(cut.first)
 }
 
 // Resizes the file at a block to so many blocks, on a sound table: the file and the free chain after it, cut where the file is to end. It is told whether
@@ -197,63 +145,54 @@ pub fn resize_told(
     first_block: usize,
     block_count: usize,
     begins: bool,
-) -> Answered
+) -> Result<(), Refusal>
     requires volume { Volume n table.old }
     requires file { (begins ≡ true → File table.old n first_block) × (File table.old n first_block → begins ≡ true) }
-    ensures { ResizeSound n table.old first_block block_count (change_gives result.answer table.new) }
+    ensures { ResizeSound n table.old first_block block_count (change_gives result table.new) }
 {
-    let plan = judge_resize(table, n, first_block, block_count, begins);
-    match plan {
-        ResizePlan::Refused { answer } => Answered { answer },
-        ResizePlan::Same => Answered {
-            answer: Answer::Done,
-        },
-        ResizePlan::Shrink { last, node, part } => {
+    match judge_resize(table, n, first_block, block_count, begins)? {
+        ResizePlan::Same => {}
+        ResizePlan::Shrink { last, node, part } | ResizePlan::Grow { last, node, part } => {
             resize_step(table, n, last, node, part);
-            Answered {
-                answer: Answer::Done,
-            }
-        }
-        ResizePlan::Grow { last, node, part } => {
-            resize_step(table, n, last, node, part);
-            Answered {
-                answer: Answer::Done,
-            }
         }
     }
+    Ok(())
 }
 
 // The same where it is not told.
-pub fn resize_sound(table: &mut [u8], n: usize, first_block: usize, block_count: usize) -> Answered
+pub fn resize_sound(
+    table: &mut [u8],
+    n: usize,
+    first_block: usize,
+    block_count: usize,
+) -> Result<(), Refusal>
     requires { Volume n table.old }
-    ensures { ResizeSound n table.old first_block block_count (change_gives result.answer table.new) }
+    ensures { ResizeSound n table.old first_block block_count (change_gives result table.new) }
 {
     let begins = is_file(table, n, first_block);
     resize_told(table, n, first_block, block_count, begins)
 }
 
 // Deletes the file at a block, on a sound table: all its nodes go before the free front, in their order. It is told whether the block begins a file.
-pub fn delete_told(table: &mut [u8], n: usize, first_block: usize, begins: bool) -> Answered
+pub fn delete_told(
+    table: &mut [u8],
+    n: usize,
+    first_block: usize,
+    begins: bool,
+) -> Result<(), Refusal>
     requires volume { Volume n table.old }
     requires file { (begins ≡ true → File table.old n first_block) × (File table.old n first_block → begins ≡ true) }
-    ensures { DeleteSound n table.old first_block (change_gives result.answer table.new) }
+    ensures { DeleteSound n table.old first_block (change_gives result table.new) }
 {
-    let plan = judge_delete(table, n, first_block, begins);
-    match plan {
-        DeletePlan::Refused { answer } => Answered { answer },
-        DeletePlan::Join { last } => {
-            delete_step(table, n, first_block, last);
-            Answered {
-                answer: Answer::Done,
-            }
-        }
-    }
+    let last = judge_delete(table, n, first_block, begins)?;
+    delete_step(table, n, first_block, last);
+    Ok(())
 }
 
 // The same where it is not told.
-pub fn delete_sound(table: &mut [u8], n: usize, first_block: usize) -> Answered
+pub fn delete_sound(table: &mut [u8], n: usize, first_block: usize) -> Result<(), Refusal>
     requires { Volume n table.old }
-    ensures { DeleteSound n table.old first_block (change_gives result.answer table.new) }
+    ensures { DeleteSound n table.old first_block (change_gives result table.new) }
 {
     let begins = is_file(table, n, first_block);
     delete_told(table, n, first_block, begins)

@@ -30,7 +30,7 @@ pub fn node_at(table: &[u8], n: usize, b: usize) -> Node
 }
 
 // Where a block of a chain lies: the part-th of the node at block `node`; or part blocks past the end of the chain, whose last node index `last` names.
-#[derive(Drop)]
+#[derive(Clone, Copy)]
 pub enum Sought {
     Within { node: usize, part: usize },
     Past { last: usize, part: usize },
@@ -95,18 +95,7 @@ pub fn is_file(table: &[u8], n: usize, b: usize) -> bool
     requires { Volume n table.now }
     ensures { (result ≡ true → File table.now n b) × (File table.now n b → result ≡ true) }
 {
-    if n <= b {
-        return false;
-    }
-    if !starts_at(table, n, b) {
-        return false;
-    }
-    let prev = fat_node::prev_of(table, b);
-    if prev != 0 {
-        return false;
-    }
-    let head = head_of(table);
-    head != b + 1
+    b < n && starts_at(table, n, b) && fat_node::prev_of(table, b) == 0 && head_of(table) != b + 1
 }
 
 // The last node of the chain that index first starts.
@@ -115,10 +104,9 @@ pub fn last_of(table: &[u8], n: usize, first: usize) -> usize
     requires fact { first ≡ 0 → ⊥ }
     ensures { LastAt (chain_at table.now n first) result }
 {
-    let sought = seek(table, n, first, n + 1);
-    match sought {
-        Sought::Within { node, part: _ } => node,
-        Sought::Past { last, part: _ } => last - 1,
+    match seek(table, n, first, n + 1) {
+        Sought::Within { node, .. } => node,
+        Sought::Past { last, .. } => last - 1,
     }
 }
 
@@ -128,10 +116,9 @@ pub fn last_from(table: &[u8], n: usize, b: usize) -> usize
     ensures { (l : List Run) (k m : ℕ) → Chain n table.now l → Inside l k b m → LastAt l result }
 {
     let next = fat_node::next_of(table, b);
-    let sought = seek_on(table, n, next, b + 1, n + 1);
-    match sought {
-        Sought::Within { node, part: _ } => node,
-        Sought::Past { last, part: _ } => last - 1,
+    match seek_on(table, n, next, b + 1, n + 1) {
+        Sought::Within { node, .. } => node,
+        Sought::Past { last, .. } => last - 1,
     }
 }
 
@@ -141,12 +128,7 @@ pub fn is_end(table: &[u8], n: usize, b: usize, part: usize) -> bool
     ensures { result ≡ true → (part ≡ size_at table.now b) × (next_at table.now b ≡ 0) }
 {
     let node = node_at(table, n, b);
-    let size = node.size;
-    let next = node.next;
-    if part == size {
-        return next == 0;
-    }
-    false
+    part == node.size && node.next == 0
 }
 
 // The smaller of two numbers.
