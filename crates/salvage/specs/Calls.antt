@@ -1,5 +1,5 @@
 -- What the call that follows one chain promises. n is the number of blocks, t the table, b the given block.
-use Rattle.std.specs.Prelude.{List, [], ◌∷◌, ◌++◌, ℕ, ◌<◌, length, drop}
+use Rattle.std.specs.Prelude.{Result, Ok, Err, List, [], ◌∷◌, ◌++◌, ℕ, ◌<◌, length, drop}
 use Rattle.order.specs.First.{Row, row}
 use Rattle.order.specs.Gate.{cleared, gate}
 use Rattle.order.specs.Giving.{giving}
@@ -8,12 +8,14 @@ use Rattle.order.specs.Answer.{unbroken}
 use Rattle.order.specs.Answer.{Answer}
 use Rattle.order.specs.Answer.{Done, NotAFile, ListTooShort}
 use Rattle.order.specs.declared.Fault.{Fault}
+use Rattle.order.specs.declared.Refusal.{Refusal}
 use Rattle.fat_node.specs.Entry.{Bytes}
 use Rattle.fat_node.specs.Node.{NodeAt}
 use Rattle.fat_node.specs.Sizes.{blocks, Misfit, Outside}
 use Rattle.fat_table.specs.Chain.{total}
 use Rattle.fat_promises.specs.Blocks.{blocks_of}
 use Rattle.salvage.specs.Follow.{salvaged}
+use Rattle.salvage.specs.declared.Walked.{Walked}
 
 -- the answer, the number of blocks, why there are no more, the lent list afterwards
 pub record Followed : Type 0 where
@@ -25,6 +27,11 @@ pub record Followed : Type 0 where
 -- the same, by its parts
 abbrev pub chain_gives : (answer : Answer) (count : ℕ) (why : Fault) (list : List ℕ) → Followed
 chain_gives answer count why list = record { answer = answer; count = count; why = why; list = list }
+
+-- what the call gives, and the lent list afterwards; with a refusal all numbers are 0
+abbrev pub chain_says : Result Walked Refusal → (list : List ℕ) → Followed
+chain_says (Ok w) list = chain_gives Done w.count w.why list
+chain_says (Err why) list = chain_gives (Err why) 0 unbroken list
 
 -- its tests, for a list of room places: no node can be read at block b (so also where b is no block), and a list that can't hold the blocks
 abbrev pub chain_tests : (n : ℕ) (t : Bytes) (b room : ℕ) → List (Row Answer)

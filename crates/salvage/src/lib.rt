@@ -5,24 +5,16 @@
 
 ghost use Rattle.std.specs.Prelude.{◌≡◌, ◌+◌, ◌*◌, ◌≤◌, ◌<◌, length};
 ghost use Rattle.std.proofs.lemmas.List.Edits.{sets};
-ghost use Rattle.order.specs.Answer.{unbroken};
 ghost use Rattle.order.specs.Beside.{beside};
 ghost use Rattle.fat_table.specs.Chain.{total};
 ghost use Rattle.fat_promises.specs.Blocks.{blocks_of};
 ghost use Rattle.salvage.specs.Follow.{missed, salvaged};
-ghost use Rattle.salvage.specs.Calls.{chain_gives, ChainPromise};
-ghost use Rattle.salvage.specs.Inner.Walks.{Standing, LookSays, Tells, Below, TakeSays, WalkSays, ChainSays};
+ghost use Rattle.salvage.specs.Calls.{chain_says, ChainPromise};
+ghost use Rattle.salvage.specs.Inner.Walks.{LookSays, Tells, Below, TakeSays, WalkSays, ChainSays};
 
 use fat_list::number_run;
-use fat_node::{Node, NodeRead};
-use order::{Answer, Fault};
-
-// What stands at a block for a walk that comes there: the size of a node and the index of its next, or why the walk stops.
-#[derive(Drop)]
-pub enum Look {
-    Node { size: usize, next: usize },
-    Stop { why: Fault },
-}
+use fat_node::Node;
+use order::{Fault, Refusal};
 
 // Why a node at block b is not taken whose previous is not p.
 fn missed(p: usize, b: usize) -> Fault
@@ -38,37 +30,20 @@ fn missed(p: usize, b: usize) -> Fault
     Fault { entry: p, rule: 7 }
 }
 
-// Looks at a node that stands at block b, for a walk whose last node index p names.
-fn look_back(table: &[u8], n: usize, p: usize, b: usize, node: Node) -> Look
-    requires { Standing n table.now b node }
-    ensures { LookSays n table.now p b result }
-{
-    let size = node.size;
-    let prev = node.prev;
-    let next = node.next;
-    if prev == p {
-        return Look::Node { size, next };
-    }
-    let why = missed(p, b);
-    Look::Stop { why }
-}
-
-// Looks at block b.
-fn look_at(table: &[u8], n: usize, p: usize, b: usize) -> Look
+// The node that stands at block b, for a walk whose last node index p names; or why the walk stops.
+fn look_at(table: &[u8], n: usize, p: usize, b: usize) -> Result<Node, Fault>
     requires table_len { length table.now ≡ 8 * (n + 1) }
     requires n_bound { n ≤ 1000000 }
     ensures { LookSays n table.now p b result }
 {
     if n <= b {
-        return Look::Stop {
-            why: Fault { entry: p, rule: 7 },
-        };
+        return Err(Fault { entry: p, rule: 7 });
     }
-    let r = fat_node::get_node(table, n, b);
-    match r {
-        NodeRead::Broken(why) => Look::Stop { why },
-        NodeRead::Found(node) => look_back(table, n, p, b, node),
+    let node = fat_node::get_node(table, n, b)?;
+    if node.prev != p {
+        return Err(missed(p, b));
     }
+    Ok(node)
 }
 
 // Gives the mark to size places from b on, of which none has it; or says that one has.
@@ -76,20 +51,17 @@ fn take(work: &mut [u32], b: usize, size: usize, mark: u32) -> bool
     requires { b + size ≤ length work.old }
     ensures { TakeSays work.old b size mark work.new result }
 {
-    let end = b + size;
-    let mut x = b;
-    while x < end {
+    for x in b..b + size {
         if work[x] == mark {
             return false;
         }
         work[x] = mark;
-        x += 1;
     }
     true
 }
 
 // Where a walk ended: how many blocks it followed, and why there are no more.
-#[derive(Drop)]
+#[derive(Clone, Copy, PartialEq, Eq)]
 pub struct Walked {
     pub count: usize,
     pub why: Fault,
@@ -103,32 +75,25 @@ pub fn walk(table: &[u8], n: usize, work: &mut [u32], first: usize, mark: u32) -
     ensures { WalkSays n table.now first mark result.count result.why work.new }
 {
     let mut i = first + 1;
-    let mut p: usize = 0;
-    let mut count: usize = 0;
+    let mut p = 0;
+    let mut count = 0;
     while i != 0 {
         let b = i - 1;
-        let seen = look_at(table, n, p, b);
-        match seen {
-            Look::Stop { why } => {
-                return Walked { count, why };
-            }
-            Look::Node { size, next } => {
-                if !take(work, b, size, mark) {
-                    return Walked {
-                        count,
-                        why: Fault { entry: p, rule: 7 },
-                    };
+        match look_at(table, n, p, b) {
+            Err(why) => return Walked { count, why },
+            Ok(node) => {
+                if !take(work, b, node.size, mark) {
+                    let why = Fault { entry: p, rule: 7 };
+                    return Walked { count, why };
                 }
-                count += size;
+                count += node.size;
                 p = i;
-                i = next;
+                i = node.next;
             }
         }
     }
-    Walked {
-        count,
-        why: Fault { entry: 0, rule: 0 },
-    }
+    let why = Fault { entry: 0, rule: 0 };
+    Walked { count, why }
 }
 
 // Writes the count blocks that a walk followed into a list that has room for them, from place from on.
@@ -146,7 +111,7 @@ pub fn number_chain(
     ensures { list.new ≡ sets list.old from (blocks_of (salvaged n table.now first).runs) }
 {
     let mut i = first + 1;
-    let mut at: usize = 0;
+    let mut at = 0;
     while at < count {
         let b = i - 1;
         let size = fat_node::size_of(table, n, b) as usize;
@@ -162,75 +127,54 @@ pub fn readable(table: &[u8], n: usize, b: usize) -> bool
     requires n_bound { n ≤ 1000000 }
     ensures { Tells n table.now b result }
 {
-    if n <= b {
-        return false;
-    }
-    let r = fat_node::get_node(table, n, b);
-    let NodeRead::Found(_) = r else {
-        return false;
-    };
-    true
-}
-
-// What following a chain answers: how many blocks were followed, and why there are no more.
-#[derive(Drop)]
-pub struct Salvaged {
-    pub answer: Answer,
-    pub count: usize,
-    pub why: Fault,
-}
-
-// A refusal, whose fields are 0.
-fn refused(answer: Answer) -> Salvaged
-    ensures { (result.answer ≡ answer) × (result.count ≡ 0) × (result.why ≡ unbroken) }
-{
-    Salvaged {
-        answer,
-        count: 0,
-        why: Fault { entry: 0, rule: 0 },
-    }
+    b < n && fat_node::get_node(table, n, b).is_ok()
 }
 
 // Lists the blocks of the chain that a block starts, on a table of n blocks of any bytes. The work list has n places.
-fn chain_sized(table: &[u8], n: usize, work: &mut [u32], first: usize, list: &mut [u32]) -> Salvaged
+fn chain_sized(
+    table: &[u8],
+    n: usize,
+    work: &mut [u32],
+    first: usize,
+    list: &mut [u32],
+) -> Result<Walked, Refusal>
     requires table_len { length table.now ≡ 8 * (n + 1) }
     requires n_bound { (n ≤ 1000000) × (length work.old ≡ n) }
-    ensures { ChainSays n table.now first list.old (chain_gives result.answer result.count result.why list.new) work.new }
+    ensures { ChainSays n table.now first list.old (chain_says result list.new) work.new }
 {
     order::clear(work);
     if !readable(table, n, first) {
-        return refused(Answer::NotAFile);
+        return Err(Refusal::NotAFile);
     }
     let walked = walk(table, n, work, first, 1);
     order::clear(work);
-    let count = walked.count;
-    let why = walked.why;
-    if list.len() < count {
-        return refused(Answer::ListTooShort);
+    if list.len() < walked.count {
+        return Err(Refusal::ListTooShort);
     }
-    number_chain(table, n, first, count, list, 0);
-    Salvaged {
-        answer: Answer::Done,
-        count,
-        why,
-    }
+    number_chain(table, n, first, walked.count, list, 0);
+    Ok(walked)
 }
 
-// Lists the blocks of the chain that a block starts, as far as it can be followed, on a table of any bytes; later places of the list stay. Answers its
-// number, how many blocks were followed, and why there are no more: where entry and rule are 0 the chain is whole, and these blocks are the file's in every
-// sound table that has the entries of its nodes. NotAFile where no node can be read at the block, ListTooShort where the list can't hold the blocks.
-pub fn chain(table: &[u8], work: &mut [u32], first: usize, list: &mut [u32]) -> Salvaged
-    ensures { ChainPromise table.now work.old first list.old (beside (chain_gives result.answer result.count result.why list.new) work.new) }
+// Lists the blocks of the chain that a block starts, as far as it can be followed, on a table of any bytes; later places of the list stay. Gives how many
+// blocks were followed, and why there are no more: where entry and rule are 0 the chain is whole, and these blocks are the file's in every sound table that has
+// the entries of its nodes. NotAFile where no node can be read at the block, ListTooShort where the list can't hold the blocks.
+pub fn chain(
+    table: &[u8],
+    work: &mut [u32],
+    first: usize,
+    list: &mut [u32],
+) -> Result<Walked, Refusal>
+    ensures { ChainPromise table.now work.old first list.old (beside (chain_says result list.new) work.new) }
 {
     if fat_node::misfit(table) {
-        return refused(Answer::SizeMismatch);
+        return Err(Refusal::SizeMismatch);
     }
     if fat_node::outside(table) {
-        return refused(Answer::InvalidValue);
+        return Err(Refusal::InvalidValue);
     }
     let n = table.len() / 8 - 1;
     if work.len() < n {
-        return refused(Answer::WorkTooShort);
+        return Err(Refusal::WorkTooShort);
     }
     chain_sized(table, n, &mut work[..n], first, list)
 }

@@ -1,3 +1,4 @@
 pub mod Shared
+pub mod Trust
 pub mod Calls
 pub mod Inner

@@ -9,26 +9,42 @@ ghost use Rattle.order.specs.Beside.{beside};
 ghost use Rattle.fat_node.specs.Node.{run, NodeAt, next_at};
 ghost use Rattle.salvage.specs.Follow.{salvaged};
 ghost use Rattle.salvage_shared.specs.Shared.{whole_runs, laid};
+ghost use Rattle.salvage_shared.specs.Trust.{number_of};
 ghost use Rattle.salvage_shared.specs.Calls.{shared_gives, SharedPromise};
-ghost use Rattle.salvage_shared.specs.Inner.Says.{More, Added, MeetsRun, MeetsRuns, Tells, TellsAll, NodeHere, Sized, WholeAt, Told, Kinds, MayJudge, Judges, MayShare, JudgedAll, Shares, SharedSays};
+ghost use Rattle.salvage_shared.specs.Inner.Says.{More, Added, MeetsRun, MeetsRuns, Tells, TellsAll, NodeHere, Sized, WholeAt, Told, Kinds, MayJudge, Judges, MayShare, JudgedAll, Shares, SharedSays, BlocksOf};
 
-use order::Answer;
+use order::Refusal;
 
-// The same number, wider.
-fn wide(x: u32) -> usize
-    ensures { result ≡ x }
-{
-    x as usize
+// What is told of a chain: it is whole, it is cut, it is whole but shares a block, or it was not followed.
+#[derive(Clone, Copy, PartialEq, Eq)]
+pub enum Trust {
+    Whole,
+    Cut,
+    Shared,
+    NotFollowed,
+}
+
+impl Trust {
+    ghost use Rattle.salvage_shared.specs.Trust.{number_of};
+
+    // Its number, as it stands in the lent list.
+    pub fn number(self) -> u32
+        ensures { result ≡ number_of self }
+    {
+        match self {
+            Trust::Whole => 0,
+            Trust::Cut => 1,
+            Trust::Shared => 2,
+            Trust::NotFollowed => 3,
+        }
+    }
 }
 
 // A count with one more: 2 stands for more than one.
 fn one_more(v: u32) -> u32
     ensures { More v result }
 {
-    if v < 2 {
-        return v + 1;
-    }
-    v
+    if v < 2 { v + 1 } else { v }
 }
 
 // Counts size blocks from b on.
@@ -36,11 +52,8 @@ fn lay_run(work: &mut [u32], b: usize, size: usize)
     requires { b + size ≤ length work.old }
     ensures { Added work.old work.new (run b size ∷ []) }
 {
-    let mut k: usize = 0;
-    while k < size {
-        let v = work[b + k];
-        work[b + k] = one_more(v);
-        k += 1;
+    for x in b..b + size {
+        work[x] = one_more(work[x]);
     }
 }
 
@@ -81,8 +94,8 @@ fn lay_one(table: &[u8], n: usize, work: &mut [u32], first: u32, kind: u32)
     requires { Told n table.now work.old first kind }
     ensures { Added work.old work.new (whole_runs n table.now first kind) }
 {
-    if kind == 0 {
-        lay_chain(table, n, work, wide(first));
+    if kind == Trust::Whole.number() {
+        lay_chain(table, n, work, first as usize);
     }
 }
 
@@ -91,10 +104,8 @@ fn lay_all(table: &[u8], n: usize, work: &mut [u32], firsts: &[u32], list: &[u32
     requires { Kinds n table.now work.old firsts.now list.now }
     ensures { Added work.old work.new (laid n table.now firsts.now list.now) }
 {
-    let mut i: usize = 0;
-    while i < firsts.len() {
-        lay_one(table, n, work, firsts[i], list[i]);
-        i += 1;
+    for (i, first) in firsts.iter().enumerate() {
+        lay_one(table, n, work, *first, list[i]);
     }
 }
 
@@ -103,15 +114,7 @@ fn run_meets(work: &[u32], b: usize, size: usize) -> bool
     requires { b + size ≤ length work.now }
     ensures { MeetsRun work.now b size result }
 {
-    let end = b + size;
-    let mut x = b;
-    while x < end {
-        if work[x] == 2 {
-            return true;
-        }
-        x += 1;
-    }
-    false
+    work[b..b + size].contains(&2)
 }
 
 // Whether a block of a whole chain is.
@@ -138,13 +141,10 @@ fn tell_one(table: &[u8], n: usize, work: &[u32], first: u32, kind: u32) -> u32
     requires { Told n table.now work.now first kind }
     ensures { Tells n table.now work.now first kind result }
 {
-    if kind != 0 {
-        return kind;
+    if kind == Trust::Whole.number() && chain_meets(table, n, work, first as usize) {
+        return Trust::Shared.number();
     }
-    if chain_meets(table, n, work, wide(first)) {
-        return 2;
-    }
-    0
+    kind
 }
 
 // What is told of each.
@@ -152,45 +152,45 @@ fn tell_all(table: &[u8], n: usize, work: &[u32], firsts: &[u32], list: &mut [u3
     requires { Kinds n table.now work.now firsts.now list.old }
     ensures { TellsAll n table.now work.now firsts.now list.old list.new }
 {
-    let mut i: usize = 0;
-    while i < firsts.len() {
-        let kind = list[i];
-        list[i] = tell_one(table, n, work, firsts[i], kind);
-        i += 1;
+    for (i, first) in firsts.iter().enumerate() {
+        list[i] = tell_one(table, n, work, *first, list[i]);
     }
 }
 
 // Whether a chain is whole, and how many blocks were followed up to its end.
-#[derive(Drop)]
+#[derive(Clone, Copy)]
 struct Judged {
-    kind: u32,
+    trust: Trust,
     spent: usize,
 }
 
 // Whether the chain that a block starts is whole; not asked where too many blocks were followed before.
 fn judge(table: &[u8], n: usize, work: &mut [u32], first: u32, mark: u32, spent: usize) -> Judged
     requires { MayJudge n table.now work.old mark spent }
-    ensures { Judges n table.now first mark spent work.new result.kind result.spent }
+    ensures { Judges n table.now first mark spent work.new (number_of result.trust) result.spent }
 {
     if 4 * n < spent {
-        return Judged { kind: 3, spent };
-    }
-    let b = wide(first);
-    if n <= b {
-        return Judged { kind: 1, spent };
-    }
-    let walked = salvage::walk(table, n, work, b, mark);
-    let why = walked.why;
-    let after = spent + walked.count;
-    if why.rule == 0 {
         return Judged {
-            kind: 0,
-            spent: after,
+            trust: Trust::NotFollowed,
+            spent,
         };
     }
+    let b = first as usize;
+    if n <= b {
+        return Judged {
+            trust: Trust::Cut,
+            spent,
+        };
+    }
+    let walked = salvage::walk(table, n, work, b, mark);
+    let trust = if walked.why.rule == 0 {
+        Trust::Whole
+    } else {
+        Trust::Cut
+    };
     Judged {
-        kind: 1,
-        spent: after,
+        trust,
+        spent: spent + walked.count,
     }
 }
 
@@ -199,13 +199,11 @@ fn judge_all(table: &[u8], n: usize, work: &mut [u32], firsts: &[u32], list: &mu
     requires { MayShare n table.now work.old firsts.now list.old }
     ensures { JudgedAll n table.now firsts.now list.new work.new }
 {
-    let mut spent: usize = 0;
-    let mut i: usize = 0;
-    while i < firsts.len() {
-        let judged = judge(table, n, work, firsts[i], (i + 1) as u32, spent);
-        list[i] = judged.kind;
+    let mut spent = 0;
+    for (i, first) in firsts.iter().enumerate() {
+        let judged = judge(table, n, work, *first, (i + 1) as u32, spent);
+        list[i] = judged.trust.number();
         spent = judged.spent;
-        i += 1;
     }
 }
 
@@ -221,12 +219,6 @@ fn share(table: &[u8], n: usize, work: &mut [u32], firsts: &[u32], list: &mut [u
     order::clear(work);
 }
 
-// What the call answers.
-#[derive(Drop)]
-pub struct Answered {
-    pub answer: Answer,
-}
-
 // The same of a table of n blocks and a work list of n places.
 fn shared_sized(
     table: &[u8],
@@ -234,50 +226,48 @@ fn shared_sized(
     work: &mut [u32],
     firsts: &[u32],
     list: &mut [u32],
-) -> Answered
+) -> Result<(), Refusal>
     requires sized { Sized n table.now work.old }
     requires firsts_len_bound { length firsts.now ≤ 1000000 }
-    ensures { SharedSays n table.now firsts.now list.old (shared_gives result.answer list.new) work.new }
+    ensures { SharedSays n table.now firsts.now list.old (shared_gives result list.new) work.new }
 {
     order::clear(work);
     let many = firsts.len();
     if list.len() < many {
-        return Answered {
-            answer: Answer::ListTooShort,
-        };
+        return Err(Refusal::ListTooShort);
     }
     share(table, n, work, firsts, &mut list[..many]);
-    Answered {
-        answer: Answer::Done,
+    Ok(())
+}
+
+// How many blocks a table of any length has, where the sizes fit, those of the first blocks too, and a work list has a place for each.
+pub fn blocks_of(table: &[u8], firsts: usize, places: usize) -> Result<usize, Refusal>
+    ensures { BlocksOf table.now firsts places result }
+{
+    if fat_node::misfit(table) {
+        return Err(Refusal::SizeMismatch);
     }
+    if fat_node::outside(table) || 1000000 < firsts {
+        return Err(Refusal::InvalidValue);
+    }
+    let n = table.len() / 8 - 1;
+    if places < n {
+        return Err(Refusal::WorkTooShort);
+    }
+    Ok(n)
 }
 
 // Tells of each of some first blocks whether its chain is whole and alone (0), cut (1), whole but with a block that another whole chain of these has too, or
-// the same chain named twice (2), or not followed, since those before it have more than 4n blocks together (3). Later places of the list stay. Answers its
-// number alone; refuses more than 1,000,000 first blocks as a size, and a list that has not a place for each.
-pub fn shared(table: &[u8], work: &mut [u32], firsts: &[u32], list: &mut [u32]) -> Answered
-    ensures { SharedPromise table.now work.old firsts.now list.old (beside (shared_gives result.answer list.new) work.new) }
+// the same chain named twice (2), or not followed, since those before it have more than 4n blocks together (3). Later places of the list stay. Refuses more
+// than 1,000,000 first blocks as a size, and a list that has not a place for each.
+pub fn shared(
+    table: &[u8],
+    work: &mut [u32],
+    firsts: &[u32],
+    list: &mut [u32],
+) -> Result<(), Refusal>
+    ensures { SharedPromise table.now work.old firsts.now list.old (beside (shared_gives result list.new) work.new) }
 {
-    if fat_node::misfit(table) {
-        return Answered {
-            answer: Answer::SizeMismatch,
-        };
-    }
-    if fat_node::outside(table) {
-        return Answered {
-            answer: Answer::InvalidValue,
-        };
-    }
-    if 1000000 < firsts.len() {
-        return Answered {
-            answer: Answer::InvalidValue,
-        };
-    }
-    let n = table.len() / 8 - 1;
-    if work.len() < n {
-        return Answered {
-            answer: Answer::WorkTooShort,
-        };
-    }
+    let n = blocks_of(table, firsts.len(), work.len())?;
     shared_sized(table, n, &mut work[..n], firsts, list)
 }

@@ -2,7 +2,8 @@
 #![tactic(auto)]
 
 ghost use Rattle.std.specs.Prelude.{◌≡◌, ◌*◌, ◌+◌, ◌≤◌, length};
-ghost use Rattle.std.proofs.lemmas.List.Edits.{sets};
+ghost use Rattle.std.specs.Result.{result_unwrap_or};
+ghost use Rattle.order.specs.Answer.{answer_of};
 ghost use Rattle.order.specs.Beside.{beside};
 ghost use Rattle.salvage_tree.specs.Calls.{entered_gives};
 ghost use Rattle.salvage_tree.specs.Inner.Says.{Sized};
@@ -10,8 +11,7 @@ ghost use Rattle.salvage_way.specs.Way.{parent_of, way};
 ghost use Rattle.salvage_way.specs.Calls.{WayPromise};
 ghost use Rattle.salvage_way.specs.Inner.Says.{Ready, WaySays};
 
-use order::Answer;
-use salvage_tree::Entered;
+use order::Refusal;
 
 // The width of a directory's entry.
 const DIR: usize = tree_key::SaveExtDirEntry::WIDTH;
@@ -27,58 +27,34 @@ fn parent_of(table: &[u8], x: u32) -> u32
     tree_table::link_of(table, DIR, 0, x)
 }
 
-// How many directories the way up has. Marks them.
+// How many directories the way up has. Marks them, where the removed ones are marked.
 fn count_way(table: &[u8], n: u32, work: &mut [u32], inode: u32) -> usize
     requires { Ready table.now n work.old }
     ensures { result ≡ length (way table.now inode) }
 {
     let mut x = inode;
-    let mut left = n;
-    let mut count: usize = 0;
-    while left != 0 {
-        if x == 0 {
-            return count;
-        }
-        if n <= x {
-            return count;
-        }
+    let mut count = 0;
+    for _ in 0..n {
         let i = tree_table::index(x);
-        if work[i] != 0 {
+        if x == 0 || n <= x || work[i] != 0 {
             return count;
         }
         work[i] = 1;
         count += 1;
         x = parent_of(table, x);
-        left -= 1;
     }
     count
 }
 
-// Writes the way up to a list that has room for it. Marks its directories.
-fn list_way(table: &[u8], n: u32, work: &mut [u32], inode: u32, list: &mut [u32])
-    requires ready { Ready table.now n work.old }
-    requires inode_in_bounds { length (way table.now inode) ≤ length list.old }
-    ensures { list.new ≡ sets list.old 0 (way table.now inode) }
+// Writes the way up into a list of as many places as it has directories.
+fn list_way(table: &[u8], inode: u32, list: &mut [u32])
+    requires { length list.old ≡ length (way table.now inode) }
+    ensures { list.new ≡ way table.now inode }
 {
     let mut x = inode;
-    let mut left = n;
-    let mut at: usize = 0;
-    while left != 0 {
-        if x == 0 {
-            return;
-        }
-        if n <= x {
-            return;
-        }
-        let i = tree_table::index(x);
-        if work[i] != 0 {
-            return;
-        }
-        work[i] = 1;
-        list[at] = x;
-        at += 1;
+    for place in list {
+        *place = x;
         x = parent_of(table, x);
-        left -= 1;
     }
 }
 
@@ -92,55 +68,37 @@ fn ready(table: &[u8], n: u32, work: &mut [u32])
 }
 
 // The way up of one of n directories, into a list that may be too short.
-fn way_sized(table: &[u8], n: u32, work: &mut [u32], inode: u32, list: &mut [u32]) -> Entered
+fn way_sized(
+    table: &[u8],
+    n: u32,
+    work: &mut [u32],
+    inode: u32,
+    list: &mut [u32],
+) -> Result<usize, Refusal>
     requires { Sized 40 table.now n work.old }
-    ensures { WaySays table.now inode list.old (entered_gives result.answer result.count list.new) (length work.old) work.new }
+    ensures { WaySays table.now inode list.old (entered_gives (answer_of result) (result_unwrap_or result 0) list.new) (length work.old) work.new }
 {
     ready(table, n, work);
     let count = count_way(table, n, work, inode);
-    if list.len() < count {
-        order::clear(work);
-        return Entered {
-            answer: Answer::ListTooShort,
-            count: 0,
-        };
-    }
-    ready(table, n, work);
-    list_way(table, n, work, inode, list);
     order::clear(work);
-    Entered {
-        answer: Answer::Done,
-        count,
+    if list.len() < count {
+        return Err(Refusal::ListTooShort);
     }
+    list_way(table, inode, &mut list[..count]);
+    Ok(count)
 }
 
 // Lists the directories from an inode up by parents, the inode itself first, as far as they can be followed in a directory table of any bytes: below count and
-// room, over no removed directory, and over none twice. Where the root, inode 1, is the last, the way leads to it. Answers its number and how many there are.
-pub fn way(table: &[u8], work: &mut [u32], inode: u32, list: &mut [u32]) -> Entered
-    ensures { WayPromise table.now work.old inode list.old (beside (entered_gives result.answer result.count list.new) work.new) }
+// room, over no removed directory, and over none twice. Where the root, inode 1, is the last, the way leads to it. Gives how many there are.
+pub fn way(
+    table: &[u8],
+    work: &mut [u32],
+    inode: u32,
+    list: &mut [u32],
+) -> Result<usize, Refusal>
+    ensures { WayPromise table.now work.old inode list.old (beside (entered_gives (answer_of result) (result_unwrap_or result 0) list.new) work.new) }
 {
-    if table.len() < DIR {
-        return Entered {
-            answer: Answer::SizeMismatch,
-            count: 0,
-        };
-    }
-    let room = table.len() / DIR;
-    if 65536 < room {
-        return Entered {
-            answer: Answer::InvalidValue,
-            count: 0,
-        };
-    }
-    if work.len() < room {
-        return Entered {
-            answer: Answer::WorkTooShort,
-            count: 0,
-        };
-    }
-    let n = salvage_tree::least(
-        tree_table::link_of(table, DIR, tree_table::COUNT, 0),
-        room as u32,
-    );
+    let room = salvage_tree::room_of(table, DIR, work.len())?;
+    let n = salvage_tree::bound_of(table, DIR, room);
     way_sized(table, n, &mut work[..room], inode, list)
 }

@@ -1,23 +1,13 @@
 -- What the functions of a walk say of a block and of the work list. A walk marks the blocks that it followed by a number that stood nowhere before.
-use Rattle.std.specs.Prelude.{◌≡◌, Bool, true, false, List, ℕ, suc, ◌+◌, ◌≤◌, ◌<◌, length, get_or, replicate}
+use Rattle.std.specs.Prelude.{◌≡◌, Bool, true, false, Result, Ok, Err, List, ℕ, suc, ◌+◌, ◌≤◌, ◌<◌, length, get_or, replicate}
 use Rattle.order.specs.First.{First}
 use Rattle.order.specs.declared.Fault.{Fault}
 use Rattle.fat_node.specs.Entry.{Bytes}
 use Rattle.fat_node.specs.Node.{Run, NodeAt, prev_at, next_at}
-use Rattle.fat_node.specs.declared.Node as node
+use Rattle.fat_node.specs.declared.Node.{Node}
 use Rattle.fat_table.specs.Chain.{total}
 use Rattle.salvage.specs.Follow.{salvage, follow, salvaged}
 use Rattle.salvage.specs.Calls.{Followed, chain_rows, chain_done}
-use Rattle.salvage.specs.declared.Look.{Look}
-use Rattle.salvage.specs.declared.Look.TheVariants.{Node, Stop}
-
--- the node x stands at block b, of n
-pub record Standing (n : ℕ) (t : Bytes) (b : ℕ) (x : node.Node) : Type 0 where
-  pub small : n ≤ 1000000
-  pub below : b < n
-  pub node : NodeAt t n b x.size
-  pub prev : x.prev ≡ prev_at t b
-  pub next : x.next ≡ next_at t b
 
 -- a node stands at block b, and its previous is p
 pub record Looked (n : ℕ) (t : Bytes) (p b size next : ℕ) : Type 0 where
@@ -26,9 +16,9 @@ pub record Looked (n : ℕ) (t : Bytes) (p b size next : ℕ) : Type 0 where
   pub on : next ≡ next_at t b
 
 -- such a node; or why every walk that comes to block b after p stops there
-abbrev pub LookSays : (n : ℕ) (t : Bytes) (p b : ℕ) → Look → Type 0
-LookSays n t p b (Node size next) = Looked n t p b size next
-LookSays n t p b (Stop why) = (k : ℕ) (seen : List Run) → follow (suc k) n t seen p (suc b) ≡ salvage seen why
+abbrev pub LookSays : (n : ℕ) (t : Bytes) (p b : ℕ) → Result Node Fault → Type 0
+LookSays n t p b (Ok x) = Looked n t p b x.size x.next
+LookSays n t p b (Err why) = (k : ℕ) (seen : List Run) → follow (suc k) n t seen p (suc b) ≡ salvage seen why
 
 -- r tells whether a node can be read at block b
 pub record Tells (n : ℕ) (t : Bytes) (b : ℕ) (r : Bool) : Type 0 where

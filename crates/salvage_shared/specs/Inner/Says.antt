@@ -1,13 +1,17 @@
 -- What the functions inside say. A place of the work list counts the whole chains that its block is in, as 0, 1, or 2 for more than one.
-use Rattle.std.specs.Prelude.{◌≡◌, Bool, cond, List, [], ◌∷◌, ℕ, ◌+◌, ◌*◌, ◌≤◌, ◌<◌, leb, length, get_or, replicate}
+use Rattle.std.specs.Prelude.{◌≡◌, Result, Ok, Err, Bool, cond, List, [], ◌∷◌, ℕ, ◌+◌, ◌*◌, ◌≤◌, ◌<◌, leb, length, get_or, replicate}
 use Rattle.order.specs.First.{First}
+use Rattle.order.specs.Gate.{refusal}
+use Rattle.order.specs.Given.{Given}
+use Rattle.order.specs.declared.Refusal.{Refusal}
 use Rattle.fat_node.specs.Entry.{Bytes}
 use Rattle.fat_node.specs.Node.{Run, NodeAt}
+use Rattle.fat_node.specs.Sizes.{blocks, Misfit, Outside}
 use Rattle.fat_table.specs.Layout.{covers}
 use Rattle.salvage.specs.Follow.{salvaged}
 use Rattle.salvage.specs.Inner.Walks.{Below}
 use Rattle.salvage_shared.specs.Shared.{kinds, twice, meets, told, tells, trusts}
-use Rattle.salvage_shared.specs.Calls.{Shared, shared_rows, shared_done}
+use Rattle.salvage_shared.specs.Calls.{Shared, shared_rows, shared_done, shared_gate}
 
 -- c, or 2 where it is more
 unfoldable pub two : ℕ → ℕ
@@ -89,6 +93,22 @@ pub record MayShare (n : ℕ) (t : Bytes) (w firsts list : List ℕ) : Type 0 wh
   pub clear : w ≡ replicate n 0
   pub many : length list ≡ length firsts
   pub few : length firsts ≤ 1000000
+
+-- a table of n blocks, a work list of so many places, and no more than 1,000,000 first blocks
+pub record Fitting (t : Bytes) (firsts places n : ℕ) : Type 0 where
+  pub is : n ≡ blocks t
+  pub room : length t ≡ 8 * (n + 1)
+  pub small : n ≤ 1000000
+  pub few : firsts ≤ 1000000
+  pub enough : n ≤ places
+  pub fits : Misfit t → ⊥
+  pub inside : Outside t → ⊥
+
+-- sizes and work list fit, and n is the number of blocks; or one of their rows refuses
+abbrev pub BlocksOf : (t : Bytes) (firsts places : ℕ) → Result ℕ Refusal → Type 0
+BlocksOf t firsts places (Ok n) = Fitting t firsts places n
+BlocksOf t firsts places (Err why) =
+    (bs work : List ℕ) → length bs ≡ firsts → length work ≡ places → Given (shared_gate refusal t work bs) (refusal (Err why) work)
 
 -- what the call gives where the sizes fit, and the work list then
 pub record SharedSays (n : ℕ) (t : Bytes) (firsts list : List ℕ) (o : Shared) (w' : List ℕ) : Type 0 where

@@ -1,31 +1,33 @@
 -- What the functions inside say of the work list: a place is 1 where its entry was met, else 0.
-use Rattle.std.specs.Prelude.{◌≡◌, cond, List, [], ◌∷◌, ℕ, zero, suc, ◌+◌, ◌*◌, ◌≤◌, eqb, leb, length, get_or, set, replicate}
+use Rattle.std.specs.Prelude.{◌≡◌, cond, List, [], ◌∷◌, Result, Ok, Err, ℕ, zero, suc, ◌*◌, ◌/◌, ◌≤◌, eqb, length, get_or, replicate}
 use Rattle.order.specs.First.{First}
+use Rattle.order.specs.Gate.{refusal}
+use Rattle.order.specs.Given.{Given}
+use Rattle.order.specs.declared.Refusal.{Refusal}
 use Rattle.tree_table.specs.Chain.{member}
 use Rattle.salvage_tree.specs.Entries.{bound}
-use Rattle.salvage_tree.specs.Calls.{Entered, entered_rows, entered_done}
+use Rattle.salvage_tree.specs.Calls.{Entered, entered_rows, entered_done, entered_gate}
 
 -- the places of the work list tell what was met
 pub record Marks (work met : List ℕ) : Type 0 where
   pub at : (y : ℕ) → get_or work y 0 ≡ cond (member y met) 1 0
-
--- r is the lesser of a and b
-pub record Least (a b r : ℕ) : Type 0 where
-  pub is : r ≡ cond (leb a b) a b
-
--- r counts a place with no mark
-pub record Free (mark r : ℕ) : Type 0 where
-  pub is : r ≡ cond (eqb mark 0) 1 0
 
 -- of k entries from x on those whose places are 0
 abbrev pub unmarked : (k x : ℕ) (work : List ℕ) → List ℕ
 unmarked zero x work = []
 unmarked (suc k) x work = cond (eqb (get_or work x 0) 0) (x ∷ unmarked k (suc x) work) (unmarked k (suc x) work)
 
--- x is written to place at where its mark is 0, and r is the next place
-pub record PutFree (list : List ℕ) (at x mark : ℕ) (list' : List ℕ) (r : ℕ) : Type 0 where
-  pub free : mark ≡ 0 → (list' ≡ set list at x) × (r ≡ at + 1)
-  pub other : (mark ≡ 0 → ⊥) → (list' ≡ list) × (r ≡ at)
+-- a table of entries of width w has room for r of them, and there are as many places
+pub record Roomy (w : ℕ) (t : List ℕ) (places r : ℕ) : Type 0 where
+  pub some : w ≤ length t
+  pub is : r ≡ length t / w
+  pub few : r ≤ 65536
+  pub enough : r ≤ places
+
+-- sizes and work list fit, for so many places, and r is how many entries there is room for; or one of their rows refuses
+abbrev pub RoomOf : (w : ℕ) (t : List ℕ) (places : ℕ) → Result ℕ Refusal → Type 0
+RoomOf w t places (Ok r) = Roomy w t places r
+RoomOf w t places (Err why) = (work : List ℕ) → length work ≡ places → Given (entered_gate refusal w t work) (refusal (Err why) work)
 
 -- a table of so many entries of width w, n of which are looked at, and a work list with a place for each that there is room for
 pub record Sized (w : ℕ) (t : List ℕ) (n : ℕ) (work : List ℕ) : Type 0 where
