@@ -6,7 +6,9 @@
 #![tactic(auto)]
 
 ghost use Rattle.std.specs.Prelude.{◌≡◌, ◌+◌, ◌*◌, ◌≤◌, length};
+ghost use Rattle.std.specs.Result.{result_unwrap_or};
 ghost use Rattle.std.proofs.lemmas.List.Edits.{sets};
+ghost use Rattle.order.specs.Answer.{answer_of};
 ghost use Rattle.order.specs.Beside.{beside};
 ghost use Rattle.fat_promises.specs.Blocks.{blocks_of};
 ghost use Rattle.salvage_shared.specs.Inner.Says.{Sized, MayJudge};
@@ -14,15 +16,8 @@ ghost use Rattle.salvage_chains.specs.Chains.{one, told};
 ghost use Rattle.salvage_chains.specs.Calls.{chained_gives, ChainsPromise};
 ghost use Rattle.salvage_chains.specs.Inner.Says.{OneSays, MayNumber, MayAll, Summed, RoomSays, Rooms, Wrote, ChainedSays};
 
-use order::{Answer, Fault};
+use order::{Fault, Refusal};
 use salvage::Walked;
-
-// The same number, wider.
-fn wide(x: u32) -> usize
-    ensures { result ≡ x }
-{
-    x as usize
-}
 
 // Follows one of the chains; none where too many blocks were followed before.
 fn follow_one(
@@ -42,7 +37,7 @@ fn follow_one(
             why: Fault { entry: 0, rule: 9 },
         };
     }
-    let b = wide(first);
+    let b = first as usize;
     if n <= b {
         return Walked {
             count: 0,
@@ -57,12 +52,9 @@ fn sum_all(table: &[u8], n: usize, work: &mut [u32], firsts: &[u32]) -> usize
     requires { MayAll n table.now work.old firsts.now }
     ensures { Summed n table.now firsts.now result work.new }
 {
-    let mut at: usize = 0;
-    let mut i: usize = 0;
-    while i < firsts.len() {
-        let walked = follow_one(table, n, work, firsts[i], (i + 1) as u32, at);
-        at += walked.count;
-        i += 1;
+    let mut at = 0;
+    for (i, first) in firsts.iter().enumerate() {
+        at += follow_one(table, n, work, *first, (i + 1) as u32, at).count;
     }
     at
 }
@@ -77,20 +69,16 @@ fn has_room(table: &[u8], n: usize, work: &mut [u32], firsts: &[u32], room: usiz
     }
     let count = sum_all(table, n, work, firsts);
     order::clear(work);
-    if room < count {
-        return false;
-    }
-    true
+    count <= room
 }
 
 // Writes what is told of a chain, from place at on.
-fn put_end(ends: &mut [usize], at: usize, count: usize, why: Fault)
+fn put_end(ends: &mut [usize], at: usize, walked: Walked)
     requires { at + 3 ≤ length ends.old }
-    ensures { ends.new ≡ sets ends.old at (told count why) }
+    ensures { ends.new ≡ sets ends.old at (told walked.count walked.why) }
 {
-    ends[at] = count;
-    ends[at + 1] = why.entry;
-    ends[at + 2] = wide(why.rule);
+    let Walked { count, why } = walked;
+    ends[at..at + 3].copy_from_slice(&[count, why.entry, why.rule as usize]);
 }
 
 // Writes the blocks of one of the chains, from place at on.
@@ -106,10 +94,9 @@ fn number_one(
     requires { MayNumber n table.now first spent count list.old at }
     ensures { list.new ≡ sets list.old at (blocks_of (one n table.now first spent).runs) }
 {
-    if count == 0 {
-        return;
+    if count != 0 {
+        salvage::number_chain(table, n, first as usize, count, list, at);
     }
-    salvage::number_chain(table, n, wide(first), count, list, at);
 }
 
 // Writes what is told of each chain, and the blocks of all; how many these are.
@@ -125,25 +112,14 @@ fn write_all(
     requires rooms { Rooms n table.now firsts.now ends.old list.old }
     ensures { Wrote n table.now firsts.now ends.old list.old ends.new list.new work.new result }
 {
-    let mut at: usize = 0;
-    let mut i: usize = 0;
-    while i < firsts.len() {
-        let walked = follow_one(table, n, work, firsts[i], (i + 1) as u32, at);
-        let count = walked.count;
-        let why = walked.why;
-        put_end(ends, 3 * i, count, why);
-        number_one(table, n, firsts[i], at, count, list, at);
-        at += count;
-        i += 1;
+    let mut at = 0;
+    for (i, first) in firsts.iter().enumerate() {
+        let walked = follow_one(table, n, work, *first, (i + 1) as u32, at);
+        put_end(ends, 3 * i, walked);
+        number_one(table, n, *first, at, walked.count, list, at);
+        at += walked.count;
     }
     at
-}
-
-// What the call answers: how many blocks the chains have together.
-#[derive(Drop)]
-pub struct Chained {
-    pub answer: Answer,
-    pub count: usize,
 }
 
 // Follows the chains on a table of n blocks. The work list has n places.
@@ -154,69 +130,36 @@ fn chains_sized(
     firsts: &[u32],
     ends: &mut [usize],
     list: &mut [u32],
-) -> Chained
+) -> Result<usize, Refusal>
     requires sized { Sized n table.now work.old }
     requires firsts_len_bound { length firsts.now ≤ 1000000 }
-    ensures { ChainedSays n table.now firsts.now ends.old list.old (chained_gives result.answer result.count ends.new list.new) work.new }
+    ensures { ChainedSays n table.now firsts.now ends.old list.old (chained_gives (answer_of result) (result_unwrap_or result 0) ends.new list.new) work.new }
 {
     order::clear(work);
     if ends.len() < 3 * firsts.len() {
-        return Chained {
-            answer: Answer::ListTooShort,
-            count: 0,
-        };
+        return Err(Refusal::ListTooShort);
     }
     if !has_room(table, n, work, firsts, list.len()) {
-        return Chained {
-            answer: Answer::ListTooShort,
-            count: 0,
-        };
+        return Err(Refusal::ListTooShort);
     }
     let count = write_all(table, n, work, firsts, ends, list);
     order::clear(work);
-    Chained {
-        answer: Answer::Done,
-        count,
-    }
+    Ok(count)
 }
 
 // Follows the chain of each of some first blocks, as far as it can be followed. Three places of the list of ends tell of each: how many blocks were followed,
 // and by entry and rule why there are no more, as `chain` says it; where no node can be read at the block there are none, and where the chains before it have
 // more than 4n blocks together it is not followed, for which rule 9 stands. The list has the blocks of all, one chain behind the other; later places of both
-// stay. Answers its number and how many blocks these are; refuses more than 1,000,000 first blocks as a size, and lists that can't hold the answer.
+// stay. Gives how many blocks these are; refuses more than 1,000,000 first blocks as a size, and lists that can't hold the answer.
 pub fn chains(
     table: &[u8],
     work: &mut [u32],
     firsts: &[u32],
     ends: &mut [usize],
     list: &mut [u32],
-) -> Chained
-    ensures { ChainsPromise table.now work.old firsts.now ends.old list.old (beside (chained_gives result.answer result.count ends.new list.new) work.new) }
+) -> Result<usize, Refusal>
+    ensures { ChainsPromise table.now work.old firsts.now ends.old list.old (beside (chained_gives (answer_of result) (result_unwrap_or result 0) ends.new list.new) work.new) }
 {
-    if fat_node::misfit(table) {
-        return Chained {
-            answer: Answer::SizeMismatch,
-            count: 0,
-        };
-    }
-    if fat_node::outside(table) {
-        return Chained {
-            answer: Answer::InvalidValue,
-            count: 0,
-        };
-    }
-    if 1000000 < firsts.len() {
-        return Chained {
-            answer: Answer::InvalidValue,
-            count: 0,
-        };
-    }
-    let n = table.len() / 8 - 1;
-    if work.len() < n {
-        return Chained {
-            answer: Answer::WorkTooShort,
-            count: 0,
-        };
-    }
+    let n = salvage_shared::blocks_for(table, firsts.len(), work.len())?;
     chains_sized(table, n, &mut work[..n], firsts, ends, list)
 }

@@ -11,7 +11,7 @@ ghost use Rattle.salvage.specs.Follow.{salvaged};
 ghost use Rattle.salvage_shared.specs.Shared.{whole_runs, laid};
 ghost use Rattle.salvage_shared.specs.Trust.{number_of};
 ghost use Rattle.salvage_shared.specs.Calls.{shared_gives, SharedPromise};
-ghost use Rattle.salvage_shared.specs.Inner.Says.{More, Added, MeetsRun, MeetsRuns, Tells, TellsAll, NodeHere, Sized, WholeAt, Told, Kinds, MayJudge, Judges, MayShare, JudgedAll, Shares, SharedSays, BlocksOf};
+ghost use Rattle.salvage_shared.specs.Inner.Says.{More, Added, MeetsRun, MeetsRuns, Tells, TellsAll, NodeHere, Sized, WholeAt, Told, Kinds, MayJudge, Judges, MayShare, JudgedAll, Shares, SharedSays, BlocksFor};
 
 use order::Refusal;
 
@@ -241,8 +241,8 @@ fn shared_sized(
 }
 
 // How many blocks a table of any length has, where the sizes fit, those of the first blocks too, and a work list has a place for each.
-pub fn blocks_of(table: &[u8], firsts: usize, places: usize) -> Result<usize, Refusal>
-    ensures { BlocksOf table.now firsts places result }
+pub fn blocks_for(table: &[u8], firsts: usize, places: usize) -> Result<usize, Refusal>
+    ensures { BlocksFor table.now firsts places result }
 {
     if fat_node::misfit(table) {
         return Err(Refusal::SizeMismatch);
@@ -268,6 +268,6 @@ pub fn shared(
 ) -> Result<(), Refusal>
     ensures { SharedPromise table.now work.old firsts.now list.old (beside (shared_gives result list.new) work.new) }
 {
-    let n = blocks_of(table, firsts.len(), work.len())?;
+    let n = blocks_for(table, firsts.len(), work.len())?;
     shared_sized(table, n, &mut work[..n], firsts, list)
 }

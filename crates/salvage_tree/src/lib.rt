@@ -9,7 +9,7 @@ ghost use Rattle.order.specs.Answer.{answer_of};
 ghost use Rattle.order.specs.Beside.{beside};
 ghost use Rattle.salvage_tree.specs.Entries.{bound, gone};
 ghost use Rattle.salvage_tree.specs.Calls.{entered_gives, EnteredPromise};
-ghost use Rattle.salvage_tree.specs.Inner.Says.{Marks, RoomOf, unmarked, Sized, EnteredSays};
+ghost use Rattle.salvage_tree.specs.Inner.Says.{Marks, RoomFor, unmarked, Sized, EnteredSays};
 
 use order::Refusal;
 
@@ -83,9 +83,9 @@ fn entries_sized(
 }
 
 // How many entries a table of any length has room for, where the sizes fit and a work list has a place for each.
-pub fn room_of(table: &[u8], w: usize, places: usize) -> Result<usize, Refusal>
+pub fn room_for(table: &[u8], w: usize, places: usize) -> Result<usize, Refusal>
     requires { 0 < w }
-    ensures { RoomOf w table.now places result }
+    ensures { RoomFor w table.now places result }
 {
     if table.len() < w {
         return Err(Refusal::SizeMismatch);
@@ -111,16 +111,11 @@ pub fn bound_of(table: &[u8], w: usize, room: usize) -> u32
 }
 
 // The same of a table of any length.
-fn entries_of(
-    table: &[u8],
-    w: usize,
-    work: &mut [u32],
-    list: &mut [u32],
-) -> Result<usize, Refusal>
+fn entries_of(table: &[u8], w: usize, work: &mut [u32], list: &mut [u32]) -> Result<usize, Refusal>
     requires { (24 ≤ w) × (w ≤ 48) }
     ensures { EnteredPromise w table.now work.old list.old (beside (entered_gives (answer_of result) (result_unwrap_or result 0) list.new) work.new) }
 {
-    let room = room_of(table, w, work.len())?;
+    let room = room_for(table, w, work.len())?;
     let n = bound_of(table, w, room);
     entries_sized(table, w, n, &mut work[..room], list)
 }

@@ -90,15 +90,10 @@ fn way_sized(
 
 // Lists the directories from an inode up by parents, the inode itself first, as far as they can be followed in a directory table of any bytes: below count and
 // room, over no removed directory, and over none twice. Where the root, inode 1, is the last, the way leads to it. Gives how many there are.
-pub fn way(
-    table: &[u8],
-    work: &mut [u32],
-    inode: u32,
-    list: &mut [u32],
-) -> Result<usize, Refusal>
+pub fn way(table: &[u8], work: &mut [u32], inode: u32, list: &mut [u32]) -> Result<usize, Refusal>
     ensures { WayPromise table.now work.old inode list.old (beside (entered_gives (answer_of result) (result_unwrap_or result 0) list.new) work.new) }
 {
-    let room = salvage_tree::room_of(table, DIR, work.len())?;
+    let room = salvage_tree::room_for(table, DIR, work.len())?;
     let n = salvage_tree::bound_of(table, DIR, room);
     way_sized(table, n, &mut work[..room], inode, list)
 }

@@ -1,12 +1,16 @@
 -- What the call promises that tells whether the entry tables can be an honest writer's.
-use Rattle.std.specs.Prelude.{◌≡◌, List, [], ◌∷◌, ◌++◌, ℕ, zero, suc, ◌-◌}
+use Rattle.std.specs.Prelude.{◌≡◌, Result, Ok, Err, Option, Some, None, List, [], ◌∷◌, ◌++◌, ℕ, zero, suc, ◌-◌}
 use Rattle.order.specs.First.{Row, row}
 use Rattle.order.specs.Beside.{Beside}
 use Rattle.order.specs.Answer.{Answer}
 use Rattle.order.specs.Answer.{Done}
+use Rattle.order.specs.declared.Refusal.{Refusal}
 use Rattle.tree_table.specs.View.{View}
 use Rattle.tree_sound.specs.Tables.{Tables, dirs, files}
+use Rattle.tree_promises.specs.declared.Kind.{Kind}
+use Rattle.tree_promises.specs.declared.Kind.TheVariants.{Directory, File}
 use Rattle.tree_promises.specs.Promise.{TreePromise}
+use Rattle.tree_aged.specs.declared.Entry.{Entry}
 use Rattle.tree_aged.specs.Age.{LostIn}
 
 -- the answer, a table (1 the directories, 2 the files, 0 none) and an entry of it
@@ -17,6 +21,21 @@ pub record Age : Type 0 where
 
 abbrev pub age_gives : (answer : Answer) (table inode : ℕ) → Age
 age_gives answer table inode = record { answer = answer; table = table; inode = inode }
+
+-- the number of a table
+abbrev pub table_number : Kind → ℕ
+table_number Directory = 1
+table_number File = 2
+
+-- what is told, with an answer: no table, or an entry of one
+abbrev pub told : (answer : Answer) → Option Entry → Age
+told answer None = age_gives answer 0 0
+told answer (Some x) = age_gives answer (table_number x.kind) x.inode
+
+-- what the call gives; with a refusal no table is told
+abbrev pub aged_says : Result (Option Entry) Refusal → Age
+aged_says (Ok x) = told Done x
+aged_says (Err why) = told (Err why) None
 
 -- a row for each of k inodes from x on, in their order: it is one of those that `lost` speaks of
 abbrev pub lost_from : (k : ℕ) (lost : ℕ → Type 0) (table x : ℕ) → List (Row Age)

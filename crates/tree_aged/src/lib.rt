@@ -2,23 +2,33 @@
 #![tactic(auto)]
 
 ghost use Rattle.std.specs.Prelude.{◌≡◌, ◌<◌, length};
+ghost use Rattle.order.specs.Answer.{Done};
 ghost use Rattle.order.specs.Beside.{beside};
 ghost use Rattle.tree_table.specs.Field.{field};
 ghost use Rattle.tree_table.specs.Chain.{link_at};
 ghost use Rattle.tree_sound.specs.Tables.{tables};
 ghost use Rattle.tree_marks.specs.Inner.Marks.{mark_of};
-ghost use Rattle.tree_aged.specs.Calls.{age_gives, AgedPromise};
+ghost use Rattle.tree_aged.specs.Calls.{table_number, told, aged_says, AgedPromise};
 ghost use Rattle.tree_aged.specs.Inner.Walk.{Fits, At, OpenTo, Open, Known, RemovedEnds, Walked, Passed, Lowest, Zeros, Begun, Leaves, Ripe, Sorted, OpenTree, OpenSays};
 
-use order::Answer;
-use tree_test::Gated;
+use order::Refusal;
+use tree_promises::Kind;
 
-// What is told of sound tables: nothing (table and inode 0); or an entry of the directories (table 1) or of the files (table 2).
-#[derive(Drop)]
-pub struct Age {
-    pub answer: Answer,
-    pub table: u32,
+// An entry of the directories or of the files, from which links lead into a circle; or the root, where it names another.
+#[derive(Clone, Copy)]
+pub struct Entry {
+    pub kind: Kind,
     pub inode: u32,
+}
+
+// The number of a table, as a technician reads it and the C interface gives it.
+pub fn table_number(kind: Kind) -> u32
+    ensures { result ≡ table_number kind }
+{
+    match kind {
+        Kind::Directory => 1,
+        Kind::File => 2,
+    }
 }
 
 // The widths of the two entry types.
@@ -37,10 +47,7 @@ fn is_open(work: &[u32], z: u32) -> bool
     requires { z < length work.now }
     ensures { OpenTo work.now z result }
 {
-    if z == 0 {
-        return false;
-    }
-    work[tree_table::index(z)] != ENDED
+    z != 0 && work[tree_table::index(z)] != ENDED
 }
 
 // The first link of entry x that leads to an entry not known to end; 0 where there is none.
@@ -95,27 +102,22 @@ fn passes(table: &[u8], w: usize, work: &mut [u32], y: u32) -> bool
     requires y_bound { y < field w table.now 0 1 }
     ensures { Passed w table.now y work.new result }
 {
-    if work[tree_table::index(y)] != 0 {
-        return true;
-    }
-    ends(table, w, work, y)
+    work[tree_table::index(y)] != 0 || ends(table, w, work, y)
 }
 
-// The lowest entry from which links lead into a circle; 0 where there is none.
-fn lowest(table: &[u8], w: usize, count: u32, work: &mut [u32]) -> u32
+// The lowest entry from which links lead into a circle.
+fn lowest(table: &[u8], w: usize, count: u32, work: &mut [u32]) -> Option<u32>
     requires fits { Fits w table.now work.old }
     requires known { Known w table.now work.old }
     requires count_value { count ≡ field w table.now 0 1 }
     ensures { Lowest w table.now result }
 {
-    let mut y: u32 = 1;
-    while y < count {
+    for y in 1..count {
         if !passes(table, w, work, y) {
-            return y;
+            return Some(y);
         }
-        y += 1;
     }
-    0
+    None
 }
 
 // Marks the removed entries.
@@ -140,7 +142,7 @@ fn mark_gone(table: &[u8], w: usize, count: u32, work: &mut [u32])
 }
 
 // The lowest such entry of a table by itself, in a work list of zeros, which are there again after it.
-fn sort(table: &[u8], w: usize, work: &mut [u32]) -> u32
+fn sort(table: &[u8], w: usize, work: &mut [u32]) -> Option<u32>
     requires fits { Fits w table.now work.old }
     requires removed_ends { RemovedEnds w table.now }
     requires zeros { Zeros work.old }
@@ -148,13 +150,13 @@ fn sort(table: &[u8], w: usize, work: &mut [u32]) -> u32
 {
     let count = tree_table::link_of(table, w, tree_table::COUNT, 0);
     mark_gone(table, w, count, work);
-    let r = lowest(table, w, count, work);
+    let found = lowest(table, w, count, work);
     order::clear(work);
-    r
+    found
 }
 
 // The same in the first places of a work list, as many as the table has room for.
-fn sorted(table: &[u8], w: usize, work: &mut [u32]) -> u32
+fn sorted(table: &[u8], w: usize, work: &mut [u32]) -> Option<u32>
     requires { Ripe w table.now work.old }
     ensures { Sorted w table.now work.old work.new result }
 {
@@ -163,59 +165,41 @@ fn sorted(table: &[u8], w: usize, work: &mut [u32]) -> u32
 }
 
 // What is told once the gate is open.
-fn aged_open(dir_table: &[u8], file_table: &[u8], work: &mut [u32]) -> Age
+fn aged_open(dir_table: &[u8], file_table: &[u8], work: &mut [u32]) -> Option<Entry>
     requires { OpenTree dir_table.now file_table.now work.old }
-    ensures { OpenSays dir_table.now file_table.now work.old work.new (age_gives result.answer result.table result.inode) }
+    ensures { OpenSays dir_table.now file_table.now work.old work.new (told Done result) }
 {
     if tree_table::link_of(dir_table, DIR, DIR - tree_table::LINK, 1) != 0 {
-        return Age {
-            answer: Answer::Done,
-            table: 1,
+        return Some(Entry {
+            kind: Kind::Directory,
             inode: 1,
-        };
+        });
     }
-    let d = sorted(dir_table, DIR, work);
-    if d != 0 {
-        return Age {
-            answer: Answer::Done,
-            table: 1,
-            inode: d,
-        };
+    if let Some(inode) = sorted(dir_table, DIR, work) {
+        return Some(Entry {
+            kind: Kind::Directory,
+            inode,
+        });
     }
-    let f = sorted(file_table, FILE, work);
-    if f != 0 {
-        return Age {
-            answer: Answer::Done,
-            table: 2,
-            inode: f,
-        };
-    }
-    Age {
-        answer: Answer::Done,
-        table: 0,
-        inode: 0,
-    }
+    let inode = sorted(file_table, FILE, work)?;
+    Some(Entry {
+        kind: Kind::File,
+        inode,
+    })
 }
 
-// Whether an honest writer can have left sound entry tables, by the orders of their lists. Done with table 0: no entry is newer than itself, and nothing is
-// older than the root. Done with table 1 and inode 1: the root names another entry of its bucket. Else the lowest directory (table 1) from which links lead
-// into a circle, or the lowest such file (table 2).
+// Whether an honest writer can have left sound entry tables, by the orders of their lists. None: no entry is newer than itself, and nothing is older than the
+// root. Directory and inode 1: the root names another entry of its bucket. Else the lowest directory from which links lead into a circle, or the lowest such
+// file.
 pub fn aged(
     dir_hash: &[u8],
     dir_table: &[u8],
     file_hash: &[u8],
     file_table: &[u8],
     work: &mut [u32],
-) -> Age
-    ensures { AgedPromise (tables dir_hash.now dir_table.now file_hash.now file_table.now) work.old (beside (age_gives result.answer result.table result.inode) work.new) }
+) -> Result<Option<Entry>, Refusal>
+    ensures { AgedPromise (tables dir_hash.now dir_table.now file_hash.now file_table.now) work.old (beside (aged_says result) work.new) }
 {
-    let gated = tree_test::gate(dir_hash, dir_table, file_hash, file_table, work);
-    match gated {
-        Gated::Refused { answer } => Age {
-            answer,
-            table: 0,
-            inode: 0,
-        },
-        Gated::Open => aged_open(dir_table, file_table, work),
-    }
+    tree_test::gate(dir_hash, dir_table, file_hash, file_table, work)?;
+    Ok(aged_open(dir_table, file_table, work))
 }

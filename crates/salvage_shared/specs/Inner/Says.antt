@@ -105,9 +105,9 @@ pub record Fitting (t : Bytes) (firsts places n : ℕ) : Type 0 where
   pub inside : Outside t → ⊥
 
 -- sizes and work list fit, and n is the number of blocks; or one of their rows refuses
-abbrev pub BlocksOf : (t : Bytes) (firsts places : ℕ) → Result ℕ Refusal → Type 0
-BlocksOf t firsts places (Ok n) = Fitting t firsts places n
-BlocksOf t firsts places (Err why) =
+abbrev pub BlocksFor : (t : Bytes) (firsts places : ℕ) → Result ℕ Refusal → Type 0
+BlocksFor t firsts places (Ok n) = Fitting t firsts places n
+BlocksFor t firsts places (Err why) =
     (bs work : List ℕ) → length bs ≡ firsts → length work ≡ places → Given (shared_gate refusal t work bs) (refusal (Err why) work)
 
 -- what the call gives where the sizes fit, and the work list then

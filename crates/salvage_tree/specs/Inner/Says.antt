@@ -25,9 +25,9 @@ pub record Roomy (w : ℕ) (t : List ℕ) (places r : ℕ) : Type 0 where
   pub enough : r ≤ places
 
 -- sizes and work list fit, for so many places, and r is how many entries there is room for; or one of their rows refuses
-abbrev pub RoomOf : (w : ℕ) (t : List ℕ) (places : ℕ) → Result ℕ Refusal → Type 0
-RoomOf w t places (Ok r) = Roomy w t places r
-RoomOf w t places (Err why) = (work : List ℕ) → length work ≡ places → Given (entered_gate refusal w t work) (refusal (Err why) work)
+abbrev pub RoomFor : (w : ℕ) (t : List ℕ) (places : ℕ) → Result ℕ Refusal → Type 0
+RoomFor w t places (Ok r) = Roomy w t places r
+RoomFor w t places (Err why) = (work : List ℕ) → length work ≡ places → Given (entered_gate refusal w t work) (refusal (Err why) work)
 
 -- a table of so many entries of width w, n of which are looked at, and a work list with a place for each that there is room for
 pub record Sized (w : ℕ) (t : List ℕ) (n : ℕ) (work : List ℕ) : Type 0 where

@@ -1,5 +1,5 @@
 -- What the walk along the links says: a depth-first walk, with a mark for each entry in the work list.
-use Rattle.std.specs.Prelude.{◌≡◌, List, ◌∷◌, ◌++◌, ◌⊎◌, Bool, true, false, ℕ, ◌*◌, ◌/◌, ◌≤◌, ◌<◌, length, get_or, take, replicate}
+use Rattle.std.specs.Prelude.{◌≡◌, Option, Some, None, List, ◌∷◌, ◌++◌, ◌⊎◌, Bool, true, false, ℕ, ◌*◌, ◌/◌, ◌≤◌, ◌<◌, length, get_or, take, replicate}
 use Rattle.order.specs.First.{Row, row, First}
 use Rattle.order.specs.Answer.{Done}
 use Rattle.links.specs.Links.{◌∈◌, Links}
@@ -78,10 +78,10 @@ pub record Passed (w : ℕ) (t : List ℕ) (y : ℕ) (work' : List ℕ) (r : Boo
 abbrev pub NoneLost : (w : ℕ) (t : List ℕ) (x : ℕ) → Type 0
 NoneLost w t x = (y : ℕ) → y < x → LiveAt w t y → Lost (coll_of w t) (next_of w t) y → ⊥
 
--- what all walks tell: 0 and no entry is lost, or the lowest that is
-pub record Lowest (w : ℕ) (t : List ℕ) (r : ℕ) : Type 0 where
-  pub none : r ≡ 0 → NoneLost w t (field w t 0 1)
-  pub some : (r ≡ 0 → ⊥) → LiveAt w t r × Lost (coll_of w t) (next_of w t) r × NoneLost w t r
+-- what all walks tell: no entry is lost, or the lowest that is
+abbrev pub Lowest : (w : ℕ) (t : List ℕ) → Option ℕ → Type 0
+Lowest w t None = NoneLost w t (field w t 0 1)
+Lowest w t (Some x) = LiveAt w t x × Lost (coll_of w t) (next_of w t) x × NoneLost w t x
 
 -- the removed entries are a list that ends below the count
 pub record RemovedEnds (w : ℕ) (t : List ℕ) : Type 0 where
@@ -112,12 +112,12 @@ pub record Begun (w : ℕ) (t : List ℕ) (work : List ℕ) : Type 0 where
   pub known : Known w t work
 
 -- what the walks of a table leave: the lowest lost entry, and zeros
-pub record Leaves (w : ℕ) (t : List ℕ) (work work' : List ℕ) (r : ℕ) : Type 0 where
+pub record Leaves (w : ℕ) (t : List ℕ) (work work' : List ℕ) (r : Option ℕ) : Type 0 where
   pub lowest : Lowest w t r
   pub clear : work' ≡ replicate (length work) 0
 
 -- what one table's walks leave: the lowest lost entry, and the work list as it was
-pub record Sorted (w : ℕ) (t : List ℕ) (work work' : List ℕ) (r : ℕ) : Type 0 where
+pub record Sorted (w : ℕ) (t : List ℕ) (work work' : List ℕ) (r : Option ℕ) : Type 0 where
   pub lowest : Lowest w t r
   pub same : work' ≡ work
 
