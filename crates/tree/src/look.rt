@@ -1,12 +1,15 @@
 // The public calls that look at the entry tables: lookup, list and stat.
+ghost use Rattle.std.specs.Result.{result_unwrap_or};
+ghost use Rattle.order.specs.Answer.{answer_of};
 ghost use Rattle.order.specs.Beside.{beside};
 ghost use Rattle.tree_sound.specs.Tables.{Tables, tables, dirs, files};
-ghost use Rattle.tree_promises.specs.Calls.{lookup_gives, list_gives, stat_gives};
+ghost use Rattle.tree_promises.specs.Calls.{lookup_gives, list_gives};
 ghost use Rattle.tree_promises.specs.Public.{LookupPromise, ListPromise, StatPromise};
+ghost use Rattle.tree_look.specs.Stat.{stat_given};
 
+use order::Refusal;
 use tree_key::{SaveExtDirEntry, SaveExtFileEntry, SaveExtKey};
-use tree_look::{Listed, Looked, MetaStat};
-use tree_test::Gated;
+use tree_look::{Looked, MetaStat};
 
 // Looks up a directory by its parent and its name. Done: its inode, and its place in its bucket as the number of entries compared.
 pub fn lookup_dir(
@@ -20,22 +23,20 @@ pub fn lookup_dir(
 ) -> Looked
     ensures { (let s : Tables = tables dir_hash.now dir_table.now file_hash.now file_table.now in
         LookupPromise s (dirs s) work.old parent name.now
-        (beside (lookup_gives result.answer result.inode result.compared) work.new)) }
+        (beside (lookup_gives (answer_of result.inode) (result_unwrap_or result.inode 0) result.compared) work.new)) }
 {
-    let gated = tree_test::gate(dir_hash, dir_table, file_hash, file_table, work);
-    match gated {
-        Gated::Refused { answer } => Looked {
-            answer,
-            inode: 0,
+    if let Err(why) = tree_test::gate(dir_hash, dir_table, file_hash, file_table, work) {
+        return Looked {
+            inode: Err(why),
             compared: 0,
-        },
-        Gated::Open => tree_look::lookup(
-            dir_hash,
-            dir_table,
-            SaveExtDirEntry::WIDTH,
-            SaveExtKey::new(parent, name),
-        ),
+        };
     }
+    tree_look::lookup(
+        dir_hash,
+        dir_table,
+        SaveExtDirEntry::WIDTH,
+        SaveExtKey::new(parent, name),
+    )
 }
 
 // Looks up a file by its parent and its name. Done: its inode, and its place in its bucket as the number of entries compared.
@@ -50,25 +51,23 @@ pub fn lookup_file(
 ) -> Looked
     ensures { (let s : Tables = tables dir_hash.now dir_table.now file_hash.now file_table.now in
         LookupPromise s (files s) work.old parent name.now
-        (beside (lookup_gives result.answer result.inode result.compared) work.new)) }
+        (beside (lookup_gives (answer_of result.inode) (result_unwrap_or result.inode 0) result.compared) work.new)) }
 {
-    let gated = tree_test::gate(dir_hash, dir_table, file_hash, file_table, work);
-    match gated {
-        Gated::Refused { answer } => Looked {
-            answer,
-            inode: 0,
+    if let Err(why) = tree_test::gate(dir_hash, dir_table, file_hash, file_table, work) {
+        return Looked {
+            inode: Err(why),
             compared: 0,
-        },
-        Gated::Open => tree_look::lookup(
-            file_hash,
-            file_table,
-            SaveExtFileEntry::WIDTH,
-            SaveExtKey::new(parent, name),
-        ),
+        };
     }
+    tree_look::lookup(
+        file_hash,
+        file_table,
+        SaveExtFileEntry::WIDTH,
+        SaveExtKey::new(parent, name),
+    )
 }
 
-// Lists the directories in directory `inode`. Done: `count` places of `list` hold their inodes, in list order; later places stay.
+// Lists the directories in directory `inode`. Done: how many places of `list` hold their inodes, in list order; later places stay.
 pub fn list_dirs(
     dir_hash: &[u8],
     dir_table: &[u8],
@@ -77,21 +76,16 @@ pub fn list_dirs(
     work: &mut [u32],
     inode: u32,
     list: &mut [u32],
-) -> Listed
+) -> Result<usize, Refusal>
     ensures { (let s : Tables = tables dir_hash.now dir_table.now file_hash.now file_table.now in
         ListPromise s (dirs s) work.old inode list.old
-        (beside (list_gives result.answer result.count list.new) work.new)) }
+        (beside (list_gives (answer_of result) (result_unwrap_or result 0) list.new) work.new)) }
 {
-    let gated = tree_test::gate(dir_hash, dir_table, file_hash, file_table, work);
-    match gated {
-        Gated::Refused { answer } => Listed { answer, count: 0 },
-        Gated::Open => tree_look::list_dirs(
-            dir_hash, dir_table, file_hash, file_table, inode, list,
-        ),
-    }
+    tree_test::gate(dir_hash, dir_table, file_hash, file_table, work)?;
+    tree_look::list_dirs(dir_hash, dir_table, file_hash, file_table, inode, list)
 }
 
-// Lists the files in directory `inode`. Done: `count` places of `list` hold their inodes, in list order; later places stay.
+// Lists the files in directory `inode`. Done: how many places of `list` hold their inodes, in list order; later places stay.
 pub fn list_files(
     dir_hash: &[u8],
     dir_table: &[u8],
@@ -100,18 +94,13 @@ pub fn list_files(
     work: &mut [u32],
     inode: u32,
     list: &mut [u32],
-) -> Listed
+) -> Result<usize, Refusal>
     ensures { (let s : Tables = tables dir_hash.now dir_table.now file_hash.now file_table.now in
         ListPromise s (files s) work.old inode list.old
-        (beside (list_gives result.answer result.count list.new) work.new)) }
+        (beside (list_gives (answer_of result) (result_unwrap_or result 0) list.new) work.new)) }
 {
-    let gated = tree_test::gate(dir_hash, dir_table, file_hash, file_table, work);
-    match gated {
-        Gated::Refused { answer } => Listed { answer, count: 0 },
-        Gated::Open => tree_look::list_files(
-            dir_hash, dir_table, file_hash, file_table, inode, list,
-        ),
-    }
+    tree_test::gate(dir_hash, dir_table, file_hash, file_table, work)?;
+    tree_look::list_files(dir_hash, dir_table, file_hash, file_table, inode, list)
 }
 
 // Counts entries. Done: the entries in all and those that make can still use, of the directories and of the files.
@@ -121,20 +110,11 @@ pub fn stat(
     file_hash: &[u8],
     file_table: &[u8],
     work: &mut [u32],
-) -> MetaStat
+) -> Result<MetaStat, Refusal>
     ensures { (let s : Tables = tables dir_hash.now dir_table.now file_hash.now file_table.now in
         StatPromise s work.old
-        (beside (stat_gives result.answer result.dir_total result.dir_free result.file_total result.file_free) work.new)) }
+        (beside (stat_given result) work.new)) }
 {
-    let gated = tree_test::gate(dir_hash, dir_table, file_hash, file_table, work);
-    match gated {
-        Gated::Refused { answer } => MetaStat {
-            answer,
-            dir_total: 0,
-            dir_free: 0,
-            file_total: 0,
-            file_free: 0,
-        },
-        Gated::Open => tree_look::stat(dir_hash, dir_table, file_hash, file_table),
-    }
+    tree_test::gate(dir_hash, dir_table, file_hash, file_table, work)?;
+    Ok(tree_look::stat(dir_hash, dir_table, file_hash, file_table))
 }

@@ -9,30 +9,19 @@ ghost use Rattle.tree_promises.specs.Calls.{live_tests, part};
 ghost use Rattle.tree_promises.specs.Inner.Ready.{Single, alone};
 ghost use Rattle.tree.specs.Name.{NameAnswerPromise, NamePromise};
 
-use order::Answer;
+use order::Refusal;
 use tree_key::{SaveExtDirEntry, SaveExtFileEntry};
 use tree_promises::Kind;
-use tree_test::Gated;
-
-// The number that goes with a name.
-#[derive(Drop)]
-pub struct NameAnswer {
-    pub answer: Answer,
-}
 
 // Whether entry x of a sound table is there.
-fn answer_in(hash: &[u8], table: &[u8], w: usize, x: u32) -> NameAnswer
+fn answer_in(hash: &[u8], table: &[u8], w: usize, x: u32) -> Result<(), Refusal>
     requires { Single hash.now table.now w }
-    ensures { First (giving (λ a. a) (live_tests (alone w table.now) x)) Done result.answer }
+    ensures { First (giving (λ a. a) (live_tests (alone w table.now) x)) Done result }
 {
     if !tree_look::live(hash, table, w, x) {
-        return NameAnswer {
-            answer: Answer::NotFound,
-        };
+        return Err(Refusal::NotFound);
     }
-    NameAnswer {
-        answer: Answer::Done,
-    }
+    Ok(())
 }
 
 // The name of entry x of a sound table; an empty part, if it is not there.
@@ -55,17 +44,14 @@ pub fn name_answer(
     work: &mut [u32],
     kind: Kind,
     inode: u32,
-) -> NameAnswer
+) -> Result<(), Refusal>
     ensures { (let s : Tables = tables dir_hash.now dir_table.now file_hash.now file_table.now in
-        NameAnswerPromise s work.old kind inode (beside result.answer work.new)) }
+        NameAnswerPromise s work.old kind inode (beside result work.new)) }
 {
-    let gated = tree_test::gate(dir_hash, dir_table, file_hash, file_table, work);
-    match gated {
-        Gated::Refused { answer } => NameAnswer { answer },
-        Gated::Open => match kind {
-            Kind::Directory => answer_in(dir_hash, dir_table, SaveExtDirEntry::WIDTH, inode),
-            Kind::File => answer_in(file_hash, file_table, SaveExtFileEntry::WIDTH, inode),
-        },
+    tree_test::gate(dir_hash, dir_table, file_hash, file_table, work)?;
+    match kind {
+        Kind::Directory => answer_in(dir_hash, dir_table, SaveExtDirEntry::WIDTH, inode),
+        Kind::File => answer_in(file_hash, file_table, SaveExtFileEntry::WIDTH, inode),
     }
 }
 
@@ -82,15 +68,14 @@ pub fn name<'a>(
     ensures { (let s : Tables = tables dir_hash.now dir_table.now file_hash.now file_table.now in
         NamePromise s work.old kind inode (beside result.now work.new)) }
 {
-    let gated = tree_test::gate(dir_hash, dir_table, file_hash, file_table, work);
-    match gated {
-        Gated::Refused { answer: _ } => match kind {
+    if tree_test::gate(dir_hash, dir_table, file_hash, file_table, work).is_err() {
+        return match kind {
             Kind::Directory => &dir_table[..0],
             Kind::File => &file_table[..0],
-        },
-        Gated::Open => match kind {
-            Kind::Directory => part_in(dir_hash, dir_table, SaveExtDirEntry::WIDTH, inode),
-            Kind::File => part_in(file_hash, file_table, SaveExtFileEntry::WIDTH, inode),
-        },
+        };
+    }
+    match kind {
+        Kind::Directory => part_in(dir_hash, dir_table, SaveExtDirEntry::WIDTH, inode),
+        Kind::File => part_in(file_hash, file_table, SaveExtFileEntry::WIDTH, inode),
     }
 }

@@ -5,10 +5,9 @@ ghost use Rattle.tree_packed.specs.Opens.{opens};
 ghost use Rattle.tree_promises.specs.declared.Kind.TheVariants.{Directory, File};
 ghost use Rattle.tree_promises.specs.Packed.{gives, PackedOpen, PackedClose};
 
-use order::Answer;
+use order::Refusal;
 use tree_key::{SaveExtDirEntry, SaveExtFileEntry};
 use tree_opens::Want;
-use tree_test::Gated;
 
 // Opens directory `inode` once more. Done: its record has one reader more, or the writer.
 pub fn open_dir(
@@ -21,25 +20,23 @@ pub fn open_dir(
     opened: &mut usize,
     inode: u32,
     want: Want,
-) -> Answer
+) -> Result<(), Refusal>
     ensures { (let s : Tables = tables dir_hash.now dir_table.now file_hash.now file_table.now in
         PackedOpen Directory s (opens opened.old list.old) work.old inode want
         (beside (gives result 0 s (opens opened.new list.new)) work.new)) }
 {
-    let k = *opened;
-    let gated = tree_test::open_gate(dir_hash, dir_table, file_hash, file_table, list, k, work);
-    match gated {
-        Gated::Refused { answer } => answer,
-        Gated::Open => tree_look::open(
-            dir_hash,
-            dir_table,
-            SaveExtDirEntry::WIDTH,
-            list,
-            opened,
-            inode,
-            want,
-        ),
-    }
+    tree_test::open_gate(
+        dir_hash, dir_table, file_hash, file_table, list, *opened, work,
+    )?;
+    tree_look::open(
+        dir_hash,
+        dir_table,
+        SaveExtDirEntry::WIDTH,
+        list,
+        opened,
+        inode,
+        want,
+    )
 }
 
 // Opens file `inode` once more. Done: its record has one reader more, or the writer.
@@ -53,25 +50,23 @@ pub fn open_file(
     opened: &mut usize,
     inode: u32,
     want: Want,
-) -> Answer
+) -> Result<(), Refusal>
     ensures { (let s : Tables = tables dir_hash.now dir_table.now file_hash.now file_table.now in
         PackedOpen File s (opens opened.old list.old) work.old inode want
         (beside (gives result 0 s (opens opened.new list.new)) work.new)) }
 {
-    let k = *opened;
-    let gated = tree_test::open_gate(dir_hash, dir_table, file_hash, file_table, list, k, work);
-    match gated {
-        Gated::Refused { answer } => answer,
-        Gated::Open => tree_look::open(
-            file_hash,
-            file_table,
-            SaveExtFileEntry::WIDTH,
-            list,
-            opened,
-            inode,
-            want,
-        ),
-    }
+    tree_test::open_gate(
+        dir_hash, dir_table, file_hash, file_table, list, *opened, work,
+    )?;
+    tree_look::open(
+        file_hash,
+        file_table,
+        SaveExtFileEntry::WIDTH,
+        list,
+        opened,
+        inode,
+        want,
+    )
 }
 
 // Closes directory `inode` once. Done: its record has one reader less, or no writer.
@@ -85,25 +80,23 @@ pub fn close_dir(
     opened: &mut usize,
     inode: u32,
     want: Want,
-) -> Answer
+) -> Result<(), Refusal>
     ensures { (let s : Tables = tables dir_hash.now dir_table.now file_hash.now file_table.now in
         PackedClose Directory s (opens opened.old list.old) work.old inode want
         (beside (gives result 0 s (opens opened.new list.new)) work.new)) }
 {
-    let k = *opened;
-    let gated = tree_test::open_gate(dir_hash, dir_table, file_hash, file_table, list, k, work);
-    match gated {
-        Gated::Refused { answer } => answer,
-        Gated::Open => tree_look::close(
-            dir_hash,
-            dir_table,
-            SaveExtDirEntry::WIDTH,
-            list,
-            opened,
-            inode,
-            want,
-        ),
-    }
+    tree_test::open_gate(
+        dir_hash, dir_table, file_hash, file_table, list, *opened, work,
+    )?;
+    tree_look::close(
+        dir_hash,
+        dir_table,
+        SaveExtDirEntry::WIDTH,
+        list,
+        opened,
+        inode,
+        want,
+    )
 }
 
 // Closes file `inode` once. Done: its record has one reader less, or no writer.
@@ -117,23 +110,21 @@ pub fn close_file(
     opened: &mut usize,
     inode: u32,
     want: Want,
-) -> Answer
+) -> Result<(), Refusal>
     ensures { (let s : Tables = tables dir_hash.now dir_table.now file_hash.now file_table.now in
         PackedClose File s (opens opened.old list.old) work.old inode want
         (beside (gives result 0 s (opens opened.new list.new)) work.new)) }
 {
-    let k = *opened;
-    let gated = tree_test::open_gate(dir_hash, dir_table, file_hash, file_table, list, k, work);
-    match gated {
-        Gated::Refused { answer } => answer,
-        Gated::Open => tree_look::close(
-            file_hash,
-            file_table,
-            SaveExtFileEntry::WIDTH,
-            list,
-            opened,
-            inode,
-            want,
-        ),
-    }
+    tree_test::open_gate(
+        dir_hash, dir_table, file_hash, file_table, list, *opened, work,
+    )?;
+    tree_look::close(
+        file_hash,
+        file_table,
+        SaveExtFileEntry::WIDTH,
+        list,
+        opened,
+        inode,
+        want,
+    )
 }

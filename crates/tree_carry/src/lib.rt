@@ -2,39 +2,28 @@
 #![tactic(auto)]
 
 ghost use Rattle.std.specs.Prelude.{◌≡◌, [], ◌+◌, ◌*◌, ◌≤◌, length, take, drop, replicate};
+ghost use Rattle.std.specs.Result.{result_unwrap_or};
 ghost use Rattle.words.specs.Word.{word, put_word};
 ghost use Rattle.order.specs.First.{First};
-ghost use Rattle.order.specs.Answer.{Done};
+ghost use Rattle.order.specs.Answer.{Done, answer_of};
 ghost use Rattle.tree_sound.specs.Tables.{Tables, tables};
 ghost use Rattle.tree_promises.specs.declared.Kind.TheVariants.{Directory, File};
 ghost use Rattle.tree_promises.specs.Steps.{with_carried};
 ghost use Rattle.tree_promises.specs.Inner.Ready.{Single, alone, set_gives, set_rows};
 ghost use Rattle.tree_promises.specs.Calls.{part, shown_rows, shown_gives};
 
-use order::Answer;
+use order::Refusal;
 use tree_key::{SaveExtDirEntry, SaveExtFileEntry};
 use tree_look::live;
 
-// Twenty bytes of a table, from a place on.
-fn bytes20(table: &[u8], at: usize) -> [u8; 20]
-    requires { at + 20 ≤ length table.now }
-    ensures { result ≡ take 20 (drop at table.now) }
+// N bytes of a table, from a place on.
+fn bytes_at<const N: usize>(table: &[u8], at: usize) -> [u8; N]
+    requires { at + N ≤ length table.now }
+    ensures { result ≡ take N (drop at table.now) }
 {
-    let mut out = [0u8; 20];
-    let mut i: usize = 0;
-    while i < 20 {
-        out[i] = table[at + i];
-        i += 1;
-    }
+    let mut out = [0u8; N];
+    out.copy_from_slice(&table[at..at + N]);
     out
-}
-
-// Four bytes of a table, from a place on.
-fn bytes4(table: &[u8], at: usize) -> [u8; 4]
-    requires { at + 4 ≤ length table.now }
-    ensures { result ≡ take 4 (drop at table.now) }
-{
-    [table[at], table[at + 1], table[at + 2], table[at + 3]]
 }
 
 // Writes the four bytes that a directory carries.
@@ -73,80 +62,85 @@ pub fn put_carried_file(files: &mut [u8], x: u32, carried: &[u8; 20])
     put_part(files, x, carried, 16);
 }
 
-// The bytes that a directory carries, with the answer.
-#[derive(Drop)]
-pub struct CarriedDir {
-    pub answer: Answer,
-    pub bytes: [u8; 4],
-}
-
-// The bytes that a file carries, with the answer.
-#[derive(Drop)]
-pub struct CarriedFile {
-    pub answer: Answer,
-    pub bytes: [u8; 20],
+// Reads the N bytes that entry x of a table carries, from place `at` of the entry on.
+fn carried<const N: usize>(
+    hash: &[u8],
+    table: &[u8],
+    w: usize,
+    at: usize,
+    x: u32,
+) -> Result<[u8; N], Refusal>
+    requires { Single hash.now table.now w × (at + N ≤ w) }
+    ensures { First (shown_rows (alone w table.now) x (replicate N 0)) (shown_gives Done (part w table.now x at N)) (shown_gives (answer_of result) (result_unwrap_or result (replicate N 0))) }
+{
+    if !live(hash, table, w, x) {
+        return Err(Refusal::NotFound);
+    }
+    Ok(bytes_at(table, tree_table::index(x) * w + at))
 }
 
 // Reads the four bytes that directory x carries.
-pub fn carried_dir(hash: &[u8], table: &[u8], x: u32) -> CarriedDir
+pub fn carried_dir(hash: &[u8], table: &[u8], x: u32) -> Result<[u8; 4], Refusal>
     requires { Single hash.now table.now 40 }
-    ensures { First (shown_rows (alone 40 table.now) x (replicate 4 0)) (shown_gives Done (part 40 table.now x 32 4)) (shown_gives result.answer result.bytes) }
+    ensures { First (shown_rows (alone 40 table.now) x (replicate 4 0)) (shown_gives Done (part 40 table.now x 32 4)) (shown_gives (answer_of result) (result_unwrap_or result (replicate 4 0))) }
 {
-    if !live(hash, table, SaveExtDirEntry::WIDTH, x) {
-        return CarriedDir {
-            answer: Answer::NotFound,
-            bytes: [0u8; 4],
-        };
-    }
-    let at = tree_table::index(x) * SaveExtDirEntry::WIDTH + SaveExtDirEntry::CARRIED;
-    CarriedDir {
-        answer: Answer::Done,
-        bytes: bytes4(table, at),
-    }
+    carried(
+        hash,
+        table,
+        SaveExtDirEntry::WIDTH,
+        SaveExtDirEntry::CARRIED,
+        x,
+    )
 }
 
 // Reads the twenty bytes that file x carries.
-pub fn carried_file(hash: &[u8], table: &[u8], x: u32) -> CarriedFile
+pub fn carried_file(hash: &[u8], table: &[u8], x: u32) -> Result<[u8; 20], Refusal>
     requires { Single hash.now table.now 48 }
-    ensures { First (shown_rows (alone 48 table.now) x (replicate 20 0)) (shown_gives Done (part 48 table.now x 24 20)) (shown_gives result.answer result.bytes) }
+    ensures { First (shown_rows (alone 48 table.now) x (replicate 20 0)) (shown_gives Done (part 48 table.now x 24 20)) (shown_gives (answer_of result) (result_unwrap_or result (replicate 20 0))) }
 {
-    if !live(hash, table, SaveExtFileEntry::WIDTH, x) {
-        return CarriedFile {
-            answer: Answer::NotFound,
-            bytes: [0u8; 20],
-        };
-    }
-    let at = tree_table::index(x) * SaveExtFileEntry::WIDTH + SaveExtFileEntry::CARRIED;
-    CarriedFile {
-        answer: Answer::Done,
-        bytes: bytes20(table, at),
-    }
+    carried(
+        hash,
+        table,
+        SaveExtFileEntry::WIDTH,
+        SaveExtFileEntry::CARRIED,
+        x,
+    )
 }
 
 // Writes the four bytes that directory x carries.
-pub fn set_carried_dir(hash: &[u8], table: &mut [u8], x: u32, padding: [u8; 4]) -> Answer
+pub fn set_carried_dir(
+    hash: &[u8],
+    table: &mut [u8],
+    x: u32,
+    padding: [u8; 4],
+) -> Result<(), Refusal>
     requires { Single hash.now table.old 40 }
     ensures { (let s : Tables = tables [] table.old [] [] in
         First (set_rows 40 table.old x) (set_gives Done (with_carried Directory s x padding).dir_table) (set_gives result table.new)) }
 {
     if !live(hash, table, SaveExtDirEntry::WIDTH, x) {
-        return Answer::NotFound;
+        return Err(Refusal::NotFound);
     }
     put_carried_dir(table, x, &padding);
-    Answer::Done
+    Ok(())
 }
 
 // Writes the twenty bytes that file x carries.
-pub fn set_carried_file(hash: &[u8], table: &mut [u8], x: u32, carried: [u8; 20]) -> Answer
+pub fn set_carried_file(
+    hash: &[u8],
+    table: &mut [u8],
+    x: u32,
+    carried: [u8; 20],
+) -> Result<(), Refusal>
     requires { Single hash.now table.old 48 }
     ensures { (let s : Tables = tables [] [] [] table.old in
         First (set_rows 48 table.old x) (set_gives Done (with_carried File s x carried).file_table) (set_gives result table.new)) }
 {
     if !live(hash, table, SaveExtFileEntry::WIDTH, x) {
-        return Answer::NotFound;
+        return Err(Refusal::NotFound);
     }
     put_carried_file(table, x, &carried);
-    Answer::Done
+    Ok(())
 }
 
 // The sixteen name bytes of entry x, as a part of its table.

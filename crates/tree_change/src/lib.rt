@@ -7,8 +7,8 @@ ghost use Rattle.tree_promises.specs.Packed.{gives, Inside, delete_tests, delete
 ghost use Rattle.tree_packed.specs.Opens.{Opens, opens};
 ghost use Rattle.tree_promises.specs.Inner.Ready.{ReadyOpens};
 
-use order::Answer;
-use tree_judge::{Judged, judge_delete, judge_delete_dir, judge_rename_dir, judge_rename_file};
+use order::Refusal;
+use tree_judge::{judge_delete, judge_delete_dir, judge_rename_dir, judge_rename_file};
 use tree_key::{SaveExtDirEntry, SaveExtFileEntry, SaveExtKey};
 use tree_step::{link_dir, link_file, unlink_dir, unlink_file};
 
@@ -21,24 +21,18 @@ pub fn delete_file(
     list: &mut [u32],
     opened: &mut usize,
     x: u32,
-) -> Answer
+) -> Result<(), Refusal>
     requires { ReadyOpens (tables dir_hash.now dirs.old hash.old files.old) (opens opened.old list.old) }
     ensures { (let s : Tables = tables dir_hash.now dirs.old hash.old files.old in let o : Opens = opens opened.old list.old in
         Inside s o (delete_tests File s o x) (delete_done File s o x)
         (gives result 0 (tables dir_hash.now dirs.new hash.new files.new) (opens opened.new list.new))) }
 {
-    let k = *opened;
-    let opens = tree_packed::record_of(list, k, x);
-    let judged = judge_delete(hash, files, SaveExtFileEntry::WIDTH, opens, x);
-    match judged {
-        Judged::Refused { answer } => answer,
-        Judged::Go => {
-            unlink_file(dirs, hash, files, x);
-            tree_table::give(files, SaveExtFileEntry::WIDTH, x);
-            tree_packed::put_record(list, opened, x, 0);
-            Answer::Done
-        }
-    }
+    let opens = tree_packed::record_of(list, *opened, x);
+    judge_delete(hash, files, SaveExtFileEntry::WIDTH, opens, x)?;
+    unlink_file(dirs, hash, files, x);
+    tree_table::give(files, SaveExtFileEntry::WIDTH, x);
+    tree_packed::put_record(list, opened, x, 0);
+    Ok(())
 }
 
 // Deletes directory x.
@@ -50,24 +44,18 @@ pub fn delete_dir(
     list: &mut [u32],
     opened: &mut usize,
     x: u32,
-) -> Answer
+) -> Result<(), Refusal>
     requires { ReadyOpens (tables hash.old dirs.old file_hash.now files.now) (opens opened.old list.old) }
     ensures { (let s : Tables = tables hash.old dirs.old file_hash.now files.now in let o : Opens = opens opened.old list.old in
         Inside s o (delete_tests Directory s o x) (delete_done Directory s o x)
         (gives result 0 (tables hash.new dirs.new file_hash.now files.now) (opens opened.new list.new))) }
 {
-    let k = *opened;
-    let opens = tree_packed::record_of(list, k, x);
-    let judged = judge_delete_dir(hash, dirs, opens, x);
-    match judged {
-        Judged::Refused { answer } => answer,
-        Judged::Go => {
-            unlink_dir(hash, dirs, x);
-            tree_table::give(dirs, SaveExtDirEntry::WIDTH, x);
-            tree_packed::put_record(list, opened, x, 0);
-            Answer::Done
-        }
-    }
+    let opens = tree_packed::record_of(list, *opened, x);
+    judge_delete_dir(hash, dirs, opens, x)?;
+    unlink_dir(hash, dirs, x);
+    tree_table::give(dirs, SaveExtDirEntry::WIDTH, x);
+    tree_packed::put_record(list, opened, x, 0);
+    Ok(())
 }
 
 // Gives file x another parent and name. The key is made once, and is judged and linked by.
@@ -81,7 +69,7 @@ pub fn rename_file(
     x: u32,
     parent: u32,
     name: &[u8; 16],
-) -> Answer
+) -> Result<(), Refusal>
     requires { ReadyOpens (tables dir_hash.now dirs.old hash.old files.old) (opens opened list.now) }
     ensures { (let s : Tables = tables dir_hash.now dirs.old hash.old files.old in let o : Opens = opens opened list.now in
         Inside s o (rename_tests File s o x parent name.now) (rename_done File s o x parent name.now)
@@ -89,15 +77,10 @@ pub fn rename_file(
 {
     let opens = tree_packed::record_of(list, opened, x);
     let key = SaveExtKey::new(parent, name);
-    let judged = judge_rename_file(dir_hash, dirs, hash, files, opens, x, parent, name, key);
-    match judged {
-        Judged::Refused { answer } => answer,
-        Judged::Go => {
-            unlink_file(dirs, hash, files, x);
-            link_file(dirs, hash, files, x, parent, key);
-            Answer::Done
-        }
-    }
+    judge_rename_file(dir_hash, dirs, hash, files, opens, x, parent, name, key)?;
+    unlink_file(dirs, hash, files, x);
+    link_file(dirs, hash, files, x, parent, key);
+    Ok(())
 }
 
 // Gives directory x another parent and name. The key is made once, and is judged and linked by.
@@ -111,7 +94,7 @@ pub fn rename_dir(
     x: u32,
     parent: u32,
     name: &[u8; 16],
-) -> Answer
+) -> Result<(), Refusal>
     requires { ReadyOpens (tables hash.old dirs.old file_hash.now files.now) (opens opened list.now) }
     ensures { (let s : Tables = tables hash.old dirs.old file_hash.now files.now in let o : Opens = opens opened list.now in
         Inside s o (rename_tests Directory s o x parent name.now) (rename_done Directory s o x parent name.now)
@@ -119,13 +102,8 @@ pub fn rename_dir(
 {
     let opens = tree_packed::record_of(list, opened, x);
     let key = SaveExtKey::new(parent, name);
-    let judged = judge_rename_dir(hash, dirs, file_hash, files, opens, x, parent, name, key);
-    match judged {
-        Judged::Refused { answer } => answer,
-        Judged::Go => {
-            unlink_dir(hash, dirs, x);
-            link_dir(hash, dirs, x, parent, key);
-            Answer::Done
-        }
-    }
+    judge_rename_dir(hash, dirs, file_hash, files, opens, x, parent, name, key)?;
+    unlink_dir(hash, dirs, x);
+    link_dir(hash, dirs, x, parent, key);
+    Ok(())
 }

@@ -16,78 +16,52 @@ ghost use Rattle.tree_packed.specs.Opens as packed;
 ghost use Rattle.tree_promises.specs.Inner.Ready.{Ready, Single, alone, hashed};
 ghost use Rattle.tree_judge.specs.Inner.Judge.{JudgedBy};
 
-use order::Answer;
+use order::Refusal;
 use tree_key::{SaveExtDirEntry, SaveExtFileEntry, SaveExtKey};
 use tree_legal::is_legal;
 use tree_look::live;
 
-// What the tests decide: the step may go, or the answer that refuses it.
-#[derive(Drop)]
-pub enum Judged {
-    Go,
-    Refused { answer: Answer },
-}
-
 // Whether inode x is live and a writer holds it, where `opens` is its record: NotFound, NotOpen.
-pub fn judge_held(hash: &[u8], table: &[u8], w: usize, opens: u32, x: u32) -> Judged
+pub fn judge_held(hash: &[u8], table: &[u8], w: usize, opens: u32, x: u32) -> Result<(), Refusal>
     requires { Single hash.now table.now w }
     ensures { JudgedBy (held_tests_of (alone w table.now) opens x) result }
 {
     if !live(hash, table, w, x) {
-        return Judged::Refused {
-            answer: Answer::NotFound,
-        };
+        return Err(Refusal::NotFound);
     }
     if tree_opens::writer_in(opens) == 0 {
-        return Judged::Refused {
-            answer: Answer::NotOpen,
-        };
+        return Err(Refusal::NotOpen);
     }
-    Judged::Go
+    Ok(())
 }
 
 // Whether inode x is live and a writer holds it alone: NotFound, NotOpen, Busy.
-pub fn judge_delete(hash: &[u8], table: &[u8], w: usize, opens: u32, x: u32) -> Judged
+pub fn judge_delete(hash: &[u8], table: &[u8], w: usize, opens: u32, x: u32) -> Result<(), Refusal>
     requires { Single hash.now table.now w }
     ensures { JudgedBy (alone_tests_of (alone w table.now) opens x) result }
 {
-    let held = judge_held(hash, table, w, opens, x);
-    let Judged::Go = held else {
-        return held;
-    };
+    judge_held(hash, table, w, opens, x)?;
     if tree_opens::readers_in(opens) > 0 {
-        return Judged::Refused {
-            answer: Answer::Busy,
-        };
+        return Err(Refusal::Busy);
     }
-    Judged::Go
+    Ok(())
 }
 
 // Whether directory x can be deleted: as judge_delete, then DeletingRoot, NotEmpty.
-pub fn judge_delete_dir(hash: &[u8], dirs: &[u8], opens: u32, x: u32) -> Judged
+pub fn judge_delete_dir(hash: &[u8], dirs: &[u8], opens: u32, x: u32) -> Result<(), Refusal>
     requires { Single hash.now dirs.now 40 }
     ensures { JudgedBy (delete_tests_of Directory (tables hash.now dirs.now [] []) opens x) result }
 {
-    let once = judge_delete(hash, dirs, SaveExtDirEntry::WIDTH, opens, x);
-    let Judged::Go = once else {
-        return once;
-    };
+    judge_delete(hash, dirs, SaveExtDirEntry::WIDTH, opens, x)?;
     if x == 1 {
-        return Judged::Refused {
-            answer: Answer::DeletingRoot,
-        };
+        return Err(Refusal::DeletingRoot);
     }
-    if tree_table::link_of(dirs, SaveExtDirEntry::WIDTH, SaveExtDirEntry::SUB_DIR, x) != 0 {
-        return Judged::Refused {
-            answer: Answer::NotEmpty,
-        };
+    if tree_table::link_of(dirs, SaveExtDirEntry::WIDTH, SaveExtDirEntry::SUB_DIR, x) != 0
+        || tree_table::link_of(dirs, SaveExtDirEntry::WIDTH, SaveExtDirEntry::SUB_FILE, x) != 0
+    {
+        return Err(Refusal::NotEmpty);
     }
-    if tree_table::link_of(dirs, SaveExtDirEntry::WIDTH, SaveExtDirEntry::SUB_FILE, x) != 0 {
-        return Judged::Refused {
-            answer: Answer::NotEmpty,
-        };
-    }
-    Judged::Go
+    Ok(())
 }
 
 // Whether another live entry than x has the key.
@@ -98,10 +72,7 @@ pub fn has_other(hash: &[u8], table: &[u8], w: usize, x: u32, key: SaveExtKey) -
     let b = tree_key::hash(key, hash.len() / 4);
     let first = tree_table::get_hash(hash, b);
     let hit = tree_table::get(table, w, first, key);
-    if hit.inode == 0 {
-        return false;
-    }
-    hit.inode != x
+    hit.inode != 0 && hit.inode != x
 }
 
 // Whether no entry is left: none never used and none removed.
@@ -109,10 +80,8 @@ pub fn full(table: &[u8], w: usize) -> bool
     requires { (28 ≤ w) × (w ≤ length table.now) × (0 < field w table.now 0 1) }
     ensures { Tells (free_of (alone w table.now) ≡ 0) result }
 {
-    if tree_table::link_of(table, w, w - 4, 0) != 0 {
-        return false;
-    }
-    tree_table::link_of(table, w, 4, 0) <= tree_table::link_of(table, w, 0, 0)
+    tree_table::link_of(table, w, w - 4, 0) == 0
+        && tree_table::link_of(table, w, 4, 0) <= tree_table::link_of(table, w, 0, 0)
 }
 
 // Whether file x can be renamed, where key is that of the new parent and name: as judge_held, then InvalidValue of the new
@@ -127,31 +96,22 @@ pub fn judge_rename_file(
     parent: u32,
     name: &[u8; 16],
     key: SaveExtKey,
-) -> Judged
+) -> Result<(), Refusal>
     requires { Ready (tables dir_hash.now dirs.now hash.now files.now) × (key_words key ≡ name_key parent name.now) }
     ensures { (let s : Tables = tables dir_hash.now dirs.now hash.now files.now in
         JudgedBy (rename_tests_of File s opens x parent name.now) result) }
 {
-    let held = judge_held(hash, files, SaveExtFileEntry::WIDTH, opens, x);
-    let Judged::Go = held else {
-        return held;
-    };
+    judge_held(hash, files, SaveExtFileEntry::WIDTH, opens, x)?;
     if !is_legal(name) {
-        return Judged::Refused {
-            answer: Answer::InvalidValue,
-        };
+        return Err(Refusal::InvalidValue);
     }
     if !live(dir_hash, dirs, SaveExtDirEntry::WIDTH, parent) {
-        return Judged::Refused {
-            answer: Answer::NotFound,
-        };
+        return Err(Refusal::NotFound);
     }
     if has_other(hash, files, SaveExtFileEntry::WIDTH, x, key) {
-        return Judged::Refused {
-            answer: Answer::AlreadyExist,
-        };
+        return Err(Refusal::AlreadyExist);
     }
-    Judged::Go
+    Ok(())
 }
 
 // Whether directory x can be renamed, where key is that of the new parent and name: as judge_held, then DeletingRoot, InvalidValue of the
@@ -166,41 +126,28 @@ pub fn judge_rename_dir(
     parent: u32,
     name: &[u8; 16],
     key: SaveExtKey,
-) -> Judged
+) -> Result<(), Refusal>
     requires { Ready (tables hash.now dirs.now file_hash.now files.now) × (key_words key ≡ name_key parent name.now) }
     ensures { (let s : Tables = tables hash.now dirs.now file_hash.now files.now in
         JudgedBy (rename_tests_of Directory s opens x parent name.now) result) }
 {
-    let held = judge_held(hash, dirs, SaveExtDirEntry::WIDTH, opens, x);
-    let Judged::Go = held else {
-        return held;
-    };
+    judge_held(hash, dirs, SaveExtDirEntry::WIDTH, opens, x)?;
     if x == 1 {
-        return Judged::Refused {
-            answer: Answer::DeletingRoot,
-        };
+        return Err(Refusal::DeletingRoot);
     }
     if !is_legal(name) {
-        return Judged::Refused {
-            answer: Answer::InvalidValue,
-        };
+        return Err(Refusal::InvalidValue);
     }
     if !live(hash, dirs, SaveExtDirEntry::WIDTH, parent) {
-        return Judged::Refused {
-            answer: Answer::NotFound,
-        };
+        return Err(Refusal::NotFound);
     }
     if tree_table::in_list(dirs, SaveExtDirEntry::WIDTH, 0, parent, x) {
-        return Judged::Refused {
-            answer: Answer::IntoItself,
-        };
+        return Err(Refusal::IntoItself);
     }
     if has_other(hash, dirs, SaveExtDirEntry::WIDTH, x, key) {
-        return Judged::Refused {
-            answer: Answer::AlreadyExist,
-        };
+        return Err(Refusal::AlreadyExist);
     }
-    Judged::Go
+    Ok(())
 }
 
 // Whether an entry with a parent and a name can be made in a table: InvalidValue of the name, NotFound of the parent, AlreadyExist, NoSpace.
@@ -212,32 +159,24 @@ pub fn judge_make(
     w: usize,
     parent: u32,
     name: &[u8; 16],
-) -> Judged
+) -> Result<(), Refusal>
     requires { Single dir_hash.now dirs.now 40 × Single hash.now table.now w }
     ensures { (let s : Tables = tables dir_hash.now dirs.now [] [] in
         JudgedBy (make_tests s (hashed w hash.now table.now) parent name.now) result) }
 {
     if !is_legal(name) {
-        return Judged::Refused {
-            answer: Answer::InvalidValue,
-        };
+        return Err(Refusal::InvalidValue);
     }
     if !live(dir_hash, dirs, SaveExtDirEntry::WIDTH, parent) {
-        return Judged::Refused {
-            answer: Answer::NotFound,
-        };
+        return Err(Refusal::NotFound);
     }
     if has_other(hash, table, w, 0, SaveExtKey::new(parent, name)) {
-        return Judged::Refused {
-            answer: Answer::AlreadyExist,
-        };
+        return Err(Refusal::AlreadyExist);
     }
     if full(table, w) {
-        return Judged::Refused {
-            answer: Answer::NoSpace,
-        };
+        return Err(Refusal::NoSpace);
     }
-    Judged::Go
+    Ok(())
 }
 
 // The entry that make uses: the first removed one, or else the first that was never used.
@@ -247,9 +186,10 @@ fn next_entry(table: &[u8], w: usize) -> u32
 {
     let first = tree_table::link_of(table, w, w - 4, 0);
     if first == 0 {
-        return tree_table::link_of(table, w, 0, 0);
+        tree_table::link_of(table, w, 0, 0)
+    } else {
+        first
     }
-    first
 }
 
 // Whether an entry can be made and its record finds a place in a packed list: as judge_make, then TooManyOpens.
@@ -263,20 +203,15 @@ pub fn judge_made(
     opened: usize,
     parent: u32,
     name: &[u8; 16],
-) -> Judged
+) -> Result<(), Refusal>
     requires { Single dir_hash.now dirs.now 40 × Single hash.now table.now w × packed.InOrder (packed.opens opened list.now) }
     ensures { (let s : Tables = tables dir_hash.now dirs.now [] [] in
         JudgedBy (make_tests_in s (hashed w hash.now table.now) (packed.opens opened list.now) parent name.now) result) }
 {
-    let judged = judge_make(dir_hash, dirs, hash, table, w, parent, name);
-    let Judged::Go = judged else {
-        return judged;
-    };
+    judge_make(dir_hash, dirs, hash, table, w, parent, name)?;
     let x = next_entry(table, w);
     if tree_packed::is_full(list, opened, x) {
-        return Judged::Refused {
-            answer: Answer::TooManyOpens,
-        };
+        return Err(Refusal::TooManyOpens);
     }
-    Judged::Go
+    Ok(())
 }

@@ -8,7 +8,7 @@ ghost use Rattle.tree_promises.specs.Legal.{torn, legal};
 fn tears(a: u8, b: u8) -> bool
     ensures { result ≡ torn a b }
 {
-    (a == 0) & (b != 0)
+    a == 0 && b != 0
 }
 
 // Whether a new entry may have the name: its first byte is not zero, and no nonzero byte follows a zero one.
@@ -18,12 +18,10 @@ pub fn is_legal(name: &[u8; 16]) -> bool
     if name[0] == 0 {
         return false;
     }
-    let mut i: usize = 0;
-    while i < 15 {
+    for i in 0..15 {
         if tears(name[i], name[i + 1]) {
             return false;
         }
-        i += 1;
     }
     true
 }

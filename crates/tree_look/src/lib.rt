@@ -2,6 +2,8 @@
 #![tactic(auto)]
 
 ghost use Rattle.std.specs.Prelude.{◌≡◌, ◌-◌, ◌/◌, ◌≤◌};
+ghost use Rattle.std.specs.Result.{result_unwrap_or};
+ghost use Rattle.order.specs.Answer.{Done, answer_of};
 ghost use Rattle.order.specs.First.{First};
 ghost use Rattle.tree_promises.specs.Calls.{lookup_rows, lookup_done, lookup_gives, list_gives, short_rows, listed_done, ListDirs, ListFiles, stat_gives, stat_done};
 ghost use Rattle.order.specs.Tells.{Tells};
@@ -13,19 +15,16 @@ ghost use Rattle.tree_promises.specs.Inner.Ready.{Ready, LiveAt, Single, SingleO
 ghost use Rattle.tree_promises.specs.Inner.Opening.{opening_in, OpenIn, CloseIn};
 ghost use Rattle.tree_packed.specs.Opens.{opens};
 
-use order::Answer;
+use order::Refusal;
 use tree_key::{SaveExtDirEntry, SaveExtFileEntry, SaveExtKey};
-use tree_opens::{Stepped, Want};
+use tree_opens::Want;
 
 // Whether inode x of a table is live: it stands in the bucket of its own key.
 pub fn live(hash: &[u8], table: &[u8], w: usize, x: u32) -> bool
     requires { Single hash.now table.now w }
     ensures { Tells (LiveAt w table.now x) result }
 {
-    if x == 0 {
-        return false;
-    }
-    if words::get_u32(table, 0) <= x {
+    if x == 0 || words::get_u32(table, 0) <= x {
         return false;
     }
     let at = tree_table::index(x) * w;
@@ -45,26 +44,21 @@ pub fn open(
     opened: &mut usize,
     x: u32,
     want: Want,
-) -> Answer
+) -> Result<(), Refusal>
     requires { SingleOpens hash.now table.now w (opens opened.old list.old) }
     ensures { OpenIn (alone w table.now) (opens opened.old list.old) x want (opening_in result (opens opened.new list.new)) }
 {
     if !live(hash, table, w, x) {
-        return Answer::NotFound;
+        return Err(Refusal::NotFound);
     }
     let k = *opened;
     if tree_packed::is_full(list, k, x) {
-        return Answer::TooManyOpens;
+        return Err(Refusal::TooManyOpens);
     }
     let record = tree_packed::record_of(list, k, x);
-    let stepped = tree_opens::one_more(record, want);
-    match stepped {
-        Stepped::Refused { answer } => answer,
-        Stepped::To(next) => {
-            tree_packed::put_record(list, opened, x, next);
-            Answer::Done
-        }
-    }
+    let next = tree_opens::one_more(record, want)?;
+    tree_packed::put_record(list, opened, x, next);
+    Ok(())
 }
 
 // Gives back an open of inode x: NotFound, NotOpen.
@@ -76,30 +70,24 @@ pub fn close(
     opened: &mut usize,
     x: u32,
     want: Want,
-) -> Answer
+) -> Result<(), Refusal>
     requires { SingleOpens hash.now table.now w (opens opened.old list.old) }
     ensures { CloseIn (alone w table.now) (opens opened.old list.old) x want (opening_in result (opens opened.new list.new)) }
 {
     if !live(hash, table, w, x) {
-        return Answer::NotFound;
+        return Err(Refusal::NotFound);
     }
     let k = *opened;
     let record = tree_packed::record_of(list, k, x);
-    let stepped = tree_opens::one_less(record, want);
-    match stepped {
-        Stepped::Refused { answer } => answer,
-        Stepped::To(next) => {
-            tree_packed::put_record(list, opened, x, next);
-            Answer::Done
-        }
-    }
+    let next = tree_opens::one_less(record, want)?;
+    tree_packed::put_record(list, opened, x, next);
+    Ok(())
 }
 
-// A lookup's answer: the entry's inode, and the number of entries compared.
-#[derive(Drop)]
+// A lookup's answer: the entry's inode, and the number of entries compared, which stands beside it since NotFound gives it too (RULES 2.2).
+#[derive(Clone, Copy)]
 pub struct Looked {
-    pub answer: Answer,
-    pub inode: u32,
+    pub inode: Result<u32, Refusal>,
     pub compared: u32,
 }
 
@@ -108,49 +96,33 @@ pub struct Looked {
 // `tree_make::make_dir`, `tree_judge::judge_made` and `tree_change::rename_file`. A hash is where the number 0x91A2B3C stands.
 pub fn lookup(hash: &[u8], table: &[u8], w: usize, key: SaveExtKey) -> Looked
     requires { Single hash.now table.now w }
-    ensures { First (lookup_rows (hashed w hash.now table.now) (key_words key)) (lookup_done (hashed w hash.now table.now) (key_words key)) (lookup_gives result.answer result.inode result.compared) }
+    ensures { First (lookup_rows (hashed w hash.now table.now) (key_words key)) (lookup_done (hashed w hash.now table.now) (key_words key)) (lookup_gives (answer_of result.inode) (result_unwrap_or result.inode 0) result.compared) }
 {
     let b = tree_key::hash(key, hash.len() / 4);
     let first = words::get_u32(hash, b * 4);
     let hit = tree_table::get(table, w, first, key);
-    if hit.inode == 0 {
-        return Looked {
-            answer: Answer::NotFound,
-            inode: 0,
-            compared: hit.compared,
-        };
-    }
+    let inode = if hit.inode == 0 {
+        Err(Refusal::NotFound)
+    } else {
+        Ok(hit.inode)
+    };
     Looked {
-        answer: Answer::Done,
-        inode: hit.inode,
+        inode,
         compared: hit.compared,
     }
 }
 
-// A listing's answer: how many places of the lent list hold it.
-#[derive(Drop)]
-pub struct Listed {
-    pub answer: Answer,
-    pub count: usize,
-}
-
-// Writes a list of children to the front of the lent one.
-fn list_children(table: &[u8], w: usize, first: u32, list: &mut [u32]) -> Listed
+// Writes a list of children to the front of the lent one, and gives how many places hold it.
+fn list_children(table: &[u8], w: usize, first: u32, list: &mut [u32]) -> Result<usize, Refusal>
     requires { Ends table.now w 20 first × (24 ≤ w) }
-    ensures { First (short_rows (list_at table.now w 20 first) list.old) (listed_done (list_at table.now w 20 first) list.old) (list_gives result.answer result.count list.new) }
+    ensures { First (short_rows (list_at table.now w 20 first) list.old) (listed_done (list_at table.now w 20 first) list.old) (list_gives (answer_of result) (result_unwrap_or result 0) list.new) }
 {
     let n = tree_table::index(tree_table::count_list(table, w, 20, first));
     if list.len() < n {
-        return Listed {
-            answer: Answer::ListTooShort,
-            count: 0,
-        };
+        return Err(Refusal::ListTooShort);
     }
     tree_table::write_list(table, w, 20, first, list);
-    Listed {
-        answer: Answer::Done,
-        count: n,
-    }
+    Ok(n)
 }
 
 // The directories in a directory, in their list's order.
@@ -161,16 +133,13 @@ pub fn list_dirs(
     file_table: &[u8],
     inode: u32,
     list: &mut [u32],
-) -> Listed
+) -> Result<usize, Refusal>
     requires { Ready (tables dir_hash.now dir_table.now file_hash.now file_table.now) }
     ensures { (let s : Tables = tables dir_hash.now dir_table.now file_hash.now file_table.now in
-        ListDirs s inode list.old (list_gives result.answer result.count list.new)) }
+        ListDirs s inode list.old (list_gives (answer_of result) (result_unwrap_or result 0) list.new)) }
 {
     if !live(dir_hash, dir_table, SaveExtDirEntry::WIDTH, inode) {
-        return Listed {
-            answer: Answer::NotFound,
-            count: 0,
-        };
+        return Err(Refusal::NotFound);
     }
     let at = tree_table::index(inode) * SaveExtDirEntry::WIDTH;
     let first = words::get_u32(dir_table, at + SaveExtDirEntry::SUB_DIR);
@@ -185,16 +154,13 @@ pub fn list_files(
     file_table: &[u8],
     inode: u32,
     list: &mut [u32],
-) -> Listed
+) -> Result<usize, Refusal>
     requires { Ready (tables dir_hash.now dir_table.now file_hash.now file_table.now) }
     ensures { (let s : Tables = tables dir_hash.now dir_table.now file_hash.now file_table.now in
-        ListFiles s inode list.old (list_gives result.answer result.count list.new)) }
+        ListFiles s inode list.old (list_gives (answer_of result) (result_unwrap_or result 0) list.new)) }
 {
     if !live(dir_hash, dir_table, SaveExtDirEntry::WIDTH, inode) {
-        return Listed {
-            answer: Answer::NotFound,
-            count: 0,
-        };
+        return Err(Refusal::NotFound);
     }
     let at = tree_table::index(inode) * SaveExtDirEntry::WIDTH;
     let first = words::get_u32(dir_table, at + SaveExtDirEntry::SUB_FILE);
@@ -222,9 +188,8 @@ fn total_of(hash: &[u8], table: &[u8], w: usize) -> usize
 }
 
 // Entries in all and entries free, of the directories and of the files.
-#[derive(Drop)]
+#[derive(Clone, Copy)]
 pub struct MetaStat {
-    pub answer: Answer,
     pub dir_total: usize,
     pub dir_free: usize,
     pub file_total: usize,
@@ -234,10 +199,9 @@ pub struct MetaStat {
 pub fn stat(dir_hash: &[u8], dir_table: &[u8], file_hash: &[u8], file_table: &[u8]) -> MetaStat
     requires { Ready (tables dir_hash.now dir_table.now file_hash.now file_table.now) }
     ensures { (let s : Tables = tables dir_hash.now dir_table.now file_hash.now file_table.now in
-        stat_gives result.answer result.dir_total result.dir_free result.file_total result.file_free ≡ stat_done s) }
+        stat_gives Done result.dir_total result.dir_free result.file_total result.file_free ≡ stat_done s) }
 {
     MetaStat {
-        answer: Answer::Done,
         dir_total: total_of(dir_hash, dir_table, SaveExtDirEntry::WIDTH),
         dir_free: free_of(dir_hash, dir_table, SaveExtDirEntry::WIDTH),
         file_total: total_of(file_hash, file_table, SaveExtFileEntry::WIDTH),

@@ -2,6 +2,8 @@
 #![tactic(auto)]
 
 ghost use Rattle.std.specs.Prelude.{◌≡◌, [], ◌∷◌, ◌+◌, ◌*◌, ◌/◌, ◌≤◌, ◌<◌, length};
+ghost use Rattle.std.specs.Result.{result_unwrap_or};
+ghost use Rattle.order.specs.Answer.{answer_of};
 ghost use Rattle.tree_table.specs.Field.{write, wrote, sub_dir_field, sub_file_field};
 ghost use Rattle.tree_table.specs.Steps.{taken};
 ghost use Rattle.tree_sound.specs.Tables.{Tables, tables};
@@ -12,21 +14,14 @@ ghost use Rattle.tree_packed.specs.Opens.{Opens, opens};
 ghost use Rattle.tree_promises.specs.Inner.Ready.{ReadyOpens, alone};
 ghost use Rattle.tree_make.specs.Inner.Take.{Takes};
 
-use order::Answer;
+use order::Refusal;
 use tree_carry::{put_carried_dir, put_carried_file};
-use tree_judge::{Judged, judge_made};
+use tree_judge::judge_made;
 use tree_key::{SaveExtDirEntry, SaveExtFileEntry, SaveExtKey};
 use tree_step::{link_dir, link_file};
 
 // The record of a new entry: the writer's open, and no readers.
 const MADE: u32 = 2147483648;
-
-// A make's answer: the new entry's inode.
-#[derive(Drop)]
-pub struct Made {
-    pub answer: Answer,
-    pub inode: u32,
-}
 
 // Takes an entry for a file, links it and fills it.
 fn new_file(
@@ -89,35 +84,26 @@ pub fn make_file(
     parent: u32,
     name: &[u8; 16],
     carried: &[u8; 20],
-) -> Made
+) -> Result<u32, Refusal>
     requires { ReadyOpens (tables dir_hash.now dirs.old hash.old files.old) (opens opened.old list.old) }
     ensures { (let s : Tables = tables dir_hash.now dirs.old hash.old files.old in let o : Opens = opens opened.old list.old in
         Inside s o (make_tests File s o parent name.now) (make_done File s o parent name.now carried.now)
-        (gives result.answer result.inode (tables dir_hash.now dirs.new hash.new files.new) (opens opened.new list.new))) }
+        (gives (answer_of result) (result_unwrap_or result 0) (tables dir_hash.now dirs.new hash.new files.new) (opens opened.new list.new))) }
 {
-    let k = *opened;
-    let judged = judge_made(
+    judge_made(
         dir_hash,
         dirs,
         hash,
         files,
         SaveExtFileEntry::WIDTH,
         list,
-        k,
+        *opened,
         parent,
         name,
-    );
-    match judged {
-        Judged::Refused { answer } => Made { answer, inode: 0 },
-        Judged::Go => {
-            let x = new_file(dirs, hash, files, parent, name, carried);
-            tree_packed::put_record(list, opened, x, MADE);
-            Made {
-                answer: Answer::Done,
-                inode: x,
-            }
-        }
-    }
+    )?;
+    let x = new_file(dirs, hash, files, parent, name, carried);
+    tree_packed::put_record(list, opened, x, MADE);
+    Ok(x)
 }
 
 // Makes a directory, held by its writer.
@@ -131,33 +117,24 @@ pub fn make_dir(
     parent: u32,
     name: &[u8; 16],
     padding: &[u8; 4],
-) -> Made
+) -> Result<u32, Refusal>
     requires { ReadyOpens (tables hash.old dirs.old file_hash.now files.now) (opens opened.old list.old) }
     ensures { (let s : Tables = tables hash.old dirs.old file_hash.now files.now in let o : Opens = opens opened.old list.old in
         Inside s o (make_tests Directory s o parent name.now) (make_done Directory s o parent name.now padding.now)
-        (gives result.answer result.inode (tables hash.new dirs.new file_hash.now files.now) (opens opened.new list.new))) }
+        (gives (answer_of result) (result_unwrap_or result 0) (tables hash.new dirs.new file_hash.now files.now) (opens opened.new list.new))) }
 {
-    let k = *opened;
-    let judged = judge_made(
+    judge_made(
         hash,
         dirs,
         hash,
         dirs,
         SaveExtDirEntry::WIDTH,
         list,
-        k,
+        *opened,
         parent,
         name,
-    );
-    match judged {
-        Judged::Refused { answer } => Made { answer, inode: 0 },
-        Judged::Go => {
-            let x = new_dir(hash, dirs, parent, name, padding);
-            tree_packed::put_record(list, opened, x, MADE);
-            Made {
-                answer: Answer::Done,
-                inode: x,
-            }
-        }
-    }
+    )?;
+    let x = new_dir(hash, dirs, parent, name, padding);
+    tree_packed::put_record(list, opened, x, MADE);
+    Ok(x)
 }

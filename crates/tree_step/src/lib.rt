@@ -15,7 +15,7 @@ ghost use Rattle.tree_step.specs.Inner.Seat.{InParent, InBucket, InList};
 use tree_key::{SaveExtDirEntry, SaveExtFileEntry, SaveExtKey};
 
 // Where an entry stands in its bucket: the bucket, the entry before it (0: none), and what follows it.
-#[derive(Drop)]
+#[derive(Clone, Copy)]
 pub struct Seat {
     pub bucket: usize,
     pub before: u32,
@@ -23,7 +23,7 @@ pub struct Seat {
 }
 
 // Where an entry stands in its parent's list: the parent, the entry before it (0: none), and what follows it.
-#[derive(Drop)]
+#[derive(Clone, Copy)]
 pub struct Child {
     pub up: u32,
     pub before: u32,
