@@ -4,7 +4,6 @@ use Rattle.order.specs.Beside.{Beside}
 use Rattle.order.specs.Answer.{Answer}
 use Rattle.order.specs.Answer.{Done}
 use Rattle.tree_test.specs.Promise.{TestPromise}
-use Rattle.tree_test.specs.declared.Tested.{Tested}
 use Rattle.tree_sound.specs.Tables.{Tables}
 use Rattle.tree_opens.specs.declared.Want.{Want}
 use Rattle.tree_promises.specs.Calls.{Lookup, Make, Change, Opening, Listing, Stat, Shown, Carry}
@@ -58,7 +57,7 @@ changed kind s t opens = state t (for_dirs kind opens s.dir_opens) (for_files ki
 -- shows a name answers no number: name_answer is the one beside it that does.
 pub data Call (s : State) : Answer → State → Type 0 where
   format : (dm fm : ℕ) (o : Carry) → FormatPromise s.tables dm fm o → Call s o.answer (state o.tables s.dir_opens s.file_opens)
-  test : (work : List ℕ) (o : Tested × List ℕ) → TestPromise s.tables work o → Call s o.0.answer s
+  test : (work : List ℕ) (o : Answer × List ℕ) → TestPromise s.tables work o → Call s o.0 s
   lookup : (kind : Kind) (work : List ℕ) (p : ℕ) (name : List ℕ) (o : Beside Lookup) → LookupPromise s.tables (kind_view kind s.tables) work p name o
       → Call s o.given.answer s
   list : (kind : Kind) (work : List ℕ) (x : ℕ) (list : List ℕ) (o : Beside Listing) → ListPromise s.tables (kind_view kind s.tables) work x list o
