@@ -2,13 +2,14 @@
 #![tactic(auto)]
 
 ghost use Rattle.std.specs.Prelude.{length};
+ghost use Rattle.std.specs.Result.{result_unwrap_or};
+ghost use Rattle.order.specs.Answer.{answer_of};
 ghost use Rattle.tree_sound.specs.Tables.{tables};
 ghost use Rattle.audit_inner.specs.Calls.{audit_gives};
 ghost use Rattle.audit.specs.Promise.{beside, AuditPromise};
 ghost use Rattle.audit.specs.Inner.Opened.{OpenVolume, OpenSays};
 
-use audit_inner::Audited;
-use volume_gate::Gated;
+use order::Refusal;
 
 // The widths of the two entry types.
 const DIR: usize = tree_key::SaveExtDirEntry::WIDTH;
@@ -23,9 +24,9 @@ fn audit_open(
     file_table: &[u8],
     work: &mut [u32],
     list: &mut [u32],
-) -> Audited
+) -> Result<usize, Refusal>
     requires { OpenVolume table.now block_len dir_table.now file_table.now work.old }
-    ensures { OpenSays table.now block_len file_table.now work.old list.old work.new (audit_gives result.answer result.count list.new) }
+    ensures { OpenSays table.now block_len file_table.now work.old list.old work.new (audit_gives (answer_of result) (result_unwrap_or result 0) list.new) }
 {
     let rooms = dir_table.len() / DIR + file_table.len() / FILE;
     let n = fat_node::blocks(table);
@@ -47,10 +48,10 @@ pub fn audit(
     file_table: &[u8],
     work: &mut [u32],
     list: &mut [u32],
-) -> Audited
-    ensures { AuditPromise table.now (length «data».now) block_len (tables dir_hash.now dir_table.now file_hash.now file_table.now) work.old list.old (beside (audit_gives result.answer result.count list.new) work.new) }
+) -> Result<usize, Refusal>
+    ensures { AuditPromise table.now (length «data».now) block_len (tables dir_hash.now dir_table.now file_hash.now file_table.now) work.old list.old (beside (audit_gives (answer_of result) (result_unwrap_or result 0) list.new) work.new) }
 {
-    let gated = volume_gate::gate(
+    volume_gate::gate(
         table,
         data.len(),
         block_len,
@@ -59,9 +60,6 @@ pub fn audit(
         file_hash,
         file_table,
         work,
-    );
-    match gated {
-        Gated::Refused { answer } => Audited { answer, count: 0 },
-        Gated::Open => audit_open(table, block_len, dir_table, file_table, work, list),
-    }
+    )?;
+    audit_open(table, block_len, dir_table, file_table, work, list)
 }

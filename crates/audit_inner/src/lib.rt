@@ -3,6 +3,8 @@
 #![tactic(auto)]
 
 ghost use Rattle.std.specs.Prelude.{◌≡◌, false, List, [], ◌∷◌, ◌++◌, ℕ, ◌+◌, ◌*◌, ◌/◌, ◌≤◌, ◌<◌, length};
+ghost use Rattle.std.specs.Result.{result_unwrap_or};
+ghost use Rattle.order.specs.Answer.{answer_of};
 ghost use Rattle.fat_table.specs.Sound.{IsNode};
 ghost use Rattle.fat_table.specs.Chain.{head_at, total, chain_at};
 ghost use Rattle.fat_walk.specs.Volume.{Volume};
@@ -13,7 +15,7 @@ ghost use Rattle.audit_inner.specs.Calls.{audit_gives};
 ghost use Rattle.audit_inner.specs.Inner.Marks.{Files, Ready, Clear, Lengths, Start, Gone, ChainSays, FileSays, Wrote, Put, PutFile, FilesSay, LostSays, BlocksSay, SweepSays, ReportSays, AuditSays};
 
 use fat_walk::Sought;
-use order::Answer;
+use order::Refusal;
 
 // The width of a file's entry, and where its record has its first block and its size.
 const FILE: usize = tree_key::SaveExtFileEntry::WIDTH;
@@ -46,10 +48,7 @@ fn chain_at(table: &[u8], n: usize, head: usize, b: usize) -> u32
     requires head_value { head ≡ head_at table.now }
     ensures { result ≡ chain_of n table.now b }
 {
-    if fat_node::prev_of(table, b) != 0 {
-        return 0;
-    }
-    if head == b + 1 {
+    if fat_node::prev_of(table, b) != 0 || head == b + 1 {
         return 0;
     }
     count_of(table, n, b + 1) as u32
@@ -115,7 +114,7 @@ fn size_of(file_table: &[u8], y: u32) -> usize
 }
 
 // Which findings an inode has: its block is no file chain's first; a file of lower inode names the same chain; its size is over the chain's bytes.
-#[derive(Drop)]
+#[derive(Clone, Copy)]
 pub struct Judged {
     pub astray: bool,
     pub shared: bool,
@@ -231,11 +230,9 @@ fn audit_files(
 {
     let count = tree_table::link_of(file_table, FILE, tree_table::COUNT, 0);
     let mut found: usize = 0;
-    let mut y: u32 = 1;
-    while y < count {
+    for y in 1..count {
         let judged = judge_file(file_table, n, block_len, y, work);
         found = put_file(list, found, judged, y);
-        y += 1;
     }
     found
 }
@@ -244,10 +241,7 @@ fn audit_files(
 fn is_lost(m: u32) -> bool
     ensures { LostSays m result }
 {
-    if m == 0 {
-        return false;
-    }
-    m < NAMED
+    m != 0 && m < NAMED
 }
 
 // Goes along the blocks: the chains that no file names, in their order. The flags are taken away.
@@ -257,12 +251,10 @@ fn audit_blocks(n: usize, found: usize, work: &mut [u32], list: &mut [u32]) -> u
     ensures { BlocksSay n found work.old list.old work.new list.new result }
 {
     let mut count = found;
-    let mut b: usize = 0;
-    while b < n {
+    for b in 0..n {
         let m = work[b];
         work[b] = m % NAMED;
         count = put(list, count, is_lost(m), 4, b as u32);
-        b += 1;
     }
     count
 }
@@ -284,13 +276,6 @@ pub fn sweep(
     audit_blocks(n, found, work, list)
 }
 
-// The audit's answer: the number of findings.
-#[derive(Drop)]
-pub struct Audited {
-    pub answer: Answer,
-    pub count: usize,
-}
-
 // Counts the findings in no list at all, and writes them if the list can hold them.
 fn report(
     file_table: &[u8],
@@ -298,24 +283,18 @@ fn report(
     block_len: usize,
     work: &mut [u32],
     list: &mut [u32],
-) -> Audited
+) -> Result<usize, Refusal>
     requires files { Files file_table.now }
     requires file_table_in_bounds { n + count_of file_table.now ≤ length work.old }
     requires n_bound { (n ≤ 1000000) × (block_len ≤ 65536) }
-    ensures { ReportSays n block_len file_table.now work.old list.old (audit_gives result.answer result.count list.new) }
+    ensures { ReportSays n block_len file_table.now work.old list.old (audit_gives (answer_of result) (result_unwrap_or result 0) list.new) }
 {
     let count = sweep(file_table, n, block_len, work, &mut list[..0]);
     if list.len() < 2 * count {
-        return Audited {
-            answer: Answer::ListTooShort,
-            count: 0,
-        };
+        return Err(Refusal::ListTooShort);
     }
     sweep(file_table, n, block_len, work, list);
-    Audited {
-        answer: Answer::Done,
-        count,
-    }
+    Ok(count)
 }
 
 // The audit of a sound block table and a sound file table, with a work list of zeros.
@@ -326,11 +305,11 @@ pub fn audit_sound(
     file_table: &[u8],
     work: &mut [u32],
     list: &mut [u32],
-) -> Audited
+) -> Result<usize, Refusal>
     requires ready { Ready n table.now block_len file_table.now }
     requires file_table_in_bounds { n + length file_table.now / 48 ≤ length work.old }
     requires clear { Clear 0 work.old }
-    ensures { AuditSays n table.now block_len file_table.now work.old list.old work.new (audit_gives result.answer result.count list.new) }
+    ensures { AuditSays n table.now block_len file_table.now work.old list.old work.new (audit_gives (answer_of result) (result_unwrap_or result 0) list.new) }
 {
     mark(table, n, file_table, work);
     let audited = report(file_table, n, block_len, work, list);

@@ -3,6 +3,8 @@
 #![tactic(auto)]
 
 ghost use Rattle.std.specs.Prelude.{◌≡◌, true, ◌+◌, ◌≤◌, ◌<◌, length, replicate};
+ghost use Rattle.std.specs.Result.{result_unwrap_or};
+ghost use Rattle.order.specs.Answer.{answer_of};
 ghost use Rattle.order.specs.First.{First};
 ghost use Rattle.map_bits.specs.Bits.{words_from, words_in};
 ghost use Rattle.fat_table.specs.Sound.{IsNode, File};
@@ -16,11 +18,9 @@ ghost use Rattle.fat_first.specs.Calls.{CreateFirst, ResizeFirst, DeleteFirst};
 ghost use Rattle.fat_first.specs.Inner.Below.{firsts_below};
 
 use fat_copy::{read_told, write_told};
-use fat_judge::Answered;
-use fat_list::{Listed, open_list_told};
-use fat_step::Created;
+use fat_list::open_list_told;
 use fat_walk::{head_of, size_at};
-use order::Answer;
+use order::Refusal;
 
 // Puts block b in, where the node there begins a file, into a map of the first blocks below it.
 fn mark_first(table: &[u8], n: usize, head: usize, b: usize, firsts: &mut [u32])
@@ -30,13 +30,9 @@ fn mark_first(table: &[u8], n: usize, head: usize, b: usize, firsts: &mut [u32])
     requires firsts_value { firsts.old ≡ words_from (words_in n) 0 (firsts_below n table.now b) }
     ensures { firsts.new ≡ words_from (words_in n) 0 (firsts_below n table.now (b + 1)) }
 {
-    if fat_node::prev_of(table, b) != 0 {
-        return;
+    if fat_node::prev_of(table, b) == 0 && head != b + 1 {
+        map_bits::turn_one(firsts, b, true);
     }
-    if head == b + 1 {
-        return;
-    }
-    map_bits::turn_one(firsts, b, true);
 }
 
 // Puts all first blocks into a map of no block, hopping by node.
@@ -69,10 +65,7 @@ fn is_first(table: &[u8], n: usize, firsts: &[u32], b: usize) -> bool
     requires firsts_value { firsts.now ≡ firsts_of n table.now }
     ensures { (result ≡ true → File table.now n b) × (File table.now n b → result ≡ true) }
 {
-    if n <= b {
-        return false;
-    }
-    map_bits::has(firsts, b)
+    b < n && map_bits::has(firsts, b)
 }
 
 // Creates a file of so many blocks: the free map loses them, and the map of first blocks gets the file's.
@@ -83,26 +76,18 @@ pub fn create(
     map: &mut [u32],
     firsts: &mut [u32],
     block_count: usize,
-) -> Created
+) -> Result<usize, Refusal>
     requires volume { Volume n table.old }
     requires map_value { map.old ≡ map_of n table.old }
     requires firsts_value { firsts.old ≡ firsts_of n table.old }
-    ensures { CreateFirst n table.old block_len block_count (create_gives result.answer result.first table.new) map.new firsts.new }
+    ensures { CreateFirst n table.old block_len block_count (create_gives (answer_of result) (result_unwrap_or result 0) table.new) map.new firsts.new }
 {
     if !fat_test::in_use(block_len) {
-        return Created {
-            answer: Answer::ReadOnlyVolume,
-            first: 0,
-        };
+        return Err(Refusal::ReadOnlyVolume);
     }
-    let made = map_inner::create_mapped(table, n, map, block_count);
-    let answer = made.answer;
-    let first = made.first;
-    if order::number(answer) != 0 {
-        return Created { answer, first };
-    }
+    let first = map_inner::create_mapped(table, n, map, block_count)?;
     map_bits::turn_one(firsts, first, true);
-    Created { answer, first }
+    Ok(first)
 }
 
 // Resizes the file at a block to so many blocks: its first block stays, and so does the map of first blocks.
@@ -114,16 +99,14 @@ pub fn resize(
     firsts: &[u32],
     first_block: usize,
     block_count: usize,
-) -> Answered
+) -> Result<(), Refusal>
     requires volume { Volume n table.old }
     requires map_value { map.old ≡ map_of n table.old }
     requires firsts_value { firsts.now ≡ firsts_of n table.old }
-    ensures { ResizeFirst n table.old block_len first_block block_count (change_gives result.answer table.new) map.new firsts.now }
+    ensures { ResizeFirst n table.old block_len first_block block_count (change_gives result table.new) map.new firsts.now }
 {
     if !fat_test::in_use(block_len) {
-        return Answered {
-            answer: Answer::ReadOnlyVolume,
-        };
+        return Err(Refusal::ReadOnlyVolume);
     }
     let begins = is_first(table, n, firsts, first_block);
     map_inner::resize_told(table, n, map, first_block, block_count, begins)
@@ -137,24 +120,19 @@ pub fn delete(
     map: &mut [u32],
     firsts: &mut [u32],
     first_block: usize,
-) -> Answered
+) -> Result<(), Refusal>
     requires volume { Volume n table.old }
     requires map_value { map.old ≡ map_of n table.old }
     requires firsts_value { firsts.old ≡ firsts_of n table.old }
-    ensures { DeleteFirst n table.old block_len first_block (change_gives result.answer table.new) map.new firsts.new }
+    ensures { DeleteFirst n table.old block_len first_block (change_gives result table.new) map.new firsts.new }
 {
     if !fat_test::in_use(block_len) {
-        return Answered {
-            answer: Answer::ReadOnlyVolume,
-        };
+        return Err(Refusal::ReadOnlyVolume);
     }
     let begins = is_first(table, n, firsts, first_block);
-    let gone = map_inner::delete_told(table, n, map, first_block, begins);
-    if !begins {
-        return gone;
-    }
+    map_inner::delete_told(table, n, map, first_block, begins)?;
     map_bits::turn_one(firsts, first_block, false);
-    gone
+    Ok(())
 }
 
 // Lists the blocks of the file at a block, in chain order.
@@ -164,10 +142,10 @@ pub fn open_list(
     firsts: &[u32],
     first_block: usize,
     list: &mut [u32],
-) -> Listed
+) -> Result<usize, Refusal>
     requires volume { Volume n table.now }
     requires firsts_value { firsts.now ≡ firsts_of n table.now }
-    ensures { ListSound n table.now first_block list.old (list_gives result.answer result.count list.new) }
+    ensures { ListSound n table.now first_block list.old (list_gives (answer_of result) (result_unwrap_or result 0) list.new) }
 {
     let begins = is_first(table, n, firsts, first_block);
     open_list_told(table, n, first_block, begins, list)
@@ -183,11 +161,11 @@ pub fn read(
     first_block: usize,
     pos: usize,
     buf: &mut [u8],
-) -> Answered
+) -> Result<(), Refusal>
     requires volume { Volume n table.now }
     requires firsts_value { firsts.now ≡ firsts_of n table.now }
     requires fact { Data n (length «data».now) block_len }
-    ensures { ReadSound n table.now «data».now block_len first_block pos buf.old (carry_gives result.answer buf.new) }
+    ensures { ReadSound n table.now «data».now block_len first_block pos buf.old (carry_gives result buf.new) }
 {
     let begins = is_first(table, n, firsts, first_block);
     read_told(table, data, block_len, n, first_block, begins, pos, buf)
@@ -203,17 +181,15 @@ pub fn write(
     first_block: usize,
     pos: usize,
     buf: &[u8],
-) -> Answered
+) -> Result<(), Refusal>
     requires volume { Volume n table.now }
     requires firsts_value { firsts.now ≡ firsts_of n table.now }
     requires fact { Data n (length «data».old) block_len }
-    ensures { First (change_rows (λ a. carry_gives a «data».old) block_len (carry_rows n table.now block_len first_block pos (length buf.now) «data».old)) (write_done n table.now «data».old block_len first_block pos buf.now) (carry_gives result.answer «data».new) }
+    ensures { First (change_rows (λ a. carry_gives a «data».old) block_len (carry_rows n table.now block_len first_block pos (length buf.now) «data».old)) (write_done n table.now «data».old block_len first_block pos buf.now) (carry_gives result «data».new) }
 {
-    if fat_test::in_use(block_len) {
-        let begins = is_first(table, n, firsts, first_block);
-        return write_told(table, data, block_len, n, first_block, begins, pos, buf);
+    if !fat_test::in_use(block_len) {
+        return Err(Refusal::ReadOnlyVolume);
     }
-    Answered {
-        answer: Answer::ReadOnlyVolume,
-    }
+    let begins = is_first(table, n, firsts, first_block);
+    write_told(table, data, block_len, n, first_block, begins, pos, buf)
 }

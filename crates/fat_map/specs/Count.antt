@@ -5,9 +5,13 @@ use Rattle.order.specs.Giving.{giving}
 use Rattle.order.specs.Answer.{Answer}
 use Rattle.order.specs.Answer.{Done, InvalidValue, WorkTooShort}
 use Rattle.map_bits.specs.Bits.{words_in, counted_in}
-use Rattle.fat_map.specs.declared.Counted.{Counted}
 
--- what the query gives
+-- the answer of the query, and the set bits of the stretch
+pub record Counted : Type 0 where
+  pub answer : Answer
+  pub free : ℕ
+
+-- the same, by its parts
 abbrev pub count_gives : (answer : Answer) (free : ℕ) → Counted
 count_gives answer free = record { answer = answer; free = free }
 

@@ -4,6 +4,8 @@
 pub mod tested;
 
 ghost use Rattle.std.specs.Prelude.{◌≡◌, ◌⊎◌, ◌≤◌, ◌<◌, length};
+ghost use Rattle.std.specs.Result.{result_unwrap_or};
+ghost use Rattle.order.specs.Answer.{answer_of};
 ghost use Rattle.order.specs.Tells.{Tells};
 ghost use Rattle.fat_node.specs.Sizes.{blocks};
 ghost use Rattle.fat_promises.specs.Calls.{create_gives, change_gives};
@@ -13,20 +15,11 @@ ghost use Rattle.order.specs.Gate.{cleared};
 ghost use Rattle.fat_map.specs.Gate.{IsMap};
 ghost use Rattle.fat_map.specs.Promise.{beside, mapped, BuildPromise};
 ghost use Rattle.fat_map.specs.Calls.{MapCreatePromise, MapResizePromise, MapDeletePromise};
-ghost use Rattle.fat_map.specs.Count.{CountPromise};
+ghost use Rattle.fat_map.specs.Count.{count_gives, CountPromise};
 ghost use Rattle.fat_map.specs.Inner.Gated.{BuildGateOf, ChangeGateOf};
 
-use fat_judge::Answered;
-use fat_step::Created;
-use fat_test::Gated;
-use order::{Answer, Fault};
-
-// The answer of the stretch query: the set bits of the stretch.
-#[derive(Drop)]
-pub struct Counted {
-    pub answer: Answer,
-    pub free: usize,
-}
+use fat_test::Counts;
+use order::{Fault, Refusal};
 
 // The words that a map of n blocks has.
 pub fn words_in(n: usize) -> usize
@@ -38,7 +31,13 @@ pub fn words_in(n: usize) -> usize
 
 // The gate of a call with a map of so many words: sizes, work list and map, soundness. Asked with no place of a work list, the table's gate tells the sizes
 // alone.
-fn gate(table: &[u8], data_len: usize, block_len: usize, work: &mut [u32], map: &[u32]) -> Gated
+fn gate(
+    table: &[u8],
+    data_len: usize,
+    block_len: usize,
+    work: &mut [u32],
+    map: &[u32],
+) -> Result<Counts, Refusal>
     ensures { BuildGateOf table.now data_len block_len work.old map.now work.new result }
 {
     let n = fat_node::blocks(table);
@@ -68,27 +67,18 @@ fn change_gate(
     block_len: usize,
     work: &mut [u32],
     map: &[u32],
-) -> Gated
+) -> Result<(), Refusal>
     ensures { ChangeGateOf table.now data_len block_len work.old map.now work.new result }
 {
-    let gated = gate(table, data_len, block_len, work, map);
-    match gated {
-        Gated::Refused { answer } => Gated::Refused { answer },
-        Gated::Open { free, files } => {
-            let n = fat_node::blocks(table);
-            if !is_map(table, n, work, map) {
-                return Gated::Refused {
-                    answer: Answer::BrokenFat(Fault { entry: 0, rule: 0 }),
-                };
-            }
-            if fat_test::in_use(block_len) {
-                return Gated::Open { free, files };
-            }
-            Gated::Refused {
-                answer: Answer::ReadOnlyVolume,
-            }
-        }
+    gate(table, data_len, block_len, work, map)?;
+    let n = fat_node::blocks(table);
+    if !is_map(table, n, work, map) {
+        return Err(Refusal::BrokenFat(Fault { entry: 0, rule: 0 }));
     }
+    if !fat_test::in_use(block_len) {
+        return Err(Refusal::ReadOnlyVolume);
+    }
+    Ok(())
 }
 
 // Builds the map of a sound table: a bit a block, the lowest block in the lowest bit, set where the block is free; unused bits are 0, and words past n's
@@ -99,21 +89,14 @@ pub fn build(
     block_len: usize,
     work: &mut [u32],
     map: &mut [u32],
-) -> Answered
-    ensures { BuildPromise table.now (length «data».now) block_len work.old map.old (beside (mapped result.answer map.new) work.new) }
+) -> Result<(), Refusal>
+    ensures { BuildPromise table.now (length «data».now) block_len work.old map.old (beside (mapped result map.new) work.new) }
 {
-    let gated = gate(table, data.len(), block_len, work, map);
-    match gated {
-        Gated::Refused { answer } => Answered { answer },
-        Gated::Open { free: _, files: _ } => {
-            let n = fat_node::blocks(table);
-            let words = words_in(n);
-            map_inner::build_sound(table, n, &mut map[..words]);
-            Answered {
-                answer: Answer::Done,
-            }
-        }
-    }
+    gate(table, data.len(), block_len, work, map)?;
+    let n = fat_node::blocks(table);
+    let words = words_in(n);
+    map_inner::build_sound(table, n, &mut map[..words]);
+    Ok(())
 }
 
 // Creates a file as `fat::create` does, and keeps the map: it loses the file's blocks. A map that is not the table's is BrokenFat, with no place named,
@@ -125,18 +108,13 @@ pub fn create(
     work: &mut [u32],
     map: &mut [u32],
     block_count: usize,
-) -> Created
-    ensures { MapCreatePromise table.old (length «data».now) block_len work.old map.old block_count (beside (mapped (create_gives result.answer result.first table.new) map.new) work.new) }
+) -> Result<usize, Refusal>
+    ensures { MapCreatePromise table.old (length «data».now) block_len work.old map.old block_count (beside (mapped (create_gives (answer_of result) (result_unwrap_or result 0) table.new) map.new) work.new) }
 {
-    let gated = change_gate(table, data.len(), block_len, work, map);
-    match gated {
-        Gated::Refused { answer } => Created { answer, first: 0 },
-        Gated::Open { free: _, files: _ } => {
-            let n = fat_node::blocks(table);
-            let words = words_in(n);
-            map_inner::create_mapped(table, n, &mut map[..words], block_count)
-        }
-    }
+    change_gate(table, data.len(), block_len, work, map)?;
+    let n = fat_node::blocks(table);
+    let words = words_in(n);
+    map_inner::create_mapped(table, n, &mut map[..words], block_count)
 }
 
 // Resizes a file as `fat::resize` does, and keeps the map: it loses or gets the blocks between. Refused as create is.
@@ -148,18 +126,13 @@ pub fn resize(
     map: &mut [u32],
     first_block: usize,
     block_count: usize,
-) -> Answered
-    ensures { MapResizePromise table.old (length «data».now) block_len work.old map.old first_block block_count (beside (mapped (change_gives result.answer table.new) map.new) work.new) }
+) -> Result<(), Refusal>
+    ensures { MapResizePromise table.old (length «data».now) block_len work.old map.old first_block block_count (beside (mapped (change_gives result table.new) map.new) work.new) }
 {
-    let gated = change_gate(table, data.len(), block_len, work, map);
-    match gated {
-        Gated::Refused { answer } => Answered { answer },
-        Gated::Open { free: _, files: _ } => {
-            let n = fat_node::blocks(table);
-            let words = words_in(n);
-            map_inner::resize_mapped(table, n, &mut map[..words], first_block, block_count)
-        }
-    }
+    change_gate(table, data.len(), block_len, work, map)?;
+    let n = fat_node::blocks(table);
+    let words = words_in(n);
+    map_inner::resize_mapped(table, n, &mut map[..words], first_block, block_count)
 }
 
 // Deletes a file as `fat::delete` does, and keeps the map: it gets the file's blocks. Refused as create is.
@@ -170,63 +143,36 @@ pub fn delete(
     work: &mut [u32],
     map: &mut [u32],
     first_block: usize,
-) -> Answered
-    ensures { MapDeletePromise table.old (length «data».now) block_len work.old map.old first_block (beside (mapped (change_gives result.answer table.new) map.new) work.new) }
+) -> Result<(), Refusal>
+    ensures { MapDeletePromise table.old (length «data».now) block_len work.old map.old first_block (beside (mapped (change_gives result table.new) map.new) work.new) }
 {
-    let gated = change_gate(table, data.len(), block_len, work, map);
-    match gated {
-        Gated::Refused { answer } => Answered { answer },
-        Gated::Open { free: _, files: _ } => {
-            let n = fat_node::blocks(table);
-            let words = words_in(n);
-            map_inner::delete_mapped(table, n, &mut map[..words], first_block)
-        }
-    }
+    change_gate(table, data.len(), block_len, work, map)?;
+    let n = fat_node::blocks(table);
+    let words = words_in(n);
+    map_inner::delete_mapped(table, n, &mut map[..words], first_block)
 }
 
 // Whether n is not from 1 to 1,000,000.
 fn unfit(n: usize) -> bool
     ensures { Tells ((n < 1) ⊎ (1000000 < n)) result }
 {
-    if n < 1 {
-        return true;
-    }
-    1000000 < n
+    n < 1 || 1000000 < n
 }
 
 // Counts the set bits of a map of n blocks, from block a up to and without block b. It answers for the map that is given, and reads the words of the stretch
 // alone. InvalidValue where n is out of its bounds, WorkTooShort where the map has under n bits, then InvalidValue where a is over b or b over n.
-pub fn count(map: &[u32], n: usize, a: usize, b: usize) -> Counted
-    ensures { CountPromise map.now n a b result }
+pub fn count(map: &[u32], n: usize, a: usize, b: usize) -> Result<usize, Refusal>
+    ensures { CountPromise map.now n a b (count_gives (answer_of result) (result_unwrap_or result 0)) }
 {
     if unfit(n) {
-        return Counted {
-            answer: Answer::InvalidValue,
-            free: 0,
-        };
+        return Err(Refusal::InvalidValue);
     }
     let words = words_in(n);
     if map.len() < words {
-        return Counted {
-            answer: Answer::WorkTooShort,
-            free: 0,
-        };
+        return Err(Refusal::WorkTooShort);
     }
-    if b < a {
-        return Counted {
-            answer: Answer::InvalidValue,
-            free: 0,
-        };
+    if b < a || n < b {
+        return Err(Refusal::InvalidValue);
     }
-    if n < b {
-        return Counted {
-            answer: Answer::InvalidValue,
-            free: 0,
-        };
-    }
-    let free = map_bits::count(map, a, b);
-    Counted {
-        answer: Answer::Done,
-        free,
-    }
+    Ok(map_bits::count(map, a, b))
 }

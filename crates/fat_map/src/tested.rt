@@ -1,14 +1,14 @@
 // The calls that keep a map, for a side that has tested its table and built the map once. Each requires what these tell and tests nothing but the block
 // length: ReadOnlyVolume where it is not in use, before the call's own refusals. Only the words of the blocks that move are written.
 ghost use Rattle.std.specs.Prelude.{◌≡◌};
+ghost use Rattle.std.specs.Result.{result_unwrap_or};
+ghost use Rattle.order.specs.Answer.{answer_of};
 ghost use Rattle.fat_walk.specs.Volume.{Volume};
 ghost use Rattle.fat_promises.specs.Calls.{create_gives, change_gives};
 ghost use Rattle.map_inner.specs.Map.{map_of};
 ghost use Rattle.fat_map.specs.Inner.Gated.{TestedCreate, TestedResize, TestedDelete};
 
-use fat_judge::Answered;
-use fat_step::Created;
-use order::Answer;
+use order::Refusal;
 
 // Creates a file of so many blocks.
 pub fn tested_create(
@@ -17,18 +17,15 @@ pub fn tested_create(
     block_len: usize,
     map: &mut [u32],
     block_count: usize,
-) -> Created
+) -> Result<usize, Refusal>
     requires volume { Volume n table.old }
     requires map_value { map.old ≡ map_of n table.old }
-    ensures { TestedCreate n table.old block_len block_count (create_gives result.answer result.first table.new) map.new }
+    ensures { TestedCreate n table.old block_len block_count (create_gives (answer_of result) (result_unwrap_or result 0) table.new) map.new }
 {
-    if fat_test::in_use(block_len) {
-        return map_inner::create_mapped(table, n, map, block_count);
+    if !fat_test::in_use(block_len) {
+        return Err(Refusal::ReadOnlyVolume);
     }
-    Created {
-        answer: Answer::ReadOnlyVolume,
-        first: 0,
-    }
+    map_inner::create_mapped(table, n, map, block_count)
 }
 
 // Resizes the file at a block to so many blocks.
@@ -39,17 +36,15 @@ pub fn tested_resize(
     map: &mut [u32],
     first_block: usize,
     block_count: usize,
-) -> Answered
+) -> Result<(), Refusal>
     requires volume { Volume n table.old }
     requires map_value { map.old ≡ map_of n table.old }
-    ensures { TestedResize n table.old block_len first_block block_count (change_gives result.answer table.new) map.new }
+    ensures { TestedResize n table.old block_len first_block block_count (change_gives result table.new) map.new }
 {
-    if fat_test::in_use(block_len) {
-        return map_inner::resize_mapped(table, n, map, first_block, block_count);
+    if !fat_test::in_use(block_len) {
+        return Err(Refusal::ReadOnlyVolume);
     }
-    Answered {
-        answer: Answer::ReadOnlyVolume,
-    }
+    map_inner::resize_mapped(table, n, map, first_block, block_count)
 }
 
 // Deletes the file at a block.
@@ -59,15 +54,13 @@ pub fn tested_delete(
     block_len: usize,
     map: &mut [u32],
     first_block: usize,
-) -> Answered
+) -> Result<(), Refusal>
     requires volume { Volume n table.old }
     requires map_value { map.old ≡ map_of n table.old }
-    ensures { TestedDelete n table.old block_len first_block (change_gives result.answer table.new) map.new }
+    ensures { TestedDelete n table.old block_len first_block (change_gives result table.new) map.new }
 {
-    if fat_test::in_use(block_len) {
-        return map_inner::delete_mapped(table, n, map, first_block);
+    if !fat_test::in_use(block_len) {
+        return Err(Refusal::ReadOnlyVolume);
     }
-    Answered {
-        answer: Answer::ReadOnlyVolume,
-    }
+    map_inner::delete_mapped(table, n, map, first_block)
 }

@@ -2,26 +2,20 @@
 #![tactic(auto)]
 
 ghost use Rattle.std.specs.Prelude.{◌+◌, ◌/◌, ◌≤◌, length};
+ghost use Rattle.std.specs.Result.{result_unwrap_or};
+ghost use Rattle.order.specs.Answer.{answer_of};
 ghost use Rattle.tree_sound.specs.Tables.{tables};
 ghost use Rattle.audit_inner.specs.Inner.Marks.{Clear};
 ghost use Rattle.kiosk_inner.specs.Inner.Judge.{ReadyProfile};
 ghost use Rattle.kiosk.specs.Promise.{beside, profile_gives, TestPromise, TestSays};
 ghost use Rattle.kiosk.specs.Inner.Opened.{OpenProfile, OpenSays};
 
-use order::Answer;
-use volume_gate::Gated;
+use order::Refusal;
 
 // The widths of the two entry types.
 const DIR: usize = tree_key::SaveExtDirEntry::WIDTH;
 
 const FILE: usize = tree_key::SaveExtFileEntry::WIDTH;
-
-// The test's answer: the first rule of the profile that is broken, 0 where none is.
-#[derive(Drop)]
-pub struct Profiled {
-    pub answer: Answer,
-    pub broken: u32,
-}
 
 // The rules judged on tables that passed the gate, in the named places of the work list.
 fn test_open(
@@ -58,10 +52,10 @@ pub fn test(
     file_hash: &[u8],
     file_table: &[u8],
     work: &mut [u32],
-) -> Profiled
-    ensures { TestPromise table.now (length «data».now) block_len (tables dir_hash.now dir_table.now file_hash.now file_table.now) work.old (beside (profile_gives result.answer result.broken) work.new) }
+) -> Result<u32, Refusal>
+    ensures { TestPromise table.now (length «data».now) block_len (tables dir_hash.now dir_table.now file_hash.now file_table.now) work.old (beside (profile_gives (answer_of result) (result_unwrap_or result 0)) work.new) }
 {
-    let gated = volume_gate::gate(
+    volume_gate::gate(
         table,
         data.len(),
         block_len,
@@ -70,17 +64,8 @@ pub fn test(
         file_hash,
         file_table,
         work,
-    );
-    match gated {
-        Gated::Refused { answer } => Profiled { answer, broken: 0 },
-        Gated::Open => {
-            let broken = test_open(table, block_len, dir_table, file_table, work);
-            Profiled {
-                answer: Answer::Done,
-                broken,
-            }
-        }
-    }
+    )?;
+    Ok(test_open(table, block_len, dir_table, file_table, work))
 }
 
 // The same for a side that has tested its tables once and keeps them sound, with a work list of zeros.
@@ -91,15 +76,11 @@ pub fn tested_test(
     dir_table: &[u8],
     file_table: &[u8],
     work: &mut [u32],
-) -> Profiled
+) -> Result<u32, Refusal>
     requires ready_profile { ReadyProfile n table.now block_len dir_table.now file_table.now }
     requires file_table_in_bounds { n + length file_table.now / 48 ≤ length work.old }
     requires clear { Clear 0 work.old }
-    ensures { TestSays n table.now block_len dir_table.now file_table.now work.old work.new (profile_gives result.answer result.broken) }
+    ensures { TestSays n table.now block_len dir_table.now file_table.now work.old work.new (profile_gives (answer_of result) (result_unwrap_or result 0)) }
 {
-    let broken = kiosk_inner::broken_rule(table, n, block_len, dir_table, file_table, work);
-    Profiled {
-        answer: Answer::Done,
-        broken,
-    }
+    Ok(kiosk_inner::broken_rule(table, n, block_len, dir_table, file_table, work))
 }

@@ -31,10 +31,7 @@ fn has_directory(dir_table: &[u8]) -> bool
 fn one_if_live(m: u32) -> usize
     ensures { OneIf m result }
 {
-    if m == 0 {
-        return 1;
-    }
-    0
+    usize::from(m == 0)
 }
 
 // The number of live files, by the marks of the removed ones.
@@ -46,10 +43,8 @@ fn count_live(file_table: &[u8], n: usize, work: &[u32]) -> usize
 {
     let count = tree_table::link_of(file_table, FILE, tree_table::COUNT, 0);
     let mut live: usize = 0;
-    let mut y: u32 = 1;
-    while y < count {
+    for y in 1..count {
         live += one_if_live(work[n + tree_table::index(y)]);
-        y += 1;
     }
     live
 }
@@ -60,13 +55,7 @@ fn goes_on(table: &[u8], head: usize, b: usize) -> bool
     requires b_bound { b < 1000000 }
     ensures { GoesOn table.now head b result }
 {
-    if fat_node::prev_of(table, b) != 0 {
-        return false;
-    }
-    if head == b + 1 {
-        return false;
-    }
-    fat_node::next_of(table, b) != 0
+    fat_node::prev_of(table, b) == 0 && head != b + 1 && fat_node::next_of(table, b) != 0
 }
 
 // Whether a chain other than the free one is not a single node, hopping by node.
@@ -89,30 +78,14 @@ fn is_scattered(table: &[u8], n: usize) -> bool
 fn is_character(c: u8) -> bool
     ensures { result ≡ character c }
 {
-    if c < 48 {
-        return false;
-    }
-    if c <= 57 {
-        return true;
-    }
-    if c < 65 {
-        return false;
-    }
-    c <= 90
+    matches!(c, b'0'..=b'9' | b'A'..=b'Z')
 }
 
 // How many characters a name begins with.
 fn lead(name: &[u8]) -> usize
     ensures { result ≡ leading name.now }
 {
-    let mut i: usize = 0;
-    while i < name.len() {
-        if !is_character(name[i]) {
-            return i;
-        }
-        i += 1;
-    }
-    i
+    name.iter().take_while(|&&c| is_character(c)).count()
 }
 
 // Whether zeros alone stand from place `from` on.
@@ -120,14 +93,7 @@ fn is_padding(name: &[u8], from: usize) -> bool
     requires { from ≤ length name.now }
     ensures { result ≡ zeros (drop from name.now) }
 {
-    let mut i = from;
-    while i < name.len() {
-        if name[i] != 0 {
-            return false;
-        }
-        i += 1;
-    }
-    true
+    name[from..].iter().all(|&c| c == 0)
 }
 
 // Whether a name is one or more characters and then zeros.
@@ -135,10 +101,7 @@ fn is_simple(name: &[u8]) -> bool
     ensures { result ≡ simple name.now }
 {
     let count = lead(name);
-    if count == 0 {
-        return false;
-    }
-    is_padding(name, count)
+    count != 0 && is_padding(name, count)
 }
 
 // Whether inode y is a live file with another name; its mark is m.
@@ -146,11 +109,8 @@ fn is_odd(file_table: &[u8], y: u32, m: u32) -> bool
     requires { y * 48 + 48 ≤ length file_table.now }
     ensures { OddAt file_table.now y m result }
 {
-    if m != 0 {
-        return false;
-    }
     let at = tree_table::index(y) * FILE + NAME;
-    !is_simple(&file_table[at..at + 16])
+    m == 0 && !is_simple(&file_table[at..at + 16])
 }
 
 // Whether a live file has another name, by the marks of the removed ones.
@@ -161,14 +121,7 @@ fn has_odd_name(file_table: &[u8], n: usize, work: &[u32]) -> bool
     ensures { Decides result (OddName file_table.now) }
 {
     let count = tree_table::link_of(file_table, FILE, tree_table::COUNT, 0);
-    let mut y: u32 = 1;
-    while y < count {
-        if is_odd(file_table, y, work[n + tree_table::index(y)]) {
-            return true;
-        }
-        y += 1;
-    }
-    false
+    (1..count).any(|y| is_odd(file_table, y, work[n + tree_table::index(y)]))
 }
 
 // The first rule that is broken, 0 where none is, once the findings are counted and the removed inodes marked.

@@ -2,6 +2,8 @@
 #![tactic(auto)]
 
 ghost use Rattle.std.specs.Prelude.{◌≡◌, Bool, true, false, not, List, ◌++◌, ℕ, ◌+◌, ◌≤◌, ◌<◌, length, replicate};
+ghost use Rattle.std.specs.Result.{result_unwrap_or};
+ghost use Rattle.order.specs.Answer.{answer_of};
 ghost use Rattle.order.specs.Tells.{Tells};
 ghost use Rattle.map_bits.specs.Bits.{words_from, words_in};
 ghost use Rattle.fat_node.specs.Node.{Run};
@@ -16,10 +18,10 @@ ghost use Rattle.map_inner.specs.Map.{map_of};
 ghost use Rattle.map_inner.specs.Sounds.{CreateMapped, ResizeMapped, DeleteMapped};
 ghost use Rattle.map_inner.specs.Inner.Moves.{Segment, Move, Moves, CutAt, TakeSays};
 
-use fat_judge::{Answered, DeletePlan, ResizePlan, judge_delete, judge_resize};
-use fat_step::{Created, create_step, delete_step, resize_step};
+use fat_judge::{ResizePlan, judge_delete, judge_resize};
+use fat_step::{create_step, delete_step, resize_step};
 use fat_walk::{Sought, head_of, is_file, size_at};
-use order::Answer;
+use order::Refusal;
 
 // Puts into the map, or takes out of it, the blocks of a chain's nodes, from the one that index first names up to and without the one that index stop
 // names, or to the chain's end where that is 0.
@@ -135,34 +137,28 @@ fn seek_take(table: &[u8], n: usize, first: usize, count: usize, map: &mut [u32]
 }
 
 // Creates a file of so many blocks: the map loses them. They are taken out while they are sought, and put back where there are too few.
-pub fn create_mapped(table: &mut [u8], n: usize, map: &mut [u32], block_count: usize) -> Created
+pub fn create_mapped(
+    table: &mut [u8],
+    n: usize,
+    map: &mut [u32],
+    block_count: usize,
+) -> Result<usize, Refusal>
     requires volume { Volume n table.old }
     requires map_value { map.old ≡ map_of n table.old }
-    ensures { CreateMapped n table.old block_count (create_gives result.answer result.first table.new) map.new }
+    ensures { CreateMapped n table.old block_count (create_gives (answer_of result) (result_unwrap_or result 0) table.new) map.new }
 {
     if block_count == 0 {
-        return Created {
-            answer: Answer::InvalidValue,
-            first: 0,
-        };
+        return Err(Refusal::InvalidValue);
     }
     let head = head_of(table);
-    let sought = seek_take(table, n, head, block_count, map);
-    match sought {
-        Sought::Past { last: _, part: _ } => {
+    match seek_take(table, n, head, block_count, map) {
+        Sought::Past { .. } => {
             draw(table, n, map);
-            Created {
-                answer: Answer::NoSpace,
-                first: 0,
-            }
+            Err(Refusal::NoSpace)
         }
         Sought::Within { node, part } => {
             create_step(table, n, node, part);
-            let first = head - 1;
-            Created {
-                answer: Answer::Done,
-                first,
-            }
+            Ok(head - 1)
         }
     }
 }
@@ -175,33 +171,24 @@ pub fn resize_told(
     first_block: usize,
     block_count: usize,
     begins: bool,
-) -> Answered
+) -> Result<(), Refusal>
     requires volume { Volume n table.old }
     requires map_value { map.old ≡ map_of n table.old }
     requires file { (begins ≡ true → File table.old n first_block) × (File table.old n first_block → begins ≡ true) }
-    ensures { ResizeMapped n table.old first_block block_count (change_gives result.answer table.new) map.new }
+    ensures { ResizeMapped n table.old first_block block_count (change_gives result table.new) map.new }
 {
-    let plan = judge_resize(table, n, first_block, block_count, begins);
-    match plan {
-        ResizePlan::Refused { answer } => Answered { answer },
-        ResizePlan::Same => Answered {
-            answer: Answer::Done,
-        },
+    match judge_resize(table, n, first_block, block_count, begins)? {
+        ResizePlan::Same => {}
         ResizePlan::Shrink { last, node, part } => {
             give_rest(table, n, node, part, map);
             resize_step(table, n, last, node, part);
-            Answered {
-                answer: Answer::Done,
-            }
         }
         ResizePlan::Grow { last, node, part } => {
             take(table, n, node, part, map);
             resize_step(table, n, last, node, part);
-            Answered {
-                answer: Answer::Done,
-            }
         }
     }
+    Ok(())
 }
 
 // The same where it is not told.
@@ -211,10 +198,10 @@ pub fn resize_mapped(
     map: &mut [u32],
     first_block: usize,
     block_count: usize,
-) -> Answered
+) -> Result<(), Refusal>
     requires volume { Volume n table.old }
     requires map_value { map.old ≡ map_of n table.old }
-    ensures { ResizeMapped n table.old first_block block_count (change_gives result.answer table.new) map.new }
+    ensures { ResizeMapped n table.old first_block block_count (change_gives result table.new) map.new }
 {
     let begins = is_file(table, n, first_block);
     resize_told(table, n, map, first_block, block_count, begins)
@@ -227,30 +214,28 @@ pub fn delete_told(
     map: &mut [u32],
     first_block: usize,
     begins: bool,
-) -> Answered
+) -> Result<(), Refusal>
     requires volume { Volume n table.old }
     requires map_value { map.old ≡ map_of n table.old }
     requires file { (begins ≡ true → File table.old n first_block) × (File table.old n first_block → begins ≡ true) }
-    ensures { DeleteMapped n table.old first_block (change_gives result.answer table.new) map.new }
+    ensures { DeleteMapped n table.old first_block (change_gives result table.new) map.new }
 {
-    let plan = judge_delete(table, n, first_block, begins);
-    match plan {
-        DeletePlan::Refused { answer } => Answered { answer },
-        DeletePlan::Join { last } => {
-            give(table, n, first_block, map);
-            delete_step(table, n, first_block, last);
-            Answered {
-                answer: Answer::Done,
-            }
-        }
-    }
+    let last = judge_delete(table, n, first_block, begins)?;
+    give(table, n, first_block, map);
+    delete_step(table, n, first_block, last);
+    Ok(())
 }
 
 // The same where it is not told.
-pub fn delete_mapped(table: &mut [u8], n: usize, map: &mut [u32], first_block: usize) -> Answered
+pub fn delete_mapped(
+    table: &mut [u8],
+    n: usize,
+    map: &mut [u32],
+    first_block: usize,
+) -> Result<(), Refusal>
     requires volume { Volume n table.old }
     requires map_value { map.old ≡ map_of n table.old }
-    ensures { DeleteMapped n table.old first_block (change_gives result.answer table.new) map.new }
+    ensures { DeleteMapped n table.old first_block (change_gives result table.new) map.new }
 {
     let begins = is_file(table, n, first_block);
     delete_told(table, n, map, first_block, begins)

@@ -1,6 +1,6 @@
 -- The rows that a call on both layers begins with: sizes of both, work list, the block table's soundness, then the entry tables'. t is the block table, d
 -- the length of the data, l the block length, s the four entry tables.
-use Rattle.std.specs.Prelude.{◌≡◌, List, [], ◌∷◌, ◌++◌, ◌⊎◌, ℕ, ◌+◌, ◌*◌, ◌<◌, length}
+use Rattle.std.specs.Prelude.{◌≡◌, Result, Ok, Err, List, [], ◌∷◌, ◌++◌, ◌⊎◌, ℕ, ◌+◌, ◌*◌, ◌<◌, length}
 use Rattle.order.specs.First.{Row, row}
 use Rattle.order.specs.Gate.{gate, cleared, refusal}
 use Rattle.order.specs.Given.{Given, None}
@@ -12,8 +12,6 @@ use Rattle.fat_table.specs.Sound as block-table
 use Rattle.fat_test.specs.Gate.{unsound}
 pub use Rattle.fat_test.specs.Gate.{Uneven, Unfit}
 use Rattle.tree_sound.specs.Tables.{Tables, MisfitIn, OutsideIn, rooms_in, SoundIn}
-use Rattle.volume_gate.specs.declared.Gated.{Gated}
-use Rattle.volume_gate.specs.declared.Gated.TheVariants.{Open, Refused}
 
 -- the places of the work list that such a call names: one a block, and one for each entry of the two tables
 abbrev pub places : (t : Bytes) (s : Tables) → ℕ
@@ -36,6 +34,6 @@ pub record Opened (t : Bytes) (d l : ℕ) (s : Tables) (work work' : List ℕ) :
   pub clear : work' ≡ cleared (places t s) work
 
 -- it is open, or the first row that applies refuses
-unfoldable pub VolumeGateOf : (t : Bytes) (d l : ℕ) (s : Tables) (work work' : List ℕ) → Gated → Type 0
-VolumeGateOf t d l s work work' Open = Opened t d l s work work'
-VolumeGateOf t d l s work work' (Refused answer) = Given (volume_gate refusal t d l s work) (refusal answer work')
+unfoldable pub VolumeGateOf : (t : Bytes) (d l : ℕ) (s : Tables) (work work' : List ℕ) → Answer → Type 0
+VolumeGateOf t d l s work work' (Ok told) = Opened t d l s work work'
+VolumeGateOf t d l s work work' (Err why) = Given (volume_gate refusal t d l s work) (refusal (Err why) work')

@@ -8,30 +8,19 @@ ghost use Rattle.tree_sound.specs.Tables.{tables, MisfitIn, OutsideIn, rooms_in}
 ghost use Rattle.volume_gate.specs.Gate.{places, Uneven, Unfit, VolumeGateOf};
 ghost use Rattle.volume_gate.specs.Inner.Sizes.{Sizes, Fit, SoundOf};
 
-use order::Answer;
+use order::Refusal;
 
 // The widths of the two entry types.
 const DIR: usize = tree_key::SaveExtDirEntry::WIDTH;
 
 const FILE: usize = tree_key::SaveExtFileEntry::WIDTH;
 
-// What the gate tells: both layers are sound and the sizes fit, or the refusal.
-#[derive(Drop)]
-pub enum Gated {
-    Open,
-    Refused { answer: Answer },
-}
-
 // The row of sizes that the block table's gate gives, asked with no place of a work list: 1, 2, or 3 where the sizes fit.
 fn block_sizes(table: &[u8], data_len: usize, block_len: usize, none: &mut [u32]) -> u32
     requires { length none.old ≡ 0 }
     ensures { Sizes (Uneven table.now data_len block_len) (Unfit table.now block_len) result }
 {
-    let gated = fat_test::gate(table, data_len, block_len, none);
-    let fat_test::Gated::Refused { answer } = gated else {
-        return 0;
-    };
-    order::number(answer)
+    order::number(&fat_test::gate(table, data_len, block_len, none))
 }
 
 // The same of the entry tables' gate.
@@ -46,11 +35,7 @@ fn tree_sizes(
     ensures { Sizes (MisfitIn (tables dir_hash.now dir_table.now file_hash.now file_table.now))
         (OutsideIn (tables dir_hash.now dir_table.now file_hash.now file_table.now)) result }
 {
-    let gated = tree_test::gate(dir_hash, dir_table, file_hash, file_table, none);
-    let tree_test::Gated::Refused { answer } = gated else {
-        return 0;
-    };
-    order::number(answer)
+    order::number(&tree_test::gate(dir_hash, dir_table, file_hash, file_table, none))
 }
 
 // The first of two rows of sizes: all of row 1 comes before any of row 2.
@@ -58,10 +43,7 @@ fn first_row(blocks: u32, tree: u32) -> u32
     ensures { (result ≡ 1 → (blocks ≡ 1) ⊎ (tree ≡ 1)) × (result ≡ 2 → (blocks ≡ 2) ⊎ (tree ≡ 2))
         × ((result ≡ 1 → ⊥) → (blocks ≡ 1 → ⊥) × (tree ≡ 1 → ⊥)) × ((result ≡ 1 → ⊥) → (result ≡ 2 → ⊥) → (blocks ≡ 2 → ⊥) × (tree ≡ 2 → ⊥)) }
 {
-    if blocks == 1 {
-        return 1;
-    }
-    if tree == 1 {
+    if blocks == 1 || tree == 1 {
         return 1;
     }
     if blocks == 2 {
@@ -80,22 +62,13 @@ fn sound(
     file_hash: &[u8],
     file_table: &[u8],
     work: &mut [u32],
-) -> Gated
+) -> Result<(), Refusal>
     requires fit { Fit table.now data_len block_len (tables dir_hash.now dir_table.now file_hash.now file_table.now) }
     requires file_table_in_bounds { places table.now (tables dir_hash.now dir_table.now file_hash.now file_table.now) ≤ length work.old }
     ensures { SoundOf table.now (tables dir_hash.now dir_table.now file_hash.now file_table.now) result }
 {
-    let blocks = fat_test::gate(table, data_len, block_len, work);
-    match blocks {
-        fat_test::Gated::Refused { answer } => Gated::Refused { answer },
-        fat_test::Gated::Open { free: _, files: _ } => {
-            let tree = tree_test::gate(dir_hash, dir_table, file_hash, file_table, work);
-            match tree {
-                tree_test::Gated::Refused { answer } => Gated::Refused { answer },
-                tree_test::Gated::Open => Gated::Open,
-            }
-        }
-    }
+    fat_test::gate(table, data_len, block_len, work)?;
+    tree_test::gate(dir_hash, dir_table, file_hash, file_table, work)
 }
 
 // The row of sizes that applies first over both layers. The work list is not touched.
@@ -128,7 +101,7 @@ fn verdict(
     file_hash: &[u8],
     file_table: &[u8],
     work: &mut [u32],
-) -> Gated
+) -> Result<(), Refusal>
     requires fit { Fit table.now data_len block_len (tables dir_hash.now dir_table.now file_hash.now file_table.now) }
     requires file_table_in_bounds { places table.now (tables dir_hash.now dir_table.now file_hash.now file_table.now) ≤ length work.old }
     ensures { SoundOf table.now (tables dir_hash.now dir_table.now file_hash.now file_table.now) result
@@ -151,28 +124,22 @@ pub fn gate(
     file_hash: &[u8],
     file_table: &[u8],
     work: &mut [u32],
-) -> Gated
+) -> Result<(), Refusal>
     ensures { VolumeGateOf table.now data_len block_len (tables dir_hash.now dir_table.now file_hash.now file_table.now) work.old work.new result }
 {
     let row = sizes(
         table, data_len, block_len, dir_hash, dir_table, file_hash, file_table, work,
     );
     if row == 1 {
-        return Gated::Refused {
-            answer: Answer::SizeMismatch,
-        };
+        return Err(Refusal::SizeMismatch);
     }
     if row == 2 {
-        return Gated::Refused {
-            answer: Answer::InvalidValue,
-        };
+        return Err(Refusal::InvalidValue);
     }
     let rooms = dir_table.len() / DIR + file_table.len() / FILE;
     let places = fat_node::blocks(table) + rooms;
     if work.len() < places {
-        return Gated::Refused {
-            answer: Answer::WorkTooShort,
-        };
+        return Err(Refusal::WorkTooShort);
     }
     verdict(
         table,

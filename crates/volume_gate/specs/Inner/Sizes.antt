@@ -1,13 +1,12 @@
 -- Which row of sizes applies, and what soundness says once they have passed.
-use Rattle.std.specs.Prelude.{◌≡◌, ◌≢◌, ℕ}
+use Rattle.std.specs.Prelude.{◌≡◌, ◌≢◌, Ok, Err, ℕ}
 use Rattle.order.specs.Given.{Given, None}
+use Rattle.order.specs.Answer.{Answer}
 use Rattle.fat_node.specs.Entry.{Bytes}
 use Rattle.fat_node.specs.Sizes as block
 use Rattle.fat_table.specs.Sound as block-table
 use Rattle.tree_sound.specs.Tables.{Tables, MisfitIn, OutsideIn, SoundIn}
 use Rattle.volume_gate.specs.Gate.{Uneven, Unfit, broken_rows}
-use Rattle.volume_gate.specs.declared.Gated.{Gated}
-use Rattle.volume_gate.specs.declared.Gated.TheVariants.{Open, Refused}
 
 -- r is the number of the row of sizes that applies first, 1 or 2; another number where none does
 pub record Sizes (misfit invalid : Type 0) (r : ℕ) : Type 0 where
@@ -30,6 +29,6 @@ pub record Sounds (t : Bytes) (s : Tables) : Type 0 where
   pub tree : SoundIn s
 
 -- they are, or the first that is not refuses
-abbrev pub SoundOf : (t : Bytes) (s : Tables) → Gated → Type 0
-SoundOf t s Open = Sounds t s
-SoundOf t s (Refused answer) = Given (broken_rows t s) answer
+abbrev pub SoundOf : (t : Bytes) (s : Tables) → Answer → Type 0
+SoundOf t s (Ok told) = Sounds t s
+SoundOf t s (Err why) = Given (broken_rows t s) (Err why)
