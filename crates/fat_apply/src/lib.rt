@@ -2,6 +2,8 @@
 #![tactic(auto)]
 
 ghost use Rattle.std.specs.Prelude.{length};
+ghost use Rattle.std.specs.Result.{result_unwrap_or};
+ghost use Rattle.order.specs.Answer.{answer_of};
 ghost use Rattle.fat_promises.specs.Promise.{beside};
 ghost use Rattle.fat_apply.specs.Apply.{apply_gives, ApplyPromise};
 
@@ -9,8 +11,7 @@ pub mod step;
 pub mod tested;
 
 use crate::step::apply_sound;
-use fat_step::Created;
-use fat_test::Gated;
+use order::Refusal;
 
 // Applies a plan for the file whose first block is given: its bytes are copied to the targets, which become its one node, and its old nodes go before the
 // free front. Answers its number and the file's new first block; ReadOnlyVolume where the block length is not in use, NotAFile where the block is not the
@@ -22,15 +23,10 @@ pub fn apply(
     work: &mut [u32],
     first_block: usize,
     plan: &[u32],
-) -> Created
-    ensures { ApplyPromise table.old «data».old block_len work.old first_block plan.now (beside (apply_gives result.answer result.first table.new «data».new) work.new) }
+) -> Result<usize, Refusal>
+    ensures { ApplyPromise table.old «data».old block_len work.old first_block plan.now (beside (apply_gives (answer_of result) (result_unwrap_or result 0) table.new «data».new) work.new) }
 {
-    let gated = fat_test::change_gate(table, data.len(), block_len, work);
-    match gated {
-        Gated::Refused { answer } => Created { answer, first: 0 },
-        Gated::Open { free: _, files: _ } => {
-            let n = fat_node::blocks(table);
-            apply_sound(table, data, block_len, n, &mut work[..n], first_block, plan)
-        }
-    }
+    fat_test::change_gate(table, data.len(), block_len, work)?;
+    let n = fat_node::blocks(table);
+    apply_sound(table, data, block_len, n, &mut work[..n], first_block, plan)
 }

@@ -1,5 +1,7 @@
 // The applying of a plan on a sound table: the bytes copied, the targets made a file of one node, the old nodes put before the free front.
 ghost use Rattle.std.specs.Prelude.{◌≡◌, ℕ, ◌+◌, ◌*◌, ◌≤◌, length, take, drop, replicate};
+ghost use Rattle.std.specs.Result.{result_unwrap_or};
+ghost use Rattle.order.specs.Answer.{answer_of};
 ghost use Rattle.std.proofs.lemmas.List.Edits.{sets};
 ghost use Rattle.fat_promises.specs.Blocks.{bytes_at};
 ghost use Rattle.fat_walk.specs.Volume.{Volume, Data};
@@ -8,9 +10,10 @@ ghost use Rattle.fat_apply.specs.Apply.{apply_gives, ApplySound};
 ghost use Rattle.fat_apply.specs.Inner.Moving.{sources_of, Apart, Movable, AppliedBy};
 
 use fat_place::place_step;
-use fat_plan::judge::{check_sound, wide};
-use fat_step::{Created, delete_sound};
-use order::Answer;
+use fat_plan::judge::check_sound;
+use fat_step::delete_step;
+use fat_walk::last_of;
+use order::Refusal;
 
 // Copies len bytes of the data from place `from` on over those from place `to` on. The two stretches share no byte.
 fn copy_block(data: &mut [u8], from: usize, to: usize, len: usize)
@@ -18,12 +21,7 @@ fn copy_block(data: &mut [u8], from: usize, to: usize, len: usize)
     requires apart { Apart «from» to len }
     ensures { «data».new ≡ sets «data».old to (take len (drop «from» «data».old)) }
 {
-    let mut i: usize = 0;
-    while i < len {
-        let x = data[from + i];
-        data[to + i] = x;
-        i += 1;
-    }
+    data.copy_within(from..from + len, to);
 }
 
 // Copies the source blocks of a plan, in its order, to the blocks from m on, none of which is a source.
@@ -32,12 +30,9 @@ fn move_blocks(data: &mut [u8], block_len: usize, n: usize, plan: &[u32], m: usi
     requires movable { Movable n m plan.now }
     ensures { «data».new ≡ sets «data».old (m * block_len) (bytes_at (length (sources_of plan.now) * block_len) «data».old block_len (sources_of plan.now) 0) }
 {
-    let k = plan.len() / 2;
-    let mut i: usize = 0;
-    while i < k {
-        let b = wide(plan[2 * i]);
+    for i in 0..plan.len() / 2 {
+        let b = plan[2 * i] as usize;
         copy_block(data, b * block_len, (m + i) * block_len, block_len);
-        i += 1;
     }
 }
 
@@ -55,11 +50,12 @@ fn apply_step(
     requires may_check { MayCheck n table.old first_block plan.now }
     ensures { AppliedBy n table.old «data».old block_len first_block plan.now result table.new «data».new }
 {
-    let m = wide(plan[1]);
+    let m = plan[1] as usize;
     let k = plan.len() / 2;
     move_blocks(data, block_len, n, plan, m);
     place_step(table, n, m, k);
-    delete_sound(table, n, first_block);
+    let last = last_of(table, n, first_block + 1);
+    delete_step(table, n, first_block, last);
     m
 }
 
@@ -72,20 +68,12 @@ pub fn apply_sound(
     work: &mut [u32],
     first_block: usize,
     plan: &[u32],
-) -> Created
+) -> Result<usize, Refusal>
     requires volume { Volume n table.old }
     requires fact { Data n (length «data».old) block_len }
     requires work_value { work.old ≡ replicate n 0 }
-    ensures { (ApplySound n table.old «data».old block_len first_block plan.now (apply_gives result.answer result.first table.new «data».new)) × (work.new ≡ replicate n 0) }
+    ensures { (ApplySound n table.old «data».old block_len first_block plan.now (apply_gives (answer_of result) (result_unwrap_or result 0) table.new «data».new)) × (work.new ≡ replicate n 0) }
 {
-    let checked = check_sound(table, n, work, first_block, plan);
-    let answer = checked.answer;
-    if order::number(answer) != 0 {
-        return Created { answer, first: 0 };
-    }
-    let first = apply_step(table, data, block_len, n, first_block, plan);
-    Created {
-        answer: Answer::Done,
-        first,
-    }
+    check_sound(table, n, work, first_block, plan)?;
+    Ok(apply_step(table, data, block_len, n, first_block, plan))
 }

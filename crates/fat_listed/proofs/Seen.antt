@@ -1,75 +1,78 @@
--- The walk over the blocks that the bytes lie in, block by block.
-use mathlib.Core.Path.{◌≡◌, ap, sym, subst, subst⁻¹, ◌∙◌}
-use mathlib.Core.List.{List}
-use mathlib.Core.Logic.{⊎_elim}
-use Prim.Native.Nat.{ℕ, suc, ◌+◌, ◌-◌, ◌*◌, ◌/◌, ◌%◌, ◌≤◌, ◌<◌}
-use native.Mathlib.Omega.{arith}
-use native.Mathlib.Nat.{suc-mul}
-use lib.ListN.{length, get_or}
+-- The blocks that the bytes lie in, as a part of the list.
+use Rattle.std.proofs.Common.{◌≡◌, refl, ap, sym, subst, ◌∙◌, List, ℕ, suc, ◌+◌, ◌-◌, ◌*◌, ◌/◌, ◌%◌, ◌≤◌, ◌<◌, min, Bool, true, false, length, get_or, take, drop, arith, add-one, ◌⊎◌, inl, inr, ⊎_elim}
+use Rattle.std.proofs.Math.Nat.{suc-mul, add-mul, mul-le-mul_right, div-add-mod', mod-lt, lt_of_mul-lt-mul_right, mul-div_cancel, div-lt_iff_lt-mul}
+use Rattle.std.proofs.lemmas.List.{get_or-take, get_or-drop, length-take, length-drop}
+use Rattle.std.proofs.lemmas.Grind.{div_ceil_times}
+use Rattle.std.specs.Int.{div_ceil}
+use Rattle.order.specs.Tells.{Tells}
 use Rattle.fat_node.proofs.Nodes.{le_or_lt}
-use Rattle.fat_walk.specs.Inner.Chains.{Least}
 use Rattle.fat_listed.specs.Listed.{Foreign}
-use Rattle.fat_listed.proofs.Shares.{At, at_begin, at_div, at_in}
+use Rattle.fat_listed.specs.Shares.{Touched}
+use Rattle.fat_listed.proofs.Tests.{decide}
 
--- the blocks of done bytes are below n; the next byte is byte f of the block at place i
-pub record Seen (n : ℕ) (list : List ℕ) (l pos many i f done : ℕ) : Type 0 where
-  pub upto : done ≤ many
-  pub at : done < many → At l (pos + done) i f
-  pub below : (k : ℕ) → pos ≤ k → k < pos + done → get_or list (k / l) 0 < n
+module _ (list : List ℕ) (l pos many : ℕ) (some : 1 ≤ l) where
+  -- where some bytes are asked for
+  module _ (more : 1 ≤ many) (c : ℕ) (e : c ≡ div_ceil (pos % l + many % l) l) where
+    around : (pos + many ≤ (pos / l + (many / l + c)) * l) × ((pos / l + (many / l + c)) * l < pos + many + l)
+    around =
+        let h : (pos % l + many % l ≤ c * l) × (c * l < pos % l + many % l + l) =
+            subst (λ (x : ℕ). (pos % l + many % l ≤ x * l) × (x * l < pos % l + many % l + l)) (sym e) (div_ceil_times (pos % l + many % l) l some) in
+        let s : (pos / l + (many / l + c)) * l ≡ pos / l * l + (many / l * l + c * l) =
+            add-mul (pos / l) (many / l + c) l ∙ ap (λ (x : ℕ). pos / l * l + x) (add-mul (many / l) c l) in
+        (omega (arith, div-add-mod' pos l, div-add-mod' many l, h.0, s), omega (arith, div-add-mod' pos l, div-add-mod' many l, h.1, s))
 
-pub seen_begin : (n : ℕ) (list : List ℕ) (l pos many : ℕ) → 1 ≤ l → Seen n list l pos many (pos / l) (pos % l) 0
-seen_begin n list l pos many h = record {
-  upto = omega arith;
-  at = λ _. at_begin l pos h;
-  below = λ k a b. let z : ⊥ = omega arith in absurd z;
-}
+    pub touched_in : pos + many ≤ length list * l → pos / l + (many / l + c) ≤ length list
+    touched_in room =
+        let q : suc (length list) * l ≡ l + length list * l = suc-mul (length list) l in
+        let h : pos / l + (many / l + c) < suc (length list) = lt_of_mul-lt-mul_right l {m = pos / l + (many / l + c)} {n = suc (length list)} (omega (arith, around.1, room, q)) in
+        omega (arith, h)
 
-module _ (n : ℕ) (list : List ℕ) (l pos many i f done : ℕ) (s : Seen n list l pos many i f done) where
-  pub seen_end : many ≤ done → Foreign n list l pos many → ⊥
-  seen_end h (k, a, b, c) = omega (arith, s.below k a (omega arith), c)
+    pub touched_some : (m : ℕ) → m ≡ many / l + c → pos / l + m ≤ length list → Touched list l pos many (take m (drop (pos / l) list))
+    touched_some m q room =
+        let z : length (take m (drop (pos / l) list)) ≡ m = length-take m (drop (pos / l) list) ∙ omega (arith, length-drop (pos / l) list, room) in
+        record {
+          is = ap (λ (x : ℕ). take x (drop (pos / l) list)) (sym z);
+          all = λ _. subst (λ (x : ℕ). pos + many ≤ (pos / l + x) * l) (sym q ∙ sym z) around.0;
+          only = λ i h. (more, let k : suc (pos / l + i) ≤ pos / l + (many / l + c) = omega (arith, h, z, q) in omega (arith, around.1, suc-mul (pos / l + i) l, mul-le-mul_right l k));
+        }
 
-  module _ (t : done < many) where
-    here : At l (pos + done) i f
-    here = s.at t
+  -- and where none are
+  pub touched_none : many ≡ 0 → (m : ℕ) → m ≡ 0 → Touched list l pos many (take m (drop (pos / l) list))
+  touched_none e m q =
+      let z : length (take m (drop (pos / l) list)) ≡ 0 = length-take m (drop (pos / l) list) ∙ omega (arith, q) in
+      record {
+        is = ap (λ (x : ℕ). take x (drop (pos / l) list)) (q ∙ sym z);
+        all = λ h. absurd (omega (arith, h, e));
+        only = λ i h. absurd (omega (arith, h, z));
+      }
 
-    place : (j : ℕ) → f + j < l → (pos + done + j) / l ≡ i
-    place j h = at_div l (pos + done) i f here j h
+-- the blocks r ------------------------------------------------------------------------------------------------------------
 
-    pub seen_in : pos + many ≤ length list * l → i < length list
-    seen_in h = at_in l (pos + done) i f here (length list) (omega (arith, h, t))
+module _ (list : List ℕ) (l pos many : ℕ) (r : List ℕ) (some : 1 ≤ l) (w : Touched list l pos many r) where
+  pub touched_at : (i : ℕ) → i < length r → get_or r i 0 ≡ get_or list (pos / l + i) 0
+  touched_at i h = ap (λ (x : List ℕ). get_or x i 0) w.is ∙ get_or-take (length r) (drop (pos / l) list) i 0 h ∙ get_or-drop (pos / l) list i 0
 
-    pub seen_hit : n ≤ get_or list i 0 → Foreign n list l pos many
-    seen_hit h =
-        let e : (pos + done) / l ≡ i = ap (λ (x : ℕ). x / l) (plus_none (pos + done)) ∙ place 0 (omega (arith, here.fits)) in
-        (pos + done, omega arith, omega (arith, t), subst⁻¹ (λ (x : ℕ). n ≤ get_or list x 0) e h)
-      where
-        plus_none : (x : ℕ) → x ≡ x + 0
-        plus_none x = omega arith
+  -- a block at or over n among them is one that a byte lies in
+  pub hit : (n i : ℕ) → i < length r → n ≤ get_or r i 0 → Foreign n list l pos many
+  hit n i h k = ⊎_elim
+      (λ z.
+      let e : (pos / l + i) * l / l ≡ pos / l + i = mul-div_cancel (pos / l + i) some in
+      ((pos / l + i) * l, z, (w.only i h).1, subst (λ (x : ℕ). n ≤ get_or list x 0) (sym e) (subst (λ (x : ℕ). n ≤ x) (touched_at i h) k)))
+      (λ z.
+      let q : (pos / l + i) * l < suc (pos / l) * l = omega (arith, z, suc-mul (pos / l) l, div-add-mod' pos l, mod-lt pos {m = l} some) in
+      let e : pos / l + i ≡ pos / l = omega (arith, lt_of_mul-lt-mul_right l q) in
+      (pos, omega arith, omega (arith, (w.only i h).0), subst (λ (x : ℕ). n ≤ get_or list x 0) e (subst (λ (x : ℕ). n ≤ x) (touched_at i h) k)))
+      (le_or_lt pos ((pos / l + i) * l))
 
-    module _ (len : ℕ) (w : Least (many - done) (l - f) len) where
-      pub seen_some : 1 ≤ len
-      seen_some = ⊎_elim
-          (λ z. omega (arith, z, t))
-          (λ z. omega (arith, w.one z, here.fits))
-          (le_or_lt (many - done) len)
+  pub missed : (n : ℕ) → ((i : ℕ) → i < length r → get_or r i 0 < n) → Foreign n list l pos many → ⊥
+  missed n f (k, a, b, e) =
+      let lo : pos / l ≤ k / l = ⊎_elim (λ z. z) (λ z. absurd (omega (arith, a, div-add-mod' pos l, (div-lt_iff_lt-mul some).0 z))) (le_or_lt (pos / l) (k / l)) in
+      let hi : k / l < pos / l + length r = (div-lt_iff_lt-mul some).1 (omega (arith, b, w.all (omega (arith, a, b)))) in
+      let i : k / l - pos / l < length r = omega (arith, lo, hi) in
+      let q : pos / l + (k / l - pos / l) ≡ k / l = omega (arith, lo) in
+      omega (arith, e, f (k / l - pos / l) i, touched_at (k / l - pos / l) i, ap (λ (x : ℕ). get_or list x 0) q)
 
-      next_at_lem : done + len < many → At l (pos + (done + len)) (i + 1) 0
-      next_at_lem z =
-          let e : i + 1 ≡ suc i = omega arith in
-          record {
-            sum = omega (arith, here.sum, here.fits, w.one (omega (arith, z)), suc-mul i l, ap (λ (x : ℕ). x * l) e);
-            fits = omega (arith, here.fits);
-          }
-
-      next_below : get_or list i 0 < n → (k : ℕ) → pos ≤ k → k < pos + (done + len) → get_or list (k / l) 0 < n
-      next_below h k a b = ⊎_elim
-          (λ z.
-          let j : ℕ = k - (pos + done) in
-          let q : k ≡ pos + done + (k - (pos + done)) = omega (arith, z) in
-          let e : k / l ≡ i = ap (λ (x : ℕ). x / l) q ∙ place (k - (pos + done)) (omega (arith, z, b, w.right, here.fits)) in
-          subst⁻¹ (λ (x : ℕ). get_or list x 0 < n) e h)
-          (λ z. s.below k a z)
-          (le_or_lt (pos + done) k)
-
-      pub seen_turn : get_or list i 0 < n → Seen n list l pos many (i + 1) 0 (done + len)
-      seen_turn h = record { upto = omega (arith, w.left, t); at = next_at_lem; below = next_below h }
+  -- whether a block among them is at or over n
+  pub told : (n : ℕ) (b : Bool) → (b ≡ true → (i : ℕ) × (i < length r) × (n ≤ get_or r i 0)) → (b ≡ false → (i : ℕ) → i < length r → get_or r i 0 < n)
+      → Tells (Foreign n list l pos many) b
+  told n b found none = decide b (λ e. let h = found e in hit n h.0 h.1.0 h.1.1) (λ e. missed n (none e))

@@ -1,37 +1,15 @@
 // Read and write by a file's block list, for a side that opened it once: what a call costs depends on the bytes that it carries, not on the file's length.
 #![tactic(auto)]
 
-ghost use Rattle.std.specs.Prelude.{◌≡◌, ◌+◌, ◌*◌, ◌/◌, ◌≤◌, ◌<◌, length, get_or};
+ghost use Rattle.std.specs.Prelude.{◌≡◌, ◌+◌, ◌*◌, ◌/◌, ◌≤◌, ◌<◌, length};
 ghost use Rattle.fat_walk.specs.Volume.{Data};
 ghost use Rattle.fat_promises.specs.Calls.{carry_gives};
 ghost use Rattle.fat_promises.specs.Blocks.{bytes_at, written};
 ghost use Rattle.order.specs.Tells.{Tells};
 ghost use Rattle.fat_listed.specs.Listed.{Uneven, Unfit, Foreign, listed_tests, write_tests, ReadBlocksPromise, WriteBlocksPromise};
-ghost use Rattle.fat_listed.specs.Shares.{Domestic, ShareOf, JudgeSays};
+ghost use Rattle.fat_listed.specs.Shares.{Domestic, ShareOf, Touched, JudgeSays};
 
-use fat_judge::Answered;
-use fat_walk::least;
-use order::Answer;
-
-// Copies one part over another of the same length.
-fn copy(dst: &mut [u8], src: &[u8])
-    requires { length src.now ≡ length dst.old }
-    ensures { dst.new ≡ src.now }
-{
-    let len = dst.len();
-    let mut i = 0;
-    while i < len {
-        dst[i] = src[i];
-        i += 1;
-    }
-}
-
-// A block's number as an index.
-fn wide(x: u32) -> usize
-    ensures { result ≡ x }
-{
-    x as usize
-}
+use order::Refusal;
 
 // Whether the data are not a whole number of blocks.
 fn uneven(data_len: usize, block_len: usize) -> bool
@@ -47,17 +25,11 @@ fn uneven(data_len: usize, block_len: usize) -> bool
 fn unfit(data_len: usize, block_len: usize) -> bool
     ensures { Tells (Unfit data_len block_len) result }
 {
-    if block_len < 1 {
-        return true;
-    }
-    if 65536 < block_len {
+    if block_len < 1 || 65536 < block_len {
         return true;
     }
     let n = data_len / block_len;
-    if n < 1 {
-        return true;
-    }
-    1000000 < n
+    n < 1 || 1000000 < n
 }
 
 // Whether so many bytes from pos on pass the end of so many blocks. Nothing wraps, whatever the numbers.
@@ -73,8 +45,21 @@ fn passes(count: usize, block_len: usize, pos: usize, len: usize) -> bool
     if count - before < whole {
         return true;
     }
-    let left = least(count - before - whole, 2);
+    let left = (count - before - whole).min(2);
     left * block_len < pos % block_len + len % block_len
+}
+
+// The listed blocks that len bytes from pos on lie in.
+fn touched(list: &[u32], block_len: usize, pos: usize, len: usize) -> &[u32]
+    requires { (1 ≤ block_len) × (block_len ≤ 65536) × (pos + len ≤ length list.now * block_len) }
+    ensures { Touched list.now block_len pos len result.now }
+{
+    let first = pos / block_len;
+    if len == 0 {
+        return &list[first..first];
+    }
+    let count = len / block_len + (pos % block_len + len % block_len).div_ceil(block_len);
+    &list[first..first + count]
 }
 
 // Whether a block that the bytes lie in is at or over n.
@@ -82,92 +67,71 @@ fn foreign(list: &[u32], n: usize, block_len: usize, pos: usize, len: usize) -> 
     requires { (1 ≤ block_len) × (block_len ≤ 65536) × (pos + len ≤ length list.now * block_len) }
     ensures { Tells (Foreign n list.now block_len pos len) result }
 {
-    let mut i = pos / block_len;
-    let mut from = pos % block_len;
-    let mut done: usize = 0;
-    while done < len {
-        if n <= wide(list[i]) {
-            return true;
-        }
-        done += least(len - done, block_len - from);
-        from = 0;
-        i += 1;
-    }
-    false
-}
-
-// What the tests of a call say: a refusal, or that none applies.
-#[derive(Drop)]
-enum Judged {
-    Fits,
-    Refused { answer: Answer },
+    touched(list, block_len, pos, len).iter().any(|&b| n <= b as usize)
 }
 
 // The tests of read_blocks, in order: sizes, the end of the list, the blocks that the bytes lie in.
-fn judge(data_len: usize, block_len: usize, list: &[u32], pos: usize, len: usize) -> Judged
+fn judge(
+    data_len: usize,
+    block_len: usize,
+    list: &[u32],
+    pos: usize,
+    len: usize,
+) -> Result<(), Refusal>
     ensures { JudgeSays (listed_tests data_len block_len list.now pos len) result }
 {
     if uneven(data_len, block_len) {
-        return Judged::Refused {
-            answer: Answer::SizeMismatch,
-        };
+        return Err(Refusal::SizeMismatch);
     }
     if unfit(data_len, block_len) {
-        return Judged::Refused {
-            answer: Answer::InvalidValue,
-        };
+        return Err(Refusal::InvalidValue);
     }
     if passes(list.len(), block_len, pos, len) {
-        return Judged::Refused {
-            answer: Answer::OutOfBound,
-        };
+        return Err(Refusal::OutOfBound);
     }
     let n = data_len / block_len;
     if foreign(list, n, block_len, pos, len) {
-        return Judged::Refused {
-            answer: Answer::InvalidValue,
-        };
+        return Err(Refusal::InvalidValue);
     }
-    Judged::Fits
+    Ok(())
 }
 
 // The tests of write_blocks: the same, and after the sizes that the block length is in use.
-fn judge_write(data_len: usize, block_len: usize, list: &[u32], pos: usize, len: usize) -> Judged
+fn judge_write(
+    data_len: usize,
+    block_len: usize,
+    list: &[u32],
+    pos: usize,
+    len: usize,
+) -> Result<(), Refusal>
     ensures { JudgeSays (write_tests data_len block_len list.now pos len) result }
 {
     if fat_test::in_use(block_len) {
         return judge(data_len, block_len, list, pos, len);
     }
     if uneven(data_len, block_len) {
-        return Judged::Refused {
-            answer: Answer::SizeMismatch,
-        };
+        return Err(Refusal::SizeMismatch);
     }
     if unfit(data_len, block_len) {
-        return Judged::Refused {
-            answer: Answer::InvalidValue,
-        };
+        return Err(Refusal::InvalidValue);
     }
-    Judged::Refused {
-        answer: Answer::ReadOnlyVolume,
-    }
+    Err(Refusal::ReadOnlyVolume)
 }
 
 // Bytes of one block: len of them, from place at of the data on.
-#[derive(Drop)]
+#[derive(Clone, Copy)]
 struct Share {
     at: usize,
     len: usize,
 }
 
-// The share of the block at place i of the list, from its byte `from` on: as many bytes as wanted, or all that it has.
-fn share_at(list: &[u32], block_len: usize, i: usize, from: usize, want: usize) -> Share
-    requires { (i < length list.now) × (get_or list.now i 0 ≤ 1000000) × (block_len ≤ 65536) × (from < block_len) }
-    ensures { ShareOf block_len (get_or list.now i 0) from want result.at result.len }
+// The share of block b, from its byte `from` on: as many bytes as wanted, or all that it has.
+fn share_of(b: u32, block_len: usize, from: usize, want: usize) -> Share
+    requires { (b ≤ 1000000) × (block_len ≤ 65536) × (from < block_len) }
+    ensures { ShareOf block_len b from want result.at result.len }
 {
-    let b = wide(list[i]);
-    let at = b * block_len + from;
-    let len = least(want, block_len - from);
+    let at = b as usize * block_len + from;
+    let len = want.min(block_len - from);
     Share { at, len }
 }
 
@@ -178,18 +142,15 @@ fn fetch(data: &[u8], n: usize, block_len: usize, list: &[u32], pos: usize, buf:
     ensures { buf.new ≡ bytes_at (length buf.old) «data».now block_len list.now pos }
 {
     let len = buf.len();
-    let mut i = pos / block_len;
+    let blocks = touched(list, block_len, pos, len);
     let mut from = pos % block_len;
     let mut done: usize = 0;
-    while done < len {
-        let s = share_at(list, block_len, i, from, len - done);
-        let at = s.at;
-        let to = at + s.len;
+    for &b in blocks {
+        let s = share_of(b, block_len, from, len - done);
         let end = done + s.len;
-        copy(&mut buf[done..end], &data[at..to]);
+        buf[done..end].copy_from_slice(&data[s.at..s.at + s.len]);
         done = end;
         from = 0;
-        i += 1;
     }
 }
 
@@ -200,18 +161,15 @@ fn store(data: &mut [u8], n: usize, block_len: usize, list: &[u32], pos: usize, 
     ensures { «data».new ≡ written buf.now «data».old block_len list.now pos }
 {
     let len = buf.len();
-    let mut i = pos / block_len;
+    let blocks = touched(list, block_len, pos, len);
     let mut from = pos % block_len;
     let mut done: usize = 0;
-    while done < len {
-        let s = share_at(list, block_len, i, from, len - done);
-        let at = s.at;
-        let to = at + s.len;
-        let upto = done + s.len;
-        copy(&mut data[at..to], &buf[done..upto]);
-        done = upto;
+    for &b in blocks {
+        let s = share_of(b, block_len, from, len - done);
+        let end = done + s.len;
+        data[s.at..s.at + s.len].copy_from_slice(&buf[done..end]);
+        done = end;
         from = 0;
-        i += 1;
     }
 }
 
@@ -224,20 +182,13 @@ pub fn read_blocks(
     list: &[u32],
     pos: usize,
     buf: &mut [u8],
-) -> Answered
-    ensures { ReadBlocksPromise «data».now block_len list.now pos buf.old (carry_gives result.answer buf.new) }
+) -> Result<(), Refusal>
+    ensures { ReadBlocksPromise «data».now block_len list.now pos buf.old (carry_gives result buf.new) }
 {
-    let judged = judge(data.len(), block_len, list, pos, buf.len());
-    match judged {
-        Judged::Refused { answer } => Answered { answer },
-        Judged::Fits => {
-            let n = data.len() / block_len;
-            fetch(data, n, block_len, list, pos, buf);
-            Answered {
-                answer: Answer::Done,
-            }
-        }
-    }
+    judge(data.len(), block_len, list, pos, buf.len())?;
+    let n = data.len() / block_len;
+    fetch(data, n, block_len, list, pos, buf);
+    Ok(())
 }
 
 // Writes the buffer's bytes into the listed blocks, from byte pos on, byte after byte: where the list names a block twice, the later byte stays. Answers
@@ -249,18 +200,11 @@ pub fn write_blocks(
     list: &[u32],
     pos: usize,
     buf: &[u8],
-) -> Answered
-    ensures { WriteBlocksPromise «data».old block_len list.now pos buf.now (carry_gives result.answer «data».new) }
+) -> Result<(), Refusal>
+    ensures { WriteBlocksPromise «data».old block_len list.now pos buf.now (carry_gives result «data».new) }
 {
-    let judged = judge_write(data.len(), block_len, list, pos, buf.len());
-    match judged {
-        Judged::Refused { answer } => Answered { answer },
-        Judged::Fits => {
-            let n = data.len() / block_len;
-            store(data, n, block_len, list, pos, buf);
-            Answered {
-                answer: Answer::Done,
-            }
-        }
-    }
+    judge_write(data.len(), block_len, list, pos, buf.len())?;
+    let n = data.len() / block_len;
+    store(data, n, block_len, list, pos, buf);
+    Ok(())
 }

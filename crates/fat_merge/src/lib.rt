@@ -11,11 +11,9 @@ ghost use Rattle.fat_merge.specs.Merge.{merged};
 ghost use Rattle.fat_merge.specs.Promise.{MergeSound, MergePromise};
 ghost use Rattle.fat_merge.specs.Inner.Sweep.{marks, Ahead, Here, Reading, Skipped, PassedOver, LaidFrom, IndexIs};
 
-use fat_judge::Answered;
 use fat_node::Node;
-use fat_test::Gated;
 use fat_walk::head_of;
-use order::Answer;
+use order::Refusal;
 
 // Marks the first block of every free node, along the free chain.
 pub fn mark(table: &[u8], n: usize, work: &mut [u32])
@@ -77,10 +75,7 @@ fn index_of(n: usize, b: usize) -> usize
     requires { n ≤ 1000000 }
     ensures { IndexIs n b result }
 {
-    if b < n {
-        return b + 1;
-    }
-    0
+    if b < n { b + 1 } else { 0 }
 }
 
 // Writes a node for each stretch of free blocks, from the first one on, and takes the marks away. Each is written when the next is known, behind what is
@@ -118,35 +113,29 @@ pub fn merge_sound(table: &mut [u8], n: usize, work: &mut [u32])
 
 // Merges free neighbours: the free chain becomes the longest stretches of free blocks, in rising order, so that no two of its nodes touch. Every file stays.
 // Answers its number alone; refuses what the test of the table refuses, a block length out of its bounds with the sizes, and one that is not in use last.
-pub fn merge(table: &mut [u8], block_len: usize, work: &mut [u32]) -> Answered
-    ensures { MergePromise table.old block_len work.old (beside (change_gives result.answer table.new) work.new) }
+pub fn merge(table: &mut [u8], block_len: usize, work: &mut [u32]) -> Result<(), Refusal>
+    ensures { MergePromise table.old block_len work.old (beside (change_gives result table.new) work.new) }
 {
-    let gated = fat_test::table_gate(table, block_len, work);
-    match gated {
-        Gated::Refused { answer } => Answered { answer },
-        Gated::Open { free: _, files: _ } => {
-            let n = fat_node::blocks(table);
-            merge_sound(table, n, &mut work[..n]);
-            Answered {
-                answer: Answer::Done,
-            }
-        }
-    }
+    fat_test::table_gate(table, block_len, work)?;
+    let n = fat_node::blocks(table);
+    merge_sound(table, n, &mut work[..n]);
+    Ok(())
 }
 
 // The same for a side that has tested its table once and keeps it sound: tests nothing but the block length.
-pub fn tested_merge(table: &mut [u8], n: usize, block_len: usize, work: &mut [u32]) -> Answered
+pub fn tested_merge(
+    table: &mut [u8],
+    n: usize,
+    block_len: usize,
+    work: &mut [u32],
+) -> Result<(), Refusal>
     requires volume { Volume n table.old }
     requires work_value { work.old ≡ replicate n 0 }
-    ensures { MergeSound n table.old block_len (change_gives result.answer table.new) × (work.new ≡ replicate n 0) }
+    ensures { MergeSound n table.old block_len (change_gives result table.new) × (work.new ≡ replicate n 0) }
 {
-    if fat_test::in_use(block_len) {
-        merge_sound(table, n, work);
-        return Answered {
-            answer: Answer::Done,
-        };
+    if !fat_test::in_use(block_len) {
+        return Err(Refusal::ReadOnlyVolume);
     }
-    Answered {
-        answer: Answer::ReadOnlyVolume,
-    }
+    merge_sound(table, n, work);
+    Ok(())
 }

@@ -5,13 +5,12 @@ ghost use Rattle.fat_walk.specs.Volume.{Volume};
 ghost use Rattle.fat_merge.specs.Inner.Sweep.{Ahead, Reading, Passed};
 ghost use Rattle.fat_plan.specs.Plan.{Accepted, lowest};
 ghost use Rattle.fat_plan.specs.Promise.{CheckSound};
-ghost use Rattle.fat_plan.specs.Inner.Moves.{Says, Wide, BlocksIn, Moves, Open, StandsSaid, LowestSaid};
+ghost use Rattle.fat_plan.specs.Inner.Moves.{Says, BlocksIn, Moves, Open, StandsSaid, LowestSaid};
 
-use fat_judge::Answered;
 use fat_list::open_list_sound;
 use fat_merge::{mark, size_at, skip};
 use fat_walk::is_file;
-use order::Answer;
+use order::Refusal;
 
 // The end of the stretch of free blocks that starts at a marked block, hopping by node.
 fn past(table: &[u8], n: usize, work: &[u32], from: usize) -> usize
@@ -40,10 +39,7 @@ fn stands(table: &[u8], n: usize, work: &[u32], m: usize, k: usize) -> bool
     while b < n {
         let end = past(table, n, work, b);
         if m < end {
-            if m < b {
-                return false;
-            }
-            return m + k <= end;
+            return b <= m && m + k <= end;
         }
         b = skip(table, n, work, end);
     }
@@ -98,15 +94,7 @@ pub fn list_blocks(table: &[u8], n: usize, work: &mut [u32], first_block: usize)
     requires work_len { length work.old ≡ n }
     ensures { BlocksIn n table.now first_block result work.new }
 {
-    let listed = open_list_sound(table, n, first_block, work);
-    listed.count
-}
-
-// A stored number as a number of blocks.
-pub fn wide(x: u32) -> usize
-    ensures { Wide x result }
-{
-    x as usize
+    open_list_sound(table, n, first_block, work).unwrap()
 }
 
 // Whether a plan moves the first k blocks of a list, in their order, to consecutive blocks.
@@ -117,17 +105,11 @@ fn same_moves(plan: &[u32], list: &[u32], k: usize) -> bool
     if plan.len() != 2 * k {
         return false;
     }
-    let m = wide(plan[1]);
-    let mut i: usize = 0;
-    while i < k {
-        if plan[2 * i] != list[i] {
+    let m = plan[1] as usize;
+    for i in 0..k {
+        if plan[2 * i] != list[i] || plan[2 * i + 1] as usize != m + i {
             return false;
         }
-        let target = wide(plan[2 * i + 1]);
-        if target != m + i {
-            return false;
-        }
-        i += 1;
     }
     true
 }
@@ -142,11 +124,7 @@ fn accepts(table: &[u8], n: usize, work: &mut [u32], first_block: usize, plan: &
     let k = list_blocks(table, n, work, first_block);
     let same = same_moves(plan, work, k);
     order::clear(work);
-    if !same {
-        return false;
-    }
-    let m = wide(plan[1]);
-    is_open(table, n, work, m, k)
+    same && is_open(table, n, work, plan[1] as usize, k)
 }
 
 // Judges a plan for the file at a block: NotAFile, InvalidValue.
@@ -156,22 +134,16 @@ pub fn check_sound(
     work: &mut [u32],
     first_block: usize,
     plan: &[u32],
-) -> Answered
+) -> Result<(), Refusal>
     requires volume { Volume n table.now }
     requires work_value { work.old ≡ replicate n 0 }
-    ensures { (CheckSound n table.now first_block plan.now result.answer) × (work.new ≡ replicate n 0) }
+    ensures { (CheckSound n table.now first_block plan.now result) × (work.new ≡ replicate n 0) }
 {
     if !is_file(table, n, first_block) {
-        return Answered {
-            answer: Answer::NotAFile,
-        };
+        return Err(Refusal::NotAFile);
     }
     if !accepts(table, n, work, first_block, plan) {
-        return Answered {
-            answer: Answer::InvalidValue,
-        };
+        return Err(Refusal::InvalidValue);
     }
-    Answered {
-        answer: Answer::Done,
-    }
+    Ok(())
 }

@@ -2,6 +2,8 @@
 #![tactic(auto)]
 
 ghost use Rattle.std.specs.Prelude.{length};
+ghost use Rattle.std.specs.Result.{result_unwrap_or};
+ghost use Rattle.order.specs.Answer.{answer_of};
 ghost use Rattle.fat_promises.specs.Promise.{beside};
 ghost use Rattle.fat_plan.specs.Promise.{CheckPromise, FindPromise};
 ghost use Rattle.fat_promises.specs.Calls.{list_gives};
@@ -11,9 +13,7 @@ pub mod planner;
 
 use crate::judge::check_sound;
 use crate::planner::find_sound;
-use fat_judge::Answered;
-use fat_list::Listed;
-use fat_test::Gated;
+use order::Refusal;
 
 // Checks a plan for the file whose first block is given. Answers its number alone; NotAFile where the block is not the first of a chain other than the free
 // one, InvalidValue where the plan is not accepted: its sources are the file's blocks in file order, its targets consecutive and free.
@@ -24,17 +24,12 @@ pub fn check(
     work: &mut [u32],
     first_block: usize,
     plan: &[u32],
-) -> Answered
-    ensures { CheckPromise table.now (length «data».now) block_len work.old first_block plan.now (beside result.answer work.new) }
+) -> Result<(), Refusal>
+    ensures { CheckPromise table.now (length «data».now) block_len work.old first_block plan.now (beside result work.new) }
 {
-    let gated = fat_test::gate(table, data.len(), block_len, work);
-    match gated {
-        Gated::Refused { answer } => Answered { answer },
-        Gated::Open { free: _, files: _ } => {
-            let n = fat_node::blocks(table);
-            check_sound(table, n, &mut work[..n], first_block, plan)
-        }
-    }
+    fat_test::gate(table, data.len(), block_len, work)?;
+    let n = fat_node::blocks(table);
+    check_sound(table, n, &mut work[..n], first_block, plan)
 }
 
 // Plans to make the file whose first block is given whole: its blocks move to the lowest place where enough consecutive blocks are free. Writes source and
@@ -47,15 +42,10 @@ pub fn find(
     work: &mut [u32],
     first_block: usize,
     list: &mut [u32],
-) -> Listed
-    ensures { FindPromise table.now (length «data».now) block_len work.old first_block list.old (beside (list_gives result.answer result.count list.new) work.new) }
+) -> Result<usize, Refusal>
+    ensures { FindPromise table.now (length «data».now) block_len work.old first_block list.old (beside (list_gives (answer_of result) (result_unwrap_or result 0) list.new) work.new) }
 {
-    let gated = fat_test::gate(table, data.len(), block_len, work);
-    match gated {
-        Gated::Refused { answer } => Listed { answer, count: 0 },
-        Gated::Open { free: _, files: _ } => {
-            let n = fat_node::blocks(table);
-            find_sound(table, n, &mut work[..n], first_block, list)
-        }
-    }
+    fat_test::gate(table, data.len(), block_len, work)?;
+    let n = fat_node::blocks(table);
+    find_sound(table, n, &mut work[..n], first_block, list)
 }

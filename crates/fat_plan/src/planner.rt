@@ -1,5 +1,7 @@
 // The planner: the moves of a file to the lowest place where it is whole.
 ghost use Rattle.std.specs.Prelude.{◌≡◌, ℕ, ◌+◌, ◌*◌, ◌≤◌, length, take, replicate};
+ghost use Rattle.std.specs.Result.{result_unwrap_or};
+ghost use Rattle.order.specs.Answer.{answer_of};
 ghost use Rattle.std.proofs.lemmas.List.Edits.{sets};
 ghost use Rattle.fat_table.specs.Chain.{total, chain_at};
 ghost use Rattle.fat_promises.specs.Calls.{list_gives};
@@ -10,15 +12,14 @@ ghost use Rattle.fat_plan.specs.Promise.{FindSound};
 ghost use Rattle.fat_plan.specs.Inner.Finds.{FindPlanned, FindAt, Planned};
 
 use crate::judge::{find_lowest, list_blocks};
-use fat_list::Listed;
 use fat_walk::{Sought, is_file};
-use order::Answer;
+use order::Refusal;
 
-// What a find will do: the file's blocks, `count` of them, move to those from `target` on. Or its refusal.
-#[derive(Drop)]
-pub enum FindPlan {
-    Refused { answer: Answer },
-    Found { count: usize, target: usize },
+// What a find will do: the file's blocks, `count` of them, move to those from `target` on.
+#[derive(Clone, Copy)]
+struct Found {
+    count: usize,
+    target: usize,
 }
 
 // The number of blocks of the chain that index first starts.
@@ -34,32 +35,32 @@ fn count_of(table: &[u8], n: usize, first: usize) -> usize
 }
 
 // Judges a find for the file at a block, with so many places for the plan: NotAFile, NoSpace, ListTooShort.
-fn judge_find(table: &[u8], n: usize, work: &mut [u32], first_block: usize, room: usize) -> FindPlan
+fn judge_find(
+    table: &[u8],
+    n: usize,
+    work: &mut [u32],
+    first_block: usize,
+    room: usize,
+) -> Result<Found, Refusal>
     requires volume { Volume n table.now }
     requires work_value { work.old ≡ replicate n 0 }
     ensures { (FindPlanned n table.now first_block room result) × (work.new ≡ replicate n 0) }
 {
     if !is_file(table, n, first_block) {
-        return FindPlan::Refused {
-            answer: Answer::NotAFile,
-        };
+        return Err(Refusal::NotAFile);
     }
     let count = count_of(table, n, first_block + 1);
     let index = find_lowest(table, n, work, count);
     if index == 0 {
-        return FindPlan::Refused {
-            answer: Answer::NoSpace,
-        };
+        return Err(Refusal::NoSpace);
     }
     if room < 2 * count {
-        return FindPlan::Refused {
-            answer: Answer::ListTooShort,
-        };
+        return Err(Refusal::ListTooShort);
     }
-    FindPlan::Found {
+    Ok(Found {
         count,
         target: index - 1,
-    }
+    })
 }
 
 // Writes the moves of the first k blocks of one list to the blocks from m on, to the front of another.
@@ -68,11 +69,9 @@ fn write_moves(list: &mut [u32], blocks: &[u32], k: usize, m: usize)
     requires k_bound { m + k ≤ 1000000 }
     ensures { list.new ≡ sets list.old 0 (moves (take k blocks.now) m) }
 {
-    let mut i: usize = 0;
-    while i < k {
+    for i in 0..k {
         list[2 * i] = blocks[i];
         list[2 * i + 1] = (m + i) as u32;
-        i += 1;
     }
 }
 
@@ -102,20 +101,12 @@ pub fn find_sound(
     work: &mut [u32],
     first_block: usize,
     list: &mut [u32],
-) -> Listed
+) -> Result<usize, Refusal>
     requires volume { Volume n table.now }
     requires work_value { work.old ≡ replicate n 0 }
-    ensures { (FindSound n table.now first_block list.old (list_gives result.answer result.count list.new)) × (work.new ≡ replicate n 0) }
+    ensures { (FindSound n table.now first_block list.old (list_gives (answer_of result) (result_unwrap_or result 0) list.new)) × (work.new ≡ replicate n 0) }
 {
-    let plan = judge_find(table, n, work, first_block, list.len());
-    match plan {
-        FindPlan::Refused { answer } => Listed { answer, count: 0 },
-        FindPlan::Found { count, target } => {
-            plan_step(table, n, work, first_block, list, target);
-            Listed {
-                answer: Answer::Done,
-                count,
-            }
-        }
-    }
+    let found = judge_find(table, n, work, first_block, list.len())?;
+    plan_step(table, n, work, first_block, list, found.target);
+    Ok(found.count)
 }

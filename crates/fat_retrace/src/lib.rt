@@ -2,38 +2,35 @@
 #![tactic(auto)]
 
 ghost use Rattle.std.specs.Prelude.{◌≡◌, List, [], ◌∷◌, ◌+◌, ◌*◌, ◌≤◌, ◌<◌, length};
+ghost use Rattle.std.specs.Result.{result_unwrap_or};
+ghost use Rattle.std.proofs.lemmas.List.Edits.{sets};
 ghost use Rattle.fat_table.specs.Sound.{IsNode};
 ghost use Rattle.fat_table.specs.Chain.{chain_at};
 ghost use Rattle.fat_table.specs.Counts.{nodes};
 ghost use Rattle.fat_walk.specs.Volume.{Volume};
 ghost use Rattle.fat_walk.specs.Inner.Chains.{ChainFrom, LastIs};
-ghost use Rattle.fat_retrace.specs.History.{create, delete, makes, joins_all, files_in, history};
+ghost use Rattle.fat_retrace.specs.History.{makes, joins_all, files_in, history};
 ghost use Rattle.order.specs.Beside.{beside};
+ghost use Rattle.order.specs.Answer.{answer_of};
 ghost use Rattle.fat_retrace.specs.Promise.{retrace_gives, RetracePromise};
 ghost use Rattle.fat_retrace.specs.Inner.Written.{Written, GivenUp, joins_at};
 
 use fat_walk::{head_of, last_of, size_at};
-use order::Answer;
+use order::Refusal;
 
-// Writes a create of so many blocks as the k-th call of a history.
-fn put_create(list: &mut [u32], k: usize, count: usize) -> usize
-    requires k_in_bounds { 2 * k + 2 ≤ length list.old }
-    requires count_bound { count ≤ 1000000 }
-    ensures { Written (create count ∷ []) k list.old result list.new }
-{
-    list[2 * k] = 0;
-    list[2 * k + 1] = count as u32;
-    k + 1
-}
+// What a call of a history is, as its first number says.
+const CREATE: u32 = 0;
+const DELETE: u32 = 1;
 
-// Writes a delete of the file at a block as the k-th call.
-fn put_delete(list: &mut [u32], k: usize, block: usize) -> usize
+// Writes a create of so many blocks, or a delete of the file at a block, as the k-th call of a history; answers the place of the next.
+fn put(list: &mut [u32], k: usize, call: u32, number: usize) -> usize
     requires k_in_bounds { 2 * k + 2 ≤ length list.old }
-    requires block_bound { block ≤ 1000000 }
-    ensures { Written (delete block ∷ []) k list.old result list.new }
+    requires number_bound { number ≤ 1000000 }
+    ensures next { result ≡ k + 1 }
+    ensures is { list.new ≡ sets list.old (2 * k) (call ∷ number ∷ []) }
 {
-    list[2 * k] = 1;
-    list[2 * k + 1] = block as u32;
+    list[2 * k] = call;
+    list[2 * k + 1] = number as u32;
     k + 1
 }
 
@@ -47,7 +44,7 @@ fn make_nodes(table: &[u8], n: usize, list: &mut [u32]) -> usize
     let mut k: usize = 0;
     while b < n {
         let size = size_at(table, n, b);
-        k = put_create(list, k, size);
+        k = put(list, k, CREATE, size);
         b += size;
     }
     k
@@ -58,14 +55,11 @@ fn last_index(table: &[u8], n: usize, first: usize) -> usize
     requires { ChainFrom n table.now first }
     ensures { LastIs (chain_at table.now n first) result }
 {
-    if first == 0 {
-        return 0;
-    }
-    last_of(table, n, first) + 1
+    if first == 0 { 0 } else { last_of(table, n, first) + 1 }
 }
 
 // What was given up: the next call, and the blocks of the chain.
-#[derive(Drop)]
+#[derive(Clone, Copy)]
 struct Given {
     next: usize,
     blocks: usize,
@@ -82,7 +76,7 @@ fn give_up(table: &[u8], n: usize, first: usize, list: &mut [u32], k: usize) -> 
     let mut blocks: usize = 0;
     while i != 0 {
         let b = i - 1;
-        at = put_delete(list, at, b);
+        at = put(list, at, DELETE, b);
         blocks += size_at(table, n, b);
         i = fat_node::prev_of(table, b);
     }
@@ -96,20 +90,12 @@ fn join_at(table: &[u8], n: usize, b: usize, list: &mut [u32], k: usize) -> usiz
     requires b_in_bounds { 2 * (k + length (joins_at n table.now b)) ≤ length list.old }
     ensures { Written (joins_at n table.now b) k list.old result list.new }
 {
-    let prev = fat_node::prev_of(table, b);
-    if prev != 0 {
-        return k;
-    }
-    let head = head_of(table);
-    if head == b + 1 {
-        return k;
-    }
-    let next = fat_node::next_of(table, b);
-    if next == 0 {
+    let first = fat_node::prev_of(table, b) == 0 && head_of(table) != b + 1;
+    if !first || fat_node::next_of(table, b) == 0 {
         return k;
     }
     let given = give_up(table, n, b + 1, list, k);
-    put_create(list, given.next, given.blocks)
+    put(list, given.next, CREATE, given.blocks)
 }
 
 // The same for all files, by their first blocks.
@@ -140,33 +126,15 @@ pub fn retrace_sound(table: &[u8], n: usize, list: &mut [u32]) -> usize
     given.next
 }
 
-// The answer of retrace: the number of calls of the history.
-#[derive(Drop)]
-pub struct Retraced {
-    pub answer: Answer,
-    pub calls: usize,
-}
-
 // Writes the history of a table into a list: for each call two numbers, 0 and a count of blocks for create, 1 and a first block for delete. Refuses what the
-// test of the table refuses, and with ListTooShort a list of fewer than five places a block.
-pub fn retrace(table: &[u8], work: &mut [u32], list: &mut [u32]) -> Retraced
-    ensures { RetracePromise table.now work.old list.old (beside (retrace_gives result.answer result.calls list.new) work.new) }
+// test of the table refuses, and with ListTooShort a list of fewer than five places a block. Answers the number of the history's calls.
+pub fn retrace(table: &[u8], work: &mut [u32], list: &mut [u32]) -> Result<usize, Refusal>
+    ensures { RetracePromise table.now work.old list.old (beside (retrace_gives (answer_of result) (result_unwrap_or result 0) list.new) work.new) }
 {
-    let tested = fat_test::test(table, work);
-    let answer = tested.answer;
-    if order::number(answer) != 0 {
-        return Retraced { answer, calls: 0 };
-    }
-    let n = table.len() / 8 - 1;
+    fat_test::test(table, work)?;
+    let n = fat_node::blocks(table);
     if list.len() < 5 * n {
-        return Retraced {
-            answer: Answer::ListTooShort,
-            calls: 0,
-        };
+        return Err(Refusal::ListTooShort);
     }
-    let calls = retrace_sound(table, n, list);
-    Retraced {
-        answer: Answer::Done,
-        calls,
-    }
+    Ok(retrace_sound(table, n, list))
 }

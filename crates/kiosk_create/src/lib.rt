@@ -2,6 +2,8 @@
 #![tactic(auto)]
 
 ghost use Rattle.std.specs.Prelude.{◌≡◌, length};
+ghost use Rattle.std.specs.Result.{result_unwrap_or};
+ghost use Rattle.order.specs.Answer.{answer_of};
 ghost use Rattle.fat_table.specs.Chain.{free_at};
 ghost use Rattle.fat_carve.specs.Carve.{fit};
 ghost use Rattle.fat_promises.specs.Promise.{beside};
@@ -10,10 +12,8 @@ ghost use Rattle.fat_walk.specs.Volume.{Volume};
 ghost use Rattle.kiosk_create.specs.Create.{KioskSound, KioskTested, KioskPromise};
 
 use fat_place::place_step;
-use fat_step::Created;
-use fat_test::Gated;
 use fat_walk::{head_of, size_at};
-use order::Answer;
+use order::Refusal;
 
 // The index of the first node along the free chain that has so many blocks, 0 where none has.
 fn find_fit(table: &[u8], n: usize, block_count: usize) -> usize
@@ -32,29 +32,20 @@ fn find_fit(table: &[u8], n: usize, block_count: usize) -> usize
 }
 
 // Creates a file of so many blocks in one node, on a sound table: InvalidValue, NoSpace.
-pub fn create_sound(table: &mut [u8], n: usize, block_count: usize) -> Created
+pub fn create_sound(table: &mut [u8], n: usize, block_count: usize) -> Result<usize, Refusal>
     requires { Volume n table.old }
-    ensures { KioskSound n table.old block_count (create_gives result.answer result.first table.new) }
+    ensures { KioskSound n table.old block_count (create_gives (answer_of result) (result_unwrap_or result 0) table.new) }
 {
     if block_count == 0 {
-        return Created {
-            answer: Answer::InvalidValue,
-            first: 0,
-        };
+        return Err(Refusal::InvalidValue);
     }
     let index = find_fit(table, n, block_count);
     if index == 0 {
-        return Created {
-            answer: Answer::NoSpace,
-            first: 0,
-        };
+        return Err(Refusal::NoSpace);
     }
     let first = index - 1;
     place_step(table, n, first, block_count);
-    Created {
-        answer: Answer::Done,
-        first,
-    }
+    Ok(first)
 }
 
 // Creates a file of so many blocks in one node: the left part of the first node along the free chain that has so many; what is left of that node stands in
@@ -66,29 +57,26 @@ pub fn create(
     block_len: usize,
     work: &mut [u32],
     block_count: usize,
-) -> Created
-    ensures { KioskPromise table.old (length «data».now) block_len work.old block_count (beside (create_gives result.answer result.first table.new) work.new) }
+) -> Result<usize, Refusal>
+    ensures { KioskPromise table.old (length «data».now) block_len work.old block_count (beside (create_gives (answer_of result) (result_unwrap_or result 0) table.new) work.new) }
 {
-    let gated = fat_test::change_gate(table, data.len(), block_len, work);
-    match gated {
-        Gated::Refused { answer } => Created { answer, first: 0 },
-        Gated::Open { free: _, files: _ } => {
-            let n = fat_node::blocks(table);
-            create_sound(table, n, block_count)
-        }
-    }
+    fat_test::change_gate(table, data.len(), block_len, work)?;
+    let n = fat_node::blocks(table);
+    create_sound(table, n, block_count)
 }
 
 // The same for a side that has tested its table once and keeps it sound: ReadOnlyVolume comes before the call's own refusals.
-pub fn tested_create(table: &mut [u8], n: usize, block_len: usize, block_count: usize) -> Created
+pub fn tested_create(
+    table: &mut [u8],
+    n: usize,
+    block_len: usize,
+    block_count: usize,
+) -> Result<usize, Refusal>
     requires { Volume n table.old }
-    ensures { KioskTested n table.old block_len block_count (create_gives result.answer result.first table.new) }
+    ensures { KioskTested n table.old block_len block_count (create_gives (answer_of result) (result_unwrap_or result 0) table.new) }
 {
-    if fat_test::in_use(block_len) {
-        return create_sound(table, n, block_count);
+    if !fat_test::in_use(block_len) {
+        return Err(Refusal::ReadOnlyVolume);
     }
-    Created {
-        answer: Answer::ReadOnlyVolume,
-        first: 0,
-    }
+    create_sound(table, n, block_count)
 }

@@ -1,14 +1,14 @@
 -- What the planner's judge tells its step.
-use Rattle.std.specs.Prelude.{◌≡◌, List, ◌++◌, ℕ, suc, ◌+◌, ◌*◌, ◌≤◌, drop}
+use Rattle.std.specs.Prelude.{◌≡◌, List, ◌++◌, Result, Ok, Err, ℕ, suc, ◌+◌, ◌*◌, ◌≤◌, drop}
 use Rattle.order.specs.Given.{Given}
+use Rattle.order.specs.declared.Refusal.{Refusal}
 use Rattle.fat_node.specs.Entry.{Bytes}
 use Rattle.fat_table.specs.Sound.{File}
 use Rattle.fat_table.specs.Chain.{total, file_at}
 use Rattle.fat_promises.specs.Blocks.{blocks_of}
 use Rattle.fat_plan.specs.Plan.{moves, lowest}
 use Rattle.fat_plan.specs.Promise.{find_tests}
-use Rattle.fat_plan.specs.declared.planner.FindPlan.{FindPlan}
-use Rattle.fat_plan.specs.declared.planner.FindPlan.TheVariants as find-plan
+use Rattle.fat_plan.specs.declared.planner.Found.{Found}
 
 -- a plan for the file at block b that moves it to the blocks from m on fits into room places
 pub record FindAt (n : ℕ) (t : Bytes) (b room m : ℕ) : Type 0 where
@@ -23,9 +23,9 @@ pub record FoundAt (n : ℕ) (t : Bytes) (b room k m : ℕ) : Type 0 where
   pub least : lowest n t (total (file_at n t b)) ≡ suc m
 
 -- what the judge of a find tells
-abbrev pub FindPlanned : (n : ℕ) (t : Bytes) (b room : ℕ) → FindPlan → Type 0
-FindPlanned n t b room (find-plan.Refused a) = Given (find_tests n t b room) a
-FindPlanned n t b room (find-plan.Found k m) = FoundAt n t b room k m
+abbrev pub FindPlanned : (n : ℕ) (t : Bytes) (b room : ℕ) → Result Found Refusal → Type 0
+FindPlanned n t b room (Err why) = Given (find_tests n t b room) (Err why)
+FindPlanned n t b room (Ok found) = FoundAt n t b room found.count found.target
 
 -- the list l' is the list l with the moves of the file at block b to the blocks from m on
 pub record Planned (n : ℕ) (t : Bytes) (b : ℕ) (l : List ℕ) (m : ℕ) (l' : List ℕ) : Type 0 where

@@ -14,11 +14,6 @@ pub record Says (r : Bool) (P : Type 0) : Type 0 where
   pub so : r ≡ true → P
   pub if : P → r ≡ true
 
--- r is the stored number x
-pub record Wide (x r : ℕ) : Type 0 where
-  pub is : r ≡ x
-  pub few : r ≤ 4294967295
-
 -- the k blocks of the file at block b stand at the front of the list w of n places
 pub record BlocksIn (n : ℕ) (t : Bytes) (b k : ℕ) (w : List ℕ) : Type 0 where
   pub count : k ≡ total (file_at n t b)
