@@ -16,14 +16,14 @@ module _ (list : List ℕ) (l pos many : ℕ) (some : 1 ≤ l) where
     around : (pos + many ≤ (pos / l + (many / l + c)) * l) × ((pos / l + (many / l + c)) * l < pos + many + l)
     around =
         let h : (pos % l + many % l ≤ c * l) × (c * l < pos % l + many % l + l) =
-            subst (λ (x : ℕ). (pos % l + many % l ≤ x * l) × (x * l < pos % l + many % l + l)) (sym e) (div_ceil_times (pos % l + many % l) l some) in
+        subst (λ (x : ℕ). (pos % l + many % l ≤ x * l) × (x * l < pos % l + many % l + l)) (sym e) (div_ceil_times (pos % l + many % l) l some) in
         let s : (pos / l + (many / l + c)) * l ≡ pos / l * l + (many / l * l + c * l) =
-            add-mul (pos / l) (many / l + c) l ∙ ap (λ (x : ℕ). pos / l * l + x) (add-mul (many / l) c l) in
+        add-mul (pos / l) (many / l + c) l ∙ ap (λ (x : ℕ). pos / l * l + x) (add-mul (many / l) c l) in
         (omega (arith, div-add-mod' pos l, div-add-mod' many l, h.0, s), omega (arith, div-add-mod' pos l, div-add-mod' many l, h.1, s))
 
     pub touched_in : pos + many ≤ length list * l → pos / l + (many / l + c) ≤ length list
     touched_in room =
-        let q : suc (length list) * l ≡ l + length list * l = suc-mul (length list) l in
+        let q : suc (length list) * l ≡ length list * l + l = suc-mul (length list) l in
         let h : pos / l + (many / l + c) < suc (length list) = lt_of_mul-lt-mul_right l {m = pos / l + (many / l + c)} {n = suc (length list)} (omega (arith, around.1, room, q)) in
         omega (arith, h)
 
@@ -75,4 +75,4 @@ module _ (list : List ℕ) (l pos many : ℕ) (r : List ℕ) (some : 1 ≤ l) (w
   -- whether a block among them is at or over n
   pub told : (n : ℕ) (b : Bool) → (b ≡ true → (i : ℕ) × (i < length r) × (n ≤ get_or r i 0)) → (b ≡ false → (i : ℕ) → i < length r → get_or r i 0 < n)
       → Tells (Foreign n list l pos many) b
-  told n b found none = decide b (λ e. let h = found e in hit n h.0 h.1.0 h.1.1) (λ e. missed n (none e))
+  told n b found none = decide b (λ e. let h = found e in hit n h.0 h.1 h.2) (λ e. missed n (none e))

@@ -67,7 +67,9 @@ fn foreign(list: &[u32], n: usize, block_len: usize, pos: usize, len: usize) -> 
     requires { (1 ≤ block_len) × (block_len ≤ 65536) × (pos + len ≤ length list.now * block_len) }
     ensures { Tells (Foreign n list.now block_len pos len) result }
 {
-    touched(list, block_len, pos, len).iter().any(|&b| n <= b as usize)
+    touched(list, block_len, pos, len)
+        .iter()
+        .any(|&b| n <= b as usize)
 }
 
 // The tests of read_blocks, in order: sizes, the end of the list, the blocks that the bytes lie in.

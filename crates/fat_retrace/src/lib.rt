@@ -20,6 +20,7 @@ use order::Refusal;
 
 // What a call of a history is, as its first number says.
 const CREATE: u32 = 0;
+
 const DELETE: u32 = 1;
 
 // Writes a create of so many blocks, or a delete of the file at a block, as the k-th call of a history; answers the place of the next.
@@ -55,7 +56,11 @@ fn last_index(table: &[u8], n: usize, first: usize) -> usize
     requires { ChainFrom n table.now first }
     ensures { LastIs (chain_at table.now n first) result }
 {
-    if first == 0 { 0 } else { last_of(table, n, first) + 1 }
+    if first == 0 {
+        0
+    } else {
+        last_of(table, n, first) + 1
+    }
 }
 
 // What was given up: the next call, and the blocks of the chain.

@@ -1,9 +1,0 @@
-use Prim.Native.Nat.{◌-◌}
-use Rattle.fat_plan.proofs.Judges.{Matching}
-use Rattle.fat_plan.proofs.judge.same_moves.Given as goal
-
-abbrev pub invariant-loop-i : goal.invariant-loop-i
-invariant-loop-i l = Matching l.plan l.list l.k l.i
-
-abbrev pub decreases-loop-i : goal.decreases-loop-i
-decreases-loop-i l = l.k - l.i
