@@ -7,10 +7,11 @@ use native.Mathlib.Omega.{arith}
 use lib.Dec.{eqb}
 use lib.Bits.{bit_or, or_shifted_r}
 use borrow.Author.Tests.{eqb-true, eq-eqb}
-use Rattle.tree_key.specs.Hash.{rotated}
+use Rattle.std.specs.List.{fold}
+use Rattle.tree_key.specs.Hash.{rotated, mix, mixed, hash_of}
 use Rattle.tree_key.specs.Key.{same_key}
 
--- h >> 1 | h << 31
+-- h rotated right by 1
 pub rotated_is : (h : ℕ) → h < 2 ^ 32 → bit_or (h / 2) (h * 2147483648 % 4294967296) ≡ rotated h
 unfolding rotated
 rotated_is h f =
@@ -18,6 +19,15 @@ rotated_is h f =
     let b : h / 2 < 2 ^ 31 = omega arith in
     let o : bit_or (h / 2) (h % 2 * 2 ^ 31) ≡ h % 2 * 2 ^ 31 + h / 2 = or_shifted_r (h % 2) 31 (h / 2) b in
     ap (bit_or (h / 2)) e ∙ o ∙ omega arith
+
+-- the hash as a fold over the words
+pub folded : (key : List ℕ) → fold mix 0x12345678 key ≡ hash_of key
+unfolding hash_of
+folded key = from 0x12345678 key
+  where
+    from : (h : ℕ) (ws : List ℕ) → fold mix h ws ≡ mixed h ws
+    from h [] = refl
+    from h (w ∷ ws) = from (mix h w) ws
 
 -- keys that are the same are equal
 pub same_equal : (k l : List ℕ) → same_key k l ≡ true → k ≡ l

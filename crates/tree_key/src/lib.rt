@@ -2,11 +2,11 @@
 #![tactic(auto)]
 
 ghost use Rattle.std.specs.Prelude.{◌≡◌, [], ◌∷◌, ◌+◌, ◌%◌, ◌≤◌, ◌<◌, length};
-ghost use Rattle.tree_key.specs.Hash.{rotated, mix, hash_of};
+ghost use Rattle.tree_key.specs.Hash.{mix, hash_of};
 ghost use Rattle.tree_key.specs.Key.{key_of, name_key, key_words, same_key};
 
 // The key of an entry: its parent's inode and its sixteen name bytes, which are kept as four words, so that a key is hashed and compared by five words.
-#[derive(Clone, Copy)]
+#[derive(Clone, Copy, PartialEq, Eq, PartialOrd, Ord)]
 pub struct SaveExtKey {
     pub parent: u32,
     pub name0: u32,
@@ -61,23 +61,14 @@ pub fn has_key(entry: &[u8], key: SaveExtKey) -> bool
     requires { 20 ≤ length entry.now }
     ensures { result ≡ same_key (key_of entry.now) (key_words key) }
 {
-    let k = get_key(entry);
-    (k.parent == key.parent)
-        & ((k.name0 == key.name0)
-            & ((k.name1 == key.name1) & ((k.name2 == key.name2) & ((k.name3 == key.name3) & true))))
-}
-
-fn rotate(h: u32) -> u32
-    ensures { result ≡ rotated h }
-{
-    h >> 1 | h << 31
+    get_key(entry) == key
 }
 
 // One step of the hash.
 fn mix_in(h: u32, w: u32) -> u32
     ensures { result ≡ mix h w }
 {
-    rotate(h) ^ w
+    h.rotate_right(1) ^ w
 }
 
 // The bucket of a key.
@@ -85,16 +76,12 @@ pub fn hash(key: SaveExtKey, buckets: usize) -> usize
     requires { 0 < buckets }
     ensures { result ≡ hash_of (key_words key) % buckets }
 {
-    let h1 = mix_in(0x12345678, key.parent);
-    let h2 = mix_in(h1, key.name0);
-    let h3 = mix_in(h2, key.name1);
-    let h4 = mix_in(h3, key.name2);
-    let h5 = mix_in(h4, key.name3);
-    h5 as usize % buckets
+    let words = [key.parent, key.name0, key.name1, key.name2, key.name3];
+    words.iter().fold(0x12345678, |h, &w| mix_in(h, w)) as usize % buckets
 }
 
 // What a directory's entry holds beside its key: the next directory of the same parent, its own first children, and four bytes carried for the caller.
-#[derive(Drop)]
+#[derive(Clone, Copy)]
 pub struct SaveExtDir {
     pub next: u32,
     pub sub_dir: u32,
@@ -118,17 +105,12 @@ impl SaveExtDir {
     pub fn new_root() -> Self
         ensures { (result.next ≡ 0) × (result.sub_dir ≡ 0) × (result.sub_file ≡ 0) × (result.padding ≡ 0) }
     {
-        Self {
-            next: 0,
-            sub_dir: 0,
-            sub_file: 0,
-            padding: 0,
-        }
+        Self::new(0, 0)
     }
 }
 
 // What a file's entry holds beside its key: the next file of the same parent, and twenty bytes carried for the caller, as five words.
-#[derive(Drop)]
+#[derive(Clone, Copy)]
 pub struct SaveExtFile {
     pub next: u32,
     pub carried: [u32; 5],
@@ -142,15 +124,30 @@ impl SaveExtFile {
     }
 }
 
-// A directory's entry, 40 bytes: key, info, collision. The places are counted in bytes from the entry's start.
-#[derive(Drop)]
-pub struct SaveExtDirEntry {
+// An entry: its key, what its kind holds beside that, and the next entry of its bucket. The places are counted in bytes from the entry's start.
+#[derive(Clone, Copy)]
+pub struct SaveExtEntry<Info> {
     pub key: SaveExtKey,
-    pub info: SaveExtDir,
+    pub info: Info,
     pub collision: u32,
 }
 
-impl SaveExtDirEntry {
+impl<Info> SaveExtEntry<Info> {
+    pub fn new(key: SaveExtKey, info: Info, collision: u32) -> Self
+        ensures { (result.key ≡ key) × (result.info ≡ info) × (result.collision ≡ collision) }
+    {
+        Self {
+            key,
+            info,
+            collision,
+        }
+    }
+}
+
+// A directory's entry, 40 bytes. Its places stand here and not in the generic block, whose constants another constant cannot name yet.
+pub type SaveExtDirEntry = SaveExtEntry<SaveExtDir>;
+
+impl SaveExtEntry<SaveExtDir> {
     pub const WIDTH: usize = 40;
 
     pub const INFO: usize = 20;
@@ -164,27 +161,12 @@ impl SaveExtDirEntry {
     pub const CARRIED: usize = SaveExtDirEntry::INFO + 12;
 
     pub const COLLISION: usize = SaveExtDirEntry::INFO + 16;
-
-    pub fn new(key: SaveExtKey, info: SaveExtDir, collision: u32) -> Self
-        ensures { (result.key ≡ key) × (result.info ≡ info) × (result.collision ≡ collision) }
-    {
-        Self {
-            key,
-            info,
-            collision,
-        }
-    }
 }
 
-// A file's entry, 48 bytes: key, info, collision.
-#[derive(Drop)]
-pub struct SaveExtFileEntry {
-    pub key: SaveExtKey,
-    pub info: SaveExtFile,
-    pub collision: u32,
-}
+// A file's entry, 48 bytes.
+pub type SaveExtFileEntry = SaveExtEntry<SaveExtFile>;
 
-impl SaveExtFileEntry {
+impl SaveExtEntry<SaveExtFile> {
     pub const WIDTH: usize = 48;
 
     pub const INFO: usize = 20;
@@ -194,14 +176,4 @@ impl SaveExtFileEntry {
     pub const CARRIED: usize = SaveExtFileEntry::INFO + 4;
 
     pub const COLLISION: usize = SaveExtFileEntry::INFO + 24;
-
-    pub fn new(key: SaveExtKey, info: SaveExtFile, collision: u32) -> Self
-        ensures { (result.key ≡ key) × (result.info ≡ info) × (result.collision ≡ collision) }
-    {
-        Self {
-            key,
-            info,
-            collision,
-        }
-    }
 }
