@@ -1,18 +1,18 @@
 -- A walk over the nodes in the order of their blocks: whether one starts at a block.
-use mathlib.Core.Path.{◌≡◌, refl, sym, ap, subst, subst⁻¹, ◌∙◌}
+use mathlib.Core.Path.{◌≡◌, refl, ap, subst, subst⁻¹, ◌∙◌}
 use mathlib.Core.List.Memᴰ
 use mathlib.Core.Logic.{⊎_elim}
-use mathlib.Core.Bool.{Bool, true, false, not}
+use mathlib.Core.Bool.{true, false}
 use Prim.Native.Nat.{ℕ, zero, suc, ◌+◌, ◌≤◌, ◌<◌}
 use native.Mathlib.Omega.{arith}
 use lib.Dec.{eqb}
-use borrow.Author.Tests.{eq-eqb, eqb-true, eqb-false}
+use borrow.Author.Tests.{eq-eqb, eqb-true}
 use Rattle.words.proofs.Laws as words
 use Rattle.fat_node.specs.Entry.{Bytes}
 use Rattle.fat_node.specs.Node.{Run, run, NodeAt, prev_at, next_at}
 use Rattle.fat_node.proofs.Nodes.{node_one, le_or_lt}
 use Rattle.fat_table.specs.Sound.{Starts, begin, after, IsNode, File}
-use Rattle.fat_table.specs.Chain.{size_at, head_at, free_at}
+use Rattle.fat_table.specs.Chain.{size_at, free_at}
 use Rattle.fat_table.specs.Layout.{Layout, layout, hits}
 use Rattle.fat_table.proofs.Layouts.{hits_in, hits_most, covers_perm}
 use Rattle.fat_table.proofs.Chains.{pick, mem_perm, mem_hits}
@@ -103,26 +103,7 @@ module _ (n : ℕ) (t : Bytes) (b c : ℕ) (v : Volume n t) (g : words.Bytes t) 
     (λ i. eq-eqb c b (omega (arith, w.before i))),
   )
 
--- whether a block is a file's first, test by test
-abbrev Says : Bool → Bytes → ℕ → ℕ → Type 0
-Says r t n b = (r ≡ true → File t n b) × (File t n b → r ≡ true)
-
-no : (t : Bytes) (n b : ℕ) → (File t n b → ⊥) → Says false t n b
-no t n b h = ((λ e. let z : ◌≡◌ {A = ℕ} 0 1 = cc in let z' : ⊥ = omega (arith, z) in absurd z'), (λ f. absurd (h f)))
-
-pub file_out : (t : Bytes) (n b : ℕ) → n ≤ b → Says false t n b
-file_out t n b h = no t n b (λ f. omega (arith, f.0.1, h))
-
-pub file_inner : (t : Bytes) (n b : ℕ) (r : Bool) → (r ≡ true → IsNode t n b) × (IsNode t n b → r ≡ true) → r ≡ false → Says false t n b
-file_inner t n b r s e = no t n b (λ f. let z : r ≡ true = s.1 f.0 in let z₁ : ◌≡◌ {A = ℕ} 0 1 = cc in omega (arith, z₁))
-
-pub file_later : (t : Bytes) (n b p : ℕ) → p ≡ prev_at t b → (p ≡ 0 → ⊥) → Says false t n b
-file_later t n b p e h = no t n b (λ f. h (e ∙ f.1))
-
-pub file_says : (t : Bytes) (n b p h : ℕ) (r : Bool) → (r ≡ true → IsNode t n b) × (IsNode t n b → r ≡ true) → r ≡ true → p ≡ prev_at t b → p ≡ 0 → h ≡ head_at t
-    → Says (not (eqb h (b + 1))) t n b
-file_says t n b p h r s y e z q = go (eqb h (b + 1)) refl
-  where
-    go : (u : Bool) → eqb h (b + 1) ≡ u → Says (not u) t n b
-    go true v = no t n b (λ f. f.2 (sym q ∙ eqb-true h (b + 1) v))
-    go false v = ((λ _. (s.0 y, sym e ∙ z, λ k. eqb-false h (b + 1) v (q ∙ k))), (λ _. refl))
+-- a block past the last begins no file
+pub file_out : (t : Bytes) (n b : ℕ) → n ≤ b → (false ≡ true → File t n b) × (File t n b → false ≡ true)
+file_out t n b h =
+    ((λ e. let z : ◌≡◌ {A = ℕ} 0 1 = cc in let z' : ⊥ = omega (arith, z) in absurd z'), (λ f. let z : ⊥ = omega (arith, f.0.1, h) in absurd z))

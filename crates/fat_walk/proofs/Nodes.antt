@@ -1,5 +1,5 @@
 -- A node that stands, and a node of a chain that stands: what is read of it.
-use mathlib.Core.Path.{◌≡◌, sym, ◌∙◌}
+use mathlib.Core.Path.{◌≡◌, sym}
 use mathlib.Core.List.{List, ◌∷◌, ◌++◌}
 use Prim.Native.Nat.{ℕ, suc, ◌+◌, ◌-◌, ◌≤◌}
 use native.Mathlib.Omega.{arith}
@@ -16,9 +16,6 @@ use Rattle.fat_table.proofs.Sounds.{holds_node, node_size}
 use Rattle.fat_table.proofs.Resizes.{last_inside}
 use Rattle.fat_table.proofs.Writes.{last_of, laid_suffix}
 use Rattle.fat_walk.specs.Inner.Chains.{Standing, Chain}
-use mathlib.Core.Bool.{true, false}
-use lib.Dec.{eqb}
-use borrow.Author.Tests.{eqb-true}
 
 -- the node x of a chain that stands: what is read of it
 module _ (n : ℕ) (t : Bytes) (P : List Run) (x : Run) (B : List Run) (c : Chain n t (P ++ x ∷ B)) where
@@ -73,10 +70,3 @@ pub standing_size : (n : ℕ) (t : Bytes) (b : ℕ) → Standing n t b → (1 �
 standing_size n t b w =
     let e : size_at t b ≡ w.size = node_size t n b w.size w.node in
     (omega (arith, e, w.node.some), omega (arith, e, w.node.within))
-
--- whether a part of a node is all of it, and it is the last
-pub end_yes : (t : Bytes) (b s q m : ℕ) → s ≡ size_at t b → q ≡ next_at t b → m ≡ s → eqb q 0 ≡ true → (m ≡ size_at t b) × (next_at t b ≡ 0)
-end_yes t b s q m e f h k = (h ∙ e, sym f ∙ eqb-true q 0 k)
-
-pub end_no : (t : Bytes) (b m : ℕ) → false ≡ true → (m ≡ size_at t b) × (next_at t b ≡ 0)
-end_no t b m e = let z : ◌≡◌ {A = ℕ} 0 1 = cc in let z' : ⊥ = omega (arith, z) in absurd z'

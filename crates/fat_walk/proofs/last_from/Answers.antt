@@ -10,8 +10,8 @@ overflow_add-b c = search amid_fits
 pub overflow_add-n : goal.overflow_add-n
 overflow_add-n c = search all_fits
 
-pub seek_on-sought-requires : goal.seek_on-sought-requires
-seek_on-sought-requires c = search amid_way
+pub seek_on-requires : goal.seek_on-requires
+seek_on-requires c = search amid_way
 
 pub overflow_sub-result : goal.overflow_sub-result
 overflow_sub-result c = search last_end_some

@@ -1,6 +1,5 @@
 use Rattle.fat_walk.proofs.Hops.{hop_begin, hop_standing, hop_within, hop_next, hop_says}
 use native.Mathlib.Omega.{arith}
-use Prim.Native.Nat.{◌-◌}
 use Rattle.fat_walk.proofs.starts_at.Goals as goal
 
 pub loop-c-init : goal.loop-c-init
