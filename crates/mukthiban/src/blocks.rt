@@ -1,40 +1,25 @@
 // The calls on the block table.
-ghost use Rattle.std.specs.Prelude.{◌≡◌, length};
-ghost use Rattle.order.specs.Answer.{number_of};
+ghost use Rattle.std.specs.Prelude.{length};
 ghost use Rattle.fat_promises.specs.Promise.{beside};
 ghost use Rattle.fat_node.specs.Format.{FormatPromise};
-ghost use Rattle.fat_node.specs.declared.Formatted.{Formatted};
 ghost use Rattle.fat_test.specs.Promise.{TestPromise, tested};
 ghost use Rattle.fat_promises.specs.Calls.{CreatePromise, create_gives, ResizePromise, DeletePromise, change_gives, ListPromise, list_gives, ReadPromise, WritePromise, carry_gives};
-ghost use Rattle.mukthiban.specs.Export.{Located};
+ghost use Rattle.mukthiban.specs.Export.{Exported, Located};
 
 use crate::{Answered, Created, Opened, Plain, Tested};
 
 #[unsafe(no_mangle)]
 pub extern "C" fn mukthiban_fat_format(table: &mut [u8]) -> Plain
-    ensures { (r : Formatted) × (result.answer ≡ number_of r.answer) × FormatPromise table.old r table.new }
+    ensures { Exported result.answer (λ a. FormatPromise table.old a table.new) }
 {
-    let r = fat_node::format(table);
-    let answer = r.answer;
-    Plain {
-        answer: order::number(answer),
-    }
+    fat_node::format(table).into()
 }
 
 #[unsafe(no_mangle)]
 pub extern "C" fn mukthiban_fat_test(table: &[u8], work: &mut [u32]) -> Tested
     ensures { Located result.answer result.entry result.rule (λ a. TestPromise table.now work.old (tested a result.free result.files, work.new)) }
 {
-    let r = fat_test::test(table, work);
-    let answer = r.answer;
-    let found = order::broken_at(answer);
-    Tested {
-        answer: order::number(answer),
-        free: r.free,
-        files: r.files,
-        entry: found.entry,
-        rule: found.rule,
-    }
+    fat_test::test(table, work).into()
 }
 
 #[unsafe(no_mangle)]
@@ -47,15 +32,7 @@ pub extern "C" fn mukthiban_fat_create(
 ) -> Created
     ensures { Located result.answer result.entry result.rule (λ a. CreatePromise table.old (length «data».now) block_len work.old block_count (beside (create_gives a result.first_block table.new) work.new)) }
 {
-    let r = fat::create(table, data, block_len, work, block_count);
-    let answer = r.answer;
-    let found = order::broken_at(answer);
-    Created {
-        answer: order::number(answer),
-        first_block: r.first,
-        entry: found.entry,
-        rule: found.rule,
-    }
+    fat::create(table, data, block_len, work, block_count).into()
 }
 
 #[unsafe(no_mangle)]
@@ -69,14 +46,7 @@ pub extern "C" fn mukthiban_fat_resize(
 ) -> Answered
     ensures { Located result.answer result.entry result.rule (λ a. ResizePromise table.old (length «data».now) block_len work.old first_block block_count (beside (change_gives a table.new) work.new)) }
 {
-    let r = fat::resize(table, data, block_len, work, first_block, block_count);
-    let answer = r.answer;
-    let found = order::broken_at(answer);
-    Answered {
-        answer: order::number(answer),
-        entry: found.entry,
-        rule: found.rule,
-    }
+    fat::resize(table, data, block_len, work, first_block, block_count).into()
 }
 
 #[unsafe(no_mangle)]
@@ -89,14 +59,7 @@ pub extern "C" fn mukthiban_fat_delete(
 ) -> Answered
     ensures { Located result.answer result.entry result.rule (λ a. DeletePromise table.old (length «data».now) block_len work.old first_block (beside (change_gives a table.new) work.new)) }
 {
-    let r = fat::delete(table, data, block_len, work, first_block);
-    let answer = r.answer;
-    let found = order::broken_at(answer);
-    Answered {
-        answer: order::number(answer),
-        entry: found.entry,
-        rule: found.rule,
-    }
+    fat::delete(table, data, block_len, work, first_block).into()
 }
 
 #[unsafe(no_mangle)]
@@ -110,15 +73,7 @@ pub extern "C" fn mukthiban_fat_open_list(
 ) -> Opened
     ensures { Located result.answer result.entry result.rule (λ a. ListPromise table.now (length «data».now) block_len work.old first_block list.old (beside (list_gives a result.count list.new) work.new)) }
 {
-    let r = fat::open_list(table, data, block_len, work, first_block, list);
-    let answer = r.answer;
-    let found = order::broken_at(answer);
-    Opened {
-        answer: order::number(answer),
-        count: r.count,
-        entry: found.entry,
-        rule: found.rule,
-    }
+    fat::open_list(table, data, block_len, work, first_block, list).into()
 }
 
 #[unsafe(no_mangle)]
@@ -133,14 +88,7 @@ pub extern "C" fn mukthiban_fat_read(
 ) -> Answered
     ensures { Located result.answer result.entry result.rule (λ a. ReadPromise table.now «data».now block_len work.old first_block pos buf.old (beside (carry_gives a buf.new) work.new)) }
 {
-    let r = fat::read(table, data, block_len, work, first_block, pos, buf);
-    let answer = r.answer;
-    let found = order::broken_at(answer);
-    Answered {
-        answer: order::number(answer),
-        entry: found.entry,
-        rule: found.rule,
-    }
+    fat::read(table, data, block_len, work, first_block, pos, buf).into()
 }
 
 #[unsafe(no_mangle)]
@@ -155,12 +103,5 @@ pub extern "C" fn mukthiban_fat_write(
 ) -> Answered
     ensures { Located result.answer result.entry result.rule (λ a. WritePromise table.now «data».old block_len work.old first_block pos buf.now (beside (carry_gives a «data».new) work.new)) }
 {
-    let r = fat::write(table, data, block_len, work, first_block, pos, buf);
-    let answer = r.answer;
-    let found = order::broken_at(answer);
-    Answered {
-        answer: order::number(answer),
-        entry: found.entry,
-        rule: found.rule,
-    }
+    fat::write(table, data, block_len, work, first_block, pos, buf).into()
 }

@@ -15,11 +15,7 @@ pub extern "C" fn mukthiban_fat_read_blocks(
 ) -> Plain
     ensures { Exported result.answer (λ a. ReadBlocksPromise «data».now block_len list.now pos buf.old (carry_gives a buf.new)) }
 {
-    let r = fat_listed::read_blocks(data, block_len, list, pos, buf);
-    let answer = r.answer;
-    Plain {
-        answer: order::number(answer),
-    }
+    fat_listed::read_blocks(data, block_len, list, pos, buf).into()
 }
 
 #[unsafe(no_mangle)]
@@ -32,9 +28,5 @@ pub extern "C" fn mukthiban_fat_write_blocks(
 ) -> Plain
     ensures { Exported result.answer (λ a. WriteBlocksPromise «data».old block_len list.now pos buf.now (carry_gives a «data».new)) }
 {
-    let r = fat_listed::write_blocks(data, block_len, list, pos, buf);
-    let answer = r.answer;
-    Plain {
-        answer: order::number(answer),
-    }
+    fat_listed::write_blocks(data, block_len, list, pos, buf).into()
 }

@@ -23,14 +23,9 @@ pub extern "C" fn mukthiban_tree_make_dir(
 ) -> Made
     ensures { Exported result.answer (λ a. PackedMake Directory (tables dir_hash.old dir_table.old file_hash.now file_table.now) (packed.opens opened.old opens.old) work.old parent name.now carried.now (beside (gives a result.inode (tables dir_hash.new dir_table.new file_hash.now file_table.now) (packed.opens opened.new opens.new)) work.new)) }
 {
-    let r = tree::change::make_dir(
+    tree::change::make_dir(
         dir_hash, dir_table, file_hash, file_table, work, opens, opened, parent, name, carried,
-    );
-    let answer = r.answer;
-    Made {
-        answer: order::number(answer),
-        inode: r.inode,
-    }
+    ).into()
 }
 
 #[unsafe(no_mangle)]
@@ -48,14 +43,9 @@ pub extern "C" fn mukthiban_tree_make_file(
 ) -> Made
     ensures { Exported result.answer (λ a. PackedMake File (tables dir_hash.now dir_table.old file_hash.old file_table.old) (packed.opens opened.old opens.old) work.old parent name.now carried.now (beside (gives a result.inode (tables dir_hash.now dir_table.new file_hash.new file_table.new) (packed.opens opened.new opens.new)) work.new)) }
 {
-    let r = tree::change::make_file(
+    tree::change::make_file(
         dir_hash, dir_table, file_hash, file_table, work, opens, opened, parent, name, carried,
-    );
-    let answer = r.answer;
-    Made {
-        answer: order::number(answer),
-        inode: r.inode,
-    }
+    ).into()
 }
 
 #[unsafe(no_mangle)]
@@ -73,13 +63,9 @@ pub extern "C" fn mukthiban_tree_rename_dir(
 ) -> Plain
     ensures { Exported result.answer (λ a. PackedRename Directory (tables dir_hash.old dir_table.old file_hash.now file_table.now) (packed.opens opened.now opens.now) work.old inode parent name.now (beside (gives a 0 (tables dir_hash.new dir_table.new file_hash.now file_table.now) (packed.opens opened.now opens.now)) work.new)) }
 {
-    let k = *opened;
-    let answer = tree::change::rename_dir(
-        dir_hash, dir_table, file_hash, file_table, work, opens, k, inode, parent, name,
-    );
-    Plain {
-        answer: order::number(answer),
-    }
+    tree::change::rename_dir(
+        dir_hash, dir_table, file_hash, file_table, work, opens, *opened, inode, parent, name,
+    ).into()
 }
 
 #[unsafe(no_mangle)]
@@ -97,13 +83,9 @@ pub extern "C" fn mukthiban_tree_rename_file(
 ) -> Plain
     ensures { Exported result.answer (λ a. PackedRename File (tables dir_hash.now dir_table.old file_hash.old file_table.old) (packed.opens opened.now opens.now) work.old inode parent name.now (beside (gives a 0 (tables dir_hash.now dir_table.new file_hash.new file_table.new) (packed.opens opened.now opens.now)) work.new)) }
 {
-    let k = *opened;
-    let answer = tree::change::rename_file(
-        dir_hash, dir_table, file_hash, file_table, work, opens, k, inode, parent, name,
-    );
-    Plain {
-        answer: order::number(answer),
-    }
+    tree::change::rename_file(
+        dir_hash, dir_table, file_hash, file_table, work, opens, *opened, inode, parent, name,
+    ).into()
 }
 
 #[unsafe(no_mangle)]
@@ -119,12 +101,9 @@ pub extern "C" fn mukthiban_tree_delete_dir(
 ) -> Plain
     ensures { Exported result.answer (λ a. PackedDelete Directory (tables dir_hash.old dir_table.old file_hash.now file_table.now) (packed.opens opened.old opens.old) work.old inode (beside (gives a 0 (tables dir_hash.new dir_table.new file_hash.now file_table.now) (packed.opens opened.new opens.new)) work.new)) }
 {
-    let answer = tree::change::delete_dir(
+    tree::change::delete_dir(
         dir_hash, dir_table, file_hash, file_table, work, opens, opened, inode,
-    );
-    Plain {
-        answer: order::number(answer),
-    }
+    ).into()
 }
 
 #[unsafe(no_mangle)]
@@ -140,10 +119,7 @@ pub extern "C" fn mukthiban_tree_delete_file(
 ) -> Plain
     ensures { Exported result.answer (λ a. PackedDelete File (tables dir_hash.now dir_table.old file_hash.old file_table.old) (packed.opens opened.old opens.old) work.old inode (beside (gives a 0 (tables dir_hash.now dir_table.new file_hash.new file_table.new) (packed.opens opened.new opens.new)) work.new)) }
 {
-    let answer = tree::change::delete_file(
+    tree::change::delete_file(
         dir_hash, dir_table, file_hash, file_table, work, opens, opened, inode,
-    );
-    Plain {
-        answer: order::number(answer),
-    }
+    ).into()
 }

@@ -24,17 +24,9 @@ pub extern "C" fn mukthiban_kiosk_test(
 ) -> Profiled
     ensures { Located result.answer result.entry result.rule (λ a. TestPromise table.now (length «data».now) block_len (tables dir_hash.now dir_table.now file_hash.now file_table.now) work.old (beside (profile_gives a result.broken) work.new)) }
 {
-    let r = kiosk::test(
+    kiosk::test(
         table, data, block_len, dir_hash, dir_table, file_hash, file_table, work,
-    );
-    let answer = r.answer;
-    let found = order::broken_at(answer);
-    Profiled {
-        answer: order::number(answer),
-        broken: r.broken,
-        entry: found.entry,
-        rule: found.rule,
-    }
+    ).into()
 }
 
 #[unsafe(no_mangle)]
@@ -47,15 +39,7 @@ pub extern "C" fn mukthiban_kiosk_create(
 ) -> Created
     ensures { Located result.answer result.entry result.rule (λ a. KioskPromise table.old (length «data».now) block_len work.old block_count (beside (create_gives a result.first_block table.new) work.new)) }
 {
-    let r = kiosk_create::create(table, data, block_len, work, block_count);
-    let answer = r.answer;
-    let found = order::broken_at(answer);
-    Created {
-        answer: order::number(answer),
-        first_block: r.first,
-        entry: found.entry,
-        rule: found.rule,
-    }
+    kiosk_create::create(table, data, block_len, work, block_count).into()
 }
 
 #[unsafe(no_mangle)]
@@ -72,15 +56,7 @@ pub extern "C" fn mukthiban_tested_kiosk_test(
     requires clear { Clear 0 work.old }
     ensures { Located result.answer result.entry result.rule (λ a. TestSays n table.now block_len dir_table.now file_table.now work.old work.new (profile_gives a result.broken)) }
 {
-    let r = kiosk::tested_test(table, n, block_len, dir_table, file_table, work);
-    let answer = r.answer;
-    let found = order::broken_at(answer);
-    Profiled {
-        answer: order::number(answer),
-        broken: r.broken,
-        entry: found.entry,
-        rule: found.rule,
-    }
+    kiosk::tested_test(table, n, block_len, dir_table, file_table, work).into()
 }
 
 #[unsafe(no_mangle)]
@@ -93,13 +69,5 @@ pub extern "C" fn mukthiban_tested_kiosk_create(
     requires { Volume n table.old }
     ensures { Located result.answer result.entry result.rule (λ a. KioskTested n table.old block_len block_count (create_gives a result.first_block table.new)) }
 {
-    let r = kiosk_create::tested_create(table, n, block_len, block_count);
-    let answer = r.answer;
-    let found = order::broken_at(answer);
-    Created {
-        answer: order::number(answer),
-        first_block: r.first,
-        entry: found.entry,
-        rule: found.rule,
-    }
+    kiosk_create::tested_create(table, n, block_len, block_count).into()
 }

@@ -24,11 +24,7 @@ pub extern "C" fn mukthiban_tested_first_build(
     ensures { (result.answer ≡ 0) × (result.entry ≡ 0) × (result.rule ≡ 0) × (firsts.new ≡ firsts_of n table.now) }
 {
     fat_first::build(table, n, firsts);
-    Answered {
-        answer: 0,
-        entry: 0,
-        rule: 0,
-    }
+    Ok(()).into()
 }
 
 #[unsafe(no_mangle)]
@@ -45,15 +41,7 @@ pub extern "C" fn mukthiban_tested_first_create(
     requires firsts_value { firsts.old ≡ firsts_of n table.old }
     ensures { Located result.answer result.entry result.rule (λ a. CreateFirst n table.old block_len block_count (create_gives a result.first_block table.new) map.new firsts.new) }
 {
-    let r = fat_first::create(table, n, block_len, map, firsts, block_count);
-    let answer = r.answer;
-    let found = order::broken_at(answer);
-    Created {
-        answer: order::number(answer),
-        first_block: r.first,
-        entry: found.entry,
-        rule: found.rule,
-    }
+    fat_first::create(table, n, block_len, map, firsts, block_count).into()
 }
 
 #[unsafe(no_mangle)]
@@ -71,14 +59,7 @@ pub extern "C" fn mukthiban_tested_first_resize(
     requires firsts_value { firsts.now ≡ firsts_of n table.old }
     ensures { Located result.answer result.entry result.rule (λ a. ResizeFirst n table.old block_len first_block block_count (change_gives a table.new) map.new firsts.now) }
 {
-    let r = fat_first::resize(table, n, block_len, map, firsts, first_block, block_count);
-    let answer = r.answer;
-    let found = order::broken_at(answer);
-    Answered {
-        answer: order::number(answer),
-        entry: found.entry,
-        rule: found.rule,
-    }
+    fat_first::resize(table, n, block_len, map, firsts, first_block, block_count).into()
 }
 
 #[unsafe(no_mangle)]
@@ -95,14 +76,7 @@ pub extern "C" fn mukthiban_tested_first_delete(
     requires firsts_value { firsts.old ≡ firsts_of n table.old }
     ensures { Located result.answer result.entry result.rule (λ a. DeleteFirst n table.old block_len first_block (change_gives a table.new) map.new firsts.new) }
 {
-    let r = fat_first::delete(table, n, block_len, map, firsts, first_block);
-    let answer = r.answer;
-    let found = order::broken_at(answer);
-    Answered {
-        answer: order::number(answer),
-        entry: found.entry,
-        rule: found.rule,
-    }
+    fat_first::delete(table, n, block_len, map, firsts, first_block).into()
 }
 
 #[unsafe(no_mangle)]
@@ -117,15 +91,7 @@ pub extern "C" fn mukthiban_tested_first_open_list(
     requires firsts_value { firsts.now ≡ firsts_of n table.now }
     ensures { Located result.answer result.entry result.rule (λ a. First (list_rows n table.now first_block list.old) (list_done n table.now first_block list.old) (list_gives a result.count list.new)) }
 {
-    let r = fat_first::open_list(table, n, firsts, first_block, list);
-    let answer = r.answer;
-    let found = order::broken_at(answer);
-    Opened {
-        answer: order::number(answer),
-        count: r.count,
-        entry: found.entry,
-        rule: found.rule,
-    }
+    fat_first::open_list(table, n, firsts, first_block, list).into()
 }
 
 #[unsafe(no_mangle)]
@@ -144,14 +110,7 @@ pub extern "C" fn mukthiban_tested_first_read(
     requires fact { Data n (length «data».now) block_len }
     ensures { Located result.answer result.entry result.rule (λ a. First (carry_rows n table.now block_len first_block pos (length buf.old) buf.old) (read_done n table.now «data».now block_len first_block pos buf.old) (carry_gives a buf.new)) }
 {
-    let r = fat_first::read(table, n, firsts, data, block_len, first_block, pos, buf);
-    let answer = r.answer;
-    let found = order::broken_at(answer);
-    Answered {
-        answer: order::number(answer),
-        entry: found.entry,
-        rule: found.rule,
-    }
+    fat_first::read(table, n, firsts, data, block_len, first_block, pos, buf).into()
 }
 
 #[unsafe(no_mangle)]
@@ -170,12 +129,5 @@ pub extern "C" fn mukthiban_tested_first_write(
     requires fact { Data n (length «data».old) block_len }
     ensures { Located result.answer result.entry result.rule (λ a. First (change_rows (λ a. carry_gives a «data».old) block_len (carry_rows n table.now block_len first_block pos (length buf.now) «data».old)) (write_done n table.now «data».old block_len first_block pos buf.now) (carry_gives a «data».new)) }
 {
-    let r = fat_first::write(table, n, firsts, data, block_len, first_block, pos, buf);
-    let answer = r.answer;
-    let found = order::broken_at(answer);
-    Answered {
-        answer: order::number(answer),
-        entry: found.entry,
-        rule: found.rule,
-    }
+    fat_first::write(table, n, firsts, data, block_len, first_block, pos, buf).into()
 }

@@ -19,15 +19,9 @@ pub extern "C" fn mukthiban_tree_lookup_dir(
 ) -> Found
     ensures { Exported result.answer (λ a. LookupPromise (tables dir_hash.now dir_table.now file_hash.now file_table.now) (dirs (tables dir_hash.now dir_table.now file_hash.now file_table.now)) work.old parent name.now (beside (lookup_gives a result.inode result.compared) work.new)) }
 {
-    let r = tree::look::lookup_dir(
+    tree::look::lookup_dir(
         dir_hash, dir_table, file_hash, file_table, work, parent, name,
-    );
-    let answer = r.answer;
-    Found {
-        answer: order::number(answer),
-        inode: r.inode,
-        compared: r.compared,
-    }
+    ).into()
 }
 
 #[unsafe(no_mangle)]
@@ -42,14 +36,9 @@ pub extern "C" fn mukthiban_tree_list_dirs(
 ) -> Listed
     ensures { Exported result.answer (λ a. ListPromise (tables dir_hash.now dir_table.now file_hash.now file_table.now) (dirs (tables dir_hash.now dir_table.now file_hash.now file_table.now)) work.old inode list.old (beside (list_gives a result.count list.new) work.new)) }
 {
-    let r = tree::look::list_dirs(
+    tree::look::list_dirs(
         dir_hash, dir_table, file_hash, file_table, work, inode, list,
-    );
-    let answer = r.answer;
-    Listed {
-        answer: order::number(answer),
-        count: r.count,
-    }
+    ).into()
 }
 
 #[unsafe(no_mangle)]
@@ -65,12 +54,8 @@ pub extern "C" fn mukthiban_tree_carried_dir(
     ensures { Exported result.answer (λ a. CarriedDirPromise (tables dir_hash.now dir_table.now file_hash.now file_table.now) work.old inode (beside (shown_gives a carried.new) work.new)) }
 {
     let r = tree::carry::carried_dir(dir_hash, dir_table, file_hash, file_table, work, inode);
-    let bytes = r.bytes;
-    *carried = bytes;
-    let answer = r.answer;
-    Plain {
-        answer: order::number(answer),
-    }
+    *carried = r.unwrap_or([0; 4]);
+    r.into()
 }
 
 #[unsafe(no_mangle)]
@@ -85,13 +70,9 @@ pub extern "C" fn mukthiban_tree_set_carried_dir(
 ) -> Plain
     ensures { Exported result.answer (λ a. SetCarriedDirPromise (tables dir_hash.now dir_table.old file_hash.now file_table.now) work.old inode carried.now (beside (carry_gives a (tables dir_hash.now dir_table.new file_hash.now file_table.now)) work.new)) }
 {
-    let bytes = *carried;
-    let answer = tree::carry::set_carried_dir(
-        dir_hash, dir_table, file_hash, file_table, work, inode, bytes,
-    );
-    Plain {
-        answer: order::number(answer),
-    }
+    tree::carry::set_carried_dir(
+        dir_hash, dir_table, file_hash, file_table, work, inode, *carried,
+    ).into()
 }
 
 #[unsafe(no_mangle)]
@@ -106,15 +87,9 @@ pub extern "C" fn mukthiban_tree_lookup_file(
 ) -> Found
     ensures { Exported result.answer (λ a. LookupPromise (tables dir_hash.now dir_table.now file_hash.now file_table.now) (files (tables dir_hash.now dir_table.now file_hash.now file_table.now)) work.old parent name.now (beside (lookup_gives a result.inode result.compared) work.new)) }
 {
-    let r = tree::look::lookup_file(
+    tree::look::lookup_file(
         dir_hash, dir_table, file_hash, file_table, work, parent, name,
-    );
-    let answer = r.answer;
-    Found {
-        answer: order::number(answer),
-        inode: r.inode,
-        compared: r.compared,
-    }
+    ).into()
 }
 
 #[unsafe(no_mangle)]
@@ -129,14 +104,9 @@ pub extern "C" fn mukthiban_tree_list_files(
 ) -> Listed
     ensures { Exported result.answer (λ a. ListPromise (tables dir_hash.now dir_table.now file_hash.now file_table.now) (files (tables dir_hash.now dir_table.now file_hash.now file_table.now)) work.old inode list.old (beside (list_gives a result.count list.new) work.new)) }
 {
-    let r = tree::look::list_files(
+    tree::look::list_files(
         dir_hash, dir_table, file_hash, file_table, work, inode, list,
-    );
-    let answer = r.answer;
-    Listed {
-        answer: order::number(answer),
-        count: r.count,
-    }
+    ).into()
 }
 
 #[unsafe(no_mangle)]
@@ -152,12 +122,8 @@ pub extern "C" fn mukthiban_tree_carried_file(
     ensures { Exported result.answer (λ a. CarriedFilePromise (tables dir_hash.now dir_table.now file_hash.now file_table.now) work.old inode (beside (shown_gives a carried.new) work.new)) }
 {
     let r = tree::carry::carried_file(dir_hash, dir_table, file_hash, file_table, work, inode);
-    let bytes = r.bytes;
-    *carried = bytes;
-    let answer = r.answer;
-    Plain {
-        answer: order::number(answer),
-    }
+    *carried = r.unwrap_or([0; 20]);
+    r.into()
 }
 
 #[unsafe(no_mangle)]
@@ -172,13 +138,9 @@ pub extern "C" fn mukthiban_tree_set_carried_file(
 ) -> Plain
     ensures { Exported result.answer (λ a. SetCarriedFilePromise (tables dir_hash.now dir_table.now file_hash.now file_table.old) work.old inode carried.now (beside (carry_gives a (tables dir_hash.now dir_table.now file_hash.now file_table.new)) work.new)) }
 {
-    let bytes = *carried;
-    let answer = tree::carry::set_carried_file(
-        dir_hash, dir_table, file_hash, file_table, work, inode, bytes,
-    );
-    Plain {
-        answer: order::number(answer),
-    }
+    tree::carry::set_carried_file(
+        dir_hash, dir_table, file_hash, file_table, work, inode, *carried,
+    ).into()
 }
 
 #[unsafe(no_mangle)]
@@ -191,13 +153,5 @@ pub extern "C" fn mukthiban_tree_stat(
 ) -> Stat
     ensures { Exported result.answer (λ a. StatPromise (tables dir_hash.now dir_table.now file_hash.now file_table.now) work.old (beside (stat_gives a result.dir_total result.dir_free result.file_total result.file_free) work.new)) }
 {
-    let r = tree::look::stat(dir_hash, dir_table, file_hash, file_table, work);
-    let answer = r.answer;
-    Stat {
-        answer: order::number(answer),
-        dir_total: r.dir_total,
-        dir_free: r.dir_free,
-        file_total: r.file_total,
-        file_free: r.file_free,
-    }
+    tree::look::stat(dir_hash, dir_table, file_hash, file_table, work).into()
 }

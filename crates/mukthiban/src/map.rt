@@ -10,15 +10,7 @@ ghost use Rattle.fat_map.specs.Count.{count_gives, CountPromise};
 ghost use Rattle.fat_map.specs.Inner.Gated.{TestedCreate, TestedResize, TestedDelete};
 ghost use Rattle.mukthiban.specs.Export.{Exported, Located};
 
-use crate::{Answered, Created};
-
-// The set bits of a stretch of a map.
-#[repr(C)]
-#[derive(Drop)]
-pub struct Counted {
-    pub answer: u32,
-    pub free: usize,
-}
+use crate::{Answered, Counted, Created};
 
 #[unsafe(no_mangle)]
 pub extern "C" fn mukthiban_map_build(
@@ -30,14 +22,7 @@ pub extern "C" fn mukthiban_map_build(
 ) -> Answered
     ensures { Located result.answer result.entry result.rule (λ a. BuildPromise table.now (length «data».now) block_len work.old map.old (beside (mapped a map.new) work.new)) }
 {
-    let r = fat_map::build(table, data, block_len, work, map);
-    let answer = r.answer;
-    let found = order::broken_at(answer);
-    Answered {
-        answer: order::number(answer),
-        entry: found.entry,
-        rule: found.rule,
-    }
+    fat_map::build(table, data, block_len, work, map).into()
 }
 
 #[unsafe(no_mangle)]
@@ -51,15 +36,7 @@ pub extern "C" fn mukthiban_map_create(
 ) -> Created
     ensures { Located result.answer result.entry result.rule (λ a. MapCreatePromise table.old (length «data».now) block_len work.old map.old block_count (beside (mapped (create_gives a result.first_block table.new) map.new) work.new)) }
 {
-    let r = fat_map::create(table, data, block_len, work, map, block_count);
-    let answer = r.answer;
-    let found = order::broken_at(answer);
-    Created {
-        answer: order::number(answer),
-        first_block: r.first,
-        entry: found.entry,
-        rule: found.rule,
-    }
+    fat_map::create(table, data, block_len, work, map, block_count).into()
 }
 
 #[unsafe(no_mangle)]
@@ -74,14 +51,7 @@ pub extern "C" fn mukthiban_map_resize(
 ) -> Answered
     ensures { Located result.answer result.entry result.rule (λ a. MapResizePromise table.old (length «data».now) block_len work.old map.old first_block block_count (beside (mapped (change_gives a table.new) map.new) work.new)) }
 {
-    let r = fat_map::resize(table, data, block_len, work, map, first_block, block_count);
-    let answer = r.answer;
-    let found = order::broken_at(answer);
-    Answered {
-        answer: order::number(answer),
-        entry: found.entry,
-        rule: found.rule,
-    }
+    fat_map::resize(table, data, block_len, work, map, first_block, block_count).into()
 }
 
 #[unsafe(no_mangle)]
@@ -95,26 +65,14 @@ pub extern "C" fn mukthiban_map_delete(
 ) -> Answered
     ensures { Located result.answer result.entry result.rule (λ a. MapDeletePromise table.old (length «data».now) block_len work.old map.old first_block (beside (mapped (change_gives a table.new) map.new) work.new)) }
 {
-    let r = fat_map::delete(table, data, block_len, work, map, first_block);
-    let answer = r.answer;
-    let found = order::broken_at(answer);
-    Answered {
-        answer: order::number(answer),
-        entry: found.entry,
-        rule: found.rule,
-    }
+    fat_map::delete(table, data, block_len, work, map, first_block).into()
 }
 
 #[unsafe(no_mangle)]
 pub extern "C" fn mukthiban_map_count(map: &[u32], n: usize, a: usize, b: usize) -> Counted
     ensures { Exported result.answer (λ x. CountPromise map.now n a b (count_gives x result.free)) }
 {
-    let r = fat_map::count(map, n, a, b);
-    let answer = r.answer;
-    Counted {
-        answer: order::number(answer),
-        free: r.free,
-    }
+    fat_map::count(map, n, a, b).into()
 }
 
 #[unsafe(no_mangle)]
@@ -124,11 +82,7 @@ pub extern "C" fn mukthiban_tested_map_build(table: &[u8], n: usize, map: &mut [
     ensures { (result.answer ≡ 0) × (result.entry ≡ 0) × (result.rule ≡ 0) × (map.new ≡ map_of n table.now) }
 {
     map_inner::build_sound(table, n, map);
-    Answered {
-        answer: 0,
-        entry: 0,
-        rule: 0,
-    }
+    Ok(()).into()
 }
 
 #[unsafe(no_mangle)]
@@ -143,15 +97,7 @@ pub extern "C" fn mukthiban_tested_map_create(
     requires map_value { map.old ≡ map_of n table.old }
     ensures { Located result.answer result.entry result.rule (λ a. TestedCreate n table.old block_len block_count (create_gives a result.first_block table.new) map.new) }
 {
-    let r = fat_map::tested::tested_create(table, n, block_len, map, block_count);
-    let answer = r.answer;
-    let found = order::broken_at(answer);
-    Created {
-        answer: order::number(answer),
-        first_block: r.first,
-        entry: found.entry,
-        rule: found.rule,
-    }
+    fat_map::tested::tested_create(table, n, block_len, map, block_count).into()
 }
 
 #[unsafe(no_mangle)]
@@ -167,14 +113,7 @@ pub extern "C" fn mukthiban_tested_map_resize(
     requires map_value { map.old ≡ map_of n table.old }
     ensures { Located result.answer result.entry result.rule (λ a. TestedResize n table.old block_len first_block block_count (change_gives a table.new) map.new) }
 {
-    let r = fat_map::tested::tested_resize(table, n, block_len, map, first_block, block_count);
-    let answer = r.answer;
-    let found = order::broken_at(answer);
-    Answered {
-        answer: order::number(answer),
-        entry: found.entry,
-        rule: found.rule,
-    }
+    fat_map::tested::tested_resize(table, n, block_len, map, first_block, block_count).into()
 }
 
 #[unsafe(no_mangle)]
@@ -189,12 +128,5 @@ pub extern "C" fn mukthiban_tested_map_delete(
     requires map_value { map.old ≡ map_of n table.old }
     ensures { Located result.answer result.entry result.rule (λ a. TestedDelete n table.old block_len first_block (change_gives a table.new) map.new) }
 {
-    let r = fat_map::tested::tested_delete(table, n, block_len, map, first_block);
-    let answer = r.answer;
-    let found = order::broken_at(answer);
-    Answered {
-        answer: order::number(answer),
-        entry: found.entry,
-        rule: found.rule,
-    }
+    fat_map::tested::tested_delete(table, n, block_len, map, first_block).into()
 }

@@ -16,14 +16,7 @@ pub extern "C" fn mukthiban_fat_merge(
 ) -> Answered
     ensures { Located result.answer result.entry result.rule (λ a. MergePromise table.old block_len work.old (beside (change_gives a table.new) work.new)) }
 {
-    let r = fat_merge::merge(table, block_len, work);
-    let answer = r.answer;
-    let found = order::broken_at(answer);
-    Answered {
-        answer: order::number(answer),
-        entry: found.entry,
-        rule: found.rule,
-    }
+    fat_merge::merge(table, block_len, work).into()
 }
 
 #[unsafe(no_mangle)]
@@ -37,12 +30,5 @@ pub extern "C" fn mukthiban_tested_fat_merge(
     requires work_value { work.old ≡ replicate n 0 }
     ensures { Located result.answer result.entry result.rule (λ a. MergeSound n table.old block_len (change_gives a table.new)) × (work.new ≡ replicate n 0) }
 {
-    let r = fat_merge::tested_merge(table, n, block_len, work);
-    let answer = r.answer;
-    let found = order::broken_at(answer);
-    Answered {
-        answer: order::number(answer),
-        entry: found.entry,
-        rule: found.rule,
-    }
+    fat_merge::tested_merge(table, n, block_len, work).into()
 }

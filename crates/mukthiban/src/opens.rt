@@ -17,9 +17,10 @@ pub fn want_of(kind: u32) -> Want
     ensures { result ≡ want_of kind }
 {
     if kind == 0 {
-        return Want::Reader;
+        Want::Reader
+    } else {
+        Want::Writer
     }
-    Want::Writer
 }
 
 #[unsafe(no_mangle)]
@@ -37,18 +38,13 @@ pub extern "C" fn mukthiban_tree_open_dir(
     ensures { Exported result.answer (λ a. OpenKindPromise Directory (tables dir_hash.now dir_table.now file_hash.now file_table.now) (packed.opens opened.old opens.old) work.old inode kind (beside (gives a 0 (tables dir_hash.now dir_table.now file_hash.now file_table.now) (packed.opens opened.new opens.new)) work.new)) }
 {
     if kind > 1 {
-        let other = other_kind(dir_hash, dir_table, file_hash, file_table);
-        return Plain {
-            answer: order::number(other),
-        };
+        return Plain::from(Err::<(), _>(other_kind(
+            dir_hash, dir_table, file_hash, file_table,
+        )));
     }
-    let want = want_of(kind);
-    let answer = tree::opens::open_dir(
-        dir_hash, dir_table, file_hash, file_table, work, opens, opened, inode, want,
-    );
-    Plain {
-        answer: order::number(answer),
-    }
+    tree::opens::open_dir(
+        dir_hash, dir_table, file_hash, file_table, work, opens, opened, inode, want_of(kind),
+    ).into()
 }
 
 #[unsafe(no_mangle)]
@@ -66,18 +62,13 @@ pub extern "C" fn mukthiban_tree_open_file(
     ensures { Exported result.answer (λ a. OpenKindPromise File (tables dir_hash.now dir_table.now file_hash.now file_table.now) (packed.opens opened.old opens.old) work.old inode kind (beside (gives a 0 (tables dir_hash.now dir_table.now file_hash.now file_table.now) (packed.opens opened.new opens.new)) work.new)) }
 {
     if kind > 1 {
-        let other = other_kind(dir_hash, dir_table, file_hash, file_table);
-        return Plain {
-            answer: order::number(other),
-        };
+        return Plain::from(Err::<(), _>(other_kind(
+            dir_hash, dir_table, file_hash, file_table,
+        )));
     }
-    let want = want_of(kind);
-    let answer = tree::opens::open_file(
-        dir_hash, dir_table, file_hash, file_table, work, opens, opened, inode, want,
-    );
-    Plain {
-        answer: order::number(answer),
-    }
+    tree::opens::open_file(
+        dir_hash, dir_table, file_hash, file_table, work, opens, opened, inode, want_of(kind),
+    ).into()
 }
 
 #[unsafe(no_mangle)]
@@ -95,18 +86,13 @@ pub extern "C" fn mukthiban_tree_close_dir(
     ensures { Exported result.answer (λ a. CloseKindPromise Directory (tables dir_hash.now dir_table.now file_hash.now file_table.now) (packed.opens opened.old opens.old) work.old inode kind (beside (gives a 0 (tables dir_hash.now dir_table.now file_hash.now file_table.now) (packed.opens opened.new opens.new)) work.new)) }
 {
     if kind > 1 {
-        let other = other_kind(dir_hash, dir_table, file_hash, file_table);
-        return Plain {
-            answer: order::number(other),
-        };
+        return Plain::from(Err::<(), _>(other_kind(
+            dir_hash, dir_table, file_hash, file_table,
+        )));
     }
-    let want = want_of(kind);
-    let answer = tree::opens::close_dir(
-        dir_hash, dir_table, file_hash, file_table, work, opens, opened, inode, want,
-    );
-    Plain {
-        answer: order::number(answer),
-    }
+    tree::opens::close_dir(
+        dir_hash, dir_table, file_hash, file_table, work, opens, opened, inode, want_of(kind),
+    ).into()
 }
 
 #[unsafe(no_mangle)]
@@ -124,16 +110,11 @@ pub extern "C" fn mukthiban_tree_close_file(
     ensures { Exported result.answer (λ a. CloseKindPromise File (tables dir_hash.now dir_table.now file_hash.now file_table.now) (packed.opens opened.old opens.old) work.old inode kind (beside (gives a 0 (tables dir_hash.now dir_table.now file_hash.now file_table.now) (packed.opens opened.new opens.new)) work.new)) }
 {
     if kind > 1 {
-        let other = other_kind(dir_hash, dir_table, file_hash, file_table);
-        return Plain {
-            answer: order::number(other),
-        };
+        return Plain::from(Err::<(), _>(other_kind(
+            dir_hash, dir_table, file_hash, file_table,
+        )));
     }
-    let want = want_of(kind);
-    let answer = tree::opens::close_file(
-        dir_hash, dir_table, file_hash, file_table, work, opens, opened, inode, want,
-    );
-    Plain {
-        answer: order::number(answer),
-    }
+    tree::opens::close_file(
+        dir_hash, dir_table, file_hash, file_table, work, opens, opened, inode, want_of(kind),
+    ).into()
 }

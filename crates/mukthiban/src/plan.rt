@@ -20,14 +20,7 @@ pub extern "C" fn mukthiban_plan_check(
 ) -> Answered
     ensures { Located result.answer result.entry result.rule (λ a. CheckPromise table.now (length «data».now) block_len work.old first_block plan.now (beside a work.new)) }
 {
-    let r = fat_plan::check(table, data, block_len, work, first_block, plan);
-    let answer = r.answer;
-    let found = order::broken_at(answer);
-    Answered {
-        answer: order::number(answer),
-        entry: found.entry,
-        rule: found.rule,
-    }
+    fat_plan::check(table, data, block_len, work, first_block, plan).into()
 }
 
 #[unsafe(no_mangle)]
@@ -41,15 +34,7 @@ pub extern "C" fn mukthiban_plan_apply(
 ) -> Created
     ensures { Located result.answer result.entry result.rule (λ a. ApplyPromise table.old «data».old block_len work.old first_block plan.now (beside (apply_gives a result.first_block table.new «data».new) work.new)) }
 {
-    let r = fat_apply::apply(table, data, block_len, work, first_block, plan);
-    let answer = r.answer;
-    let found = order::broken_at(answer);
-    Created {
-        answer: order::number(answer),
-        first_block: r.first,
-        entry: found.entry,
-        rule: found.rule,
-    }
+    fat_apply::apply(table, data, block_len, work, first_block, plan).into()
 }
 
 #[unsafe(no_mangle)]
@@ -63,15 +48,7 @@ pub extern "C" fn mukthiban_plan_find(
 ) -> Planned
     ensures { Located result.answer result.entry result.rule (λ a. FindPromise table.now (length «data».now) block_len work.old first_block list.old (beside (list_gives a result.count list.new) work.new)) }
 {
-    let r = fat_plan::find(table, data, block_len, work, first_block, list);
-    let answer = r.answer;
-    let found = order::broken_at(answer);
-    Planned {
-        answer: order::number(answer),
-        count: r.count,
-        entry: found.entry,
-        rule: found.rule,
-    }
+    fat_plan::find(table, data, block_len, work, first_block, list).into()
 }
 
 #[unsafe(no_mangle)]
@@ -86,14 +63,7 @@ pub extern "C" fn mukthiban_tested_plan_check(
     requires work_value { work.old ≡ replicate n 0 }
     ensures { Located result.answer result.entry result.rule (λ a. CheckSound n table.now first_block plan.now a × (work.new ≡ replicate n 0)) }
 {
-    let r = fat_plan::judge::check_sound(table, n, work, first_block, plan);
-    let answer = r.answer;
-    let found = order::broken_at(answer);
-    Answered {
-        answer: order::number(answer),
-        entry: found.entry,
-        rule: found.rule,
-    }
+    fat_plan::judge::check_sound(table, n, work, first_block, plan).into()
 }
 
 #[unsafe(no_mangle)]
@@ -111,15 +81,7 @@ pub extern "C" fn mukthiban_tested_plan_apply(
     requires work_value { work.old ≡ replicate n 0 }
     ensures { Located result.answer result.entry result.rule (λ a. ApplyTested n table.old «data».old block_len first_block plan.now (apply_gives a result.first_block table.new «data».new) × (work.new ≡ replicate n 0)) }
 {
-    let r = fat_apply::tested::tested_apply(table, n, data, block_len, work, first_block, plan);
-    let answer = r.answer;
-    let found = order::broken_at(answer);
-    Created {
-        answer: order::number(answer),
-        first_block: r.first,
-        entry: found.entry,
-        rule: found.rule,
-    }
+    fat_apply::tested::tested_apply(table, n, data, block_len, work, first_block, plan).into()
 }
 
 #[unsafe(no_mangle)]
@@ -134,13 +96,5 @@ pub extern "C" fn mukthiban_tested_plan_find(
     requires work_value { work.old ≡ replicate n 0 }
     ensures { Located result.answer result.entry result.rule (λ a. FindSound n table.now first_block list.old (list_gives a result.count list.new) × (work.new ≡ replicate n 0)) }
 {
-    let r = fat_plan::planner::find_sound(table, n, work, first_block, list);
-    let answer = r.answer;
-    let found = order::broken_at(answer);
-    Planned {
-        answer: order::number(answer),
-        count: r.count,
-        entry: found.entry,
-        rule: found.rule,
-    }
+    fat_plan::planner::find_sound(table, n, work, first_block, list).into()
 }

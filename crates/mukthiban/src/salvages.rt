@@ -19,15 +19,7 @@ pub extern "C" fn mukthiban_salvage_chain(
 ) -> Salvaged
     ensures { Exported result.answer (λ a. ChainPromise table.now work.old first_block list.old (beside (chain_gives a result.count (fault result.entry result.rule) list.new) work.new)) }
 {
-    let r = salvage::chain(table, work, first_block, list);
-    let answer = r.answer;
-    let why = r.why;
-    Salvaged {
-        answer: order::number(answer),
-        count: r.count,
-        entry: why.entry,
-        rule: why.rule,
-    }
+    salvage::chain(table, work, first_block, list).into()
 }
 
 #[unsafe(no_mangle)]
@@ -39,11 +31,7 @@ pub extern "C" fn mukthiban_salvage_shared(
 ) -> Plain
     ensures { Exported result.answer (λ a. SharedPromise table.now work.old firsts.now list.old (beside (shared_gives a list.new) work.new)) }
 {
-    let r = salvage_shared::shared(table, work, firsts, list);
-    let answer = r.answer;
-    Plain {
-        answer: order::number(answer),
-    }
+    salvage_shared::shared(table, work, firsts, list).into()
 }
 
 #[unsafe(no_mangle)]
@@ -56,24 +44,14 @@ pub extern "C" fn mukthiban_salvage_chains(
 ) -> Listed
     ensures { Exported result.answer (λ a. ChainsPromise table.now work.old firsts.now ends.old list.old (beside (chained_gives a result.count ends.new list.new) work.new)) }
 {
-    let r = salvage_chains::chains(table, work, firsts, ends, list);
-    let answer = r.answer;
-    Listed {
-        answer: order::number(answer),
-        count: r.count,
-    }
+    salvage_chains::chains(table, work, firsts, ends, list).into()
 }
 
 #[unsafe(no_mangle)]
 pub extern "C" fn mukthiban_salvage_dirs(table: &[u8], work: &mut [u32], list: &mut [u32]) -> Listed
     ensures { Exported result.answer (λ a. EnteredPromise 40 table.now work.old list.old (beside (entered_gives a result.count list.new) work.new)) }
 {
-    let r = salvage_tree::dirs(table, work, list);
-    let answer = r.answer;
-    Listed {
-        answer: order::number(answer),
-        count: r.count,
-    }
+    salvage_tree::dirs(table, work, list).into()
 }
 
 #[unsafe(no_mangle)]
@@ -84,12 +62,7 @@ pub extern "C" fn mukthiban_salvage_files(
 ) -> Listed
     ensures { Exported result.answer (λ a. EnteredPromise 48 table.now work.old list.old (beside (entered_gives a result.count list.new) work.new)) }
 {
-    let r = salvage_tree::files(table, work, list);
-    let answer = r.answer;
-    Listed {
-        answer: order::number(answer),
-        count: r.count,
-    }
+    salvage_tree::files(table, work, list).into()
 }
 
 #[unsafe(no_mangle)]
@@ -101,10 +74,5 @@ pub extern "C" fn mukthiban_salvage_way(
 ) -> Listed
     ensures { Exported result.answer (λ a. WayPromise table.now work.old inode list.old (beside (entered_gives a result.count list.new) work.new)) }
 {
-    let r = salvage_way::way(table, work, inode, list);
-    let answer = r.answer;
-    Listed {
-        answer: order::number(answer),
-        count: r.count,
-    }
+    salvage_way::way(table, work, inode, list).into()
 }

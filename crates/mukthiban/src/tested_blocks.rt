@@ -19,15 +19,7 @@ pub extern "C" fn mukthiban_tested_fat_create(
     requires { Volume n table.old }
     ensures { Located result.answer result.entry result.rule (λ a. First (change_rows (λ a. create_gives a 0 table.old) block_len (create_rows n table.old block_count)) (create_done n table.old block_count) (create_gives a result.first_block table.new)) }
 {
-    let r = fat::tested::tested_create(table, n, block_len, block_count);
-    let answer = r.answer;
-    let found = order::broken_at(answer);
-    Created {
-        answer: order::number(answer),
-        first_block: r.first,
-        entry: found.entry,
-        rule: found.rule,
-    }
+    fat::tested::tested_create(table, n, block_len, block_count).into()
 }
 
 #[unsafe(no_mangle)]
@@ -41,14 +33,7 @@ pub extern "C" fn mukthiban_tested_fat_resize(
     requires { Volume n table.old }
     ensures { Located result.answer result.entry result.rule (λ a. First (change_rows (λ a. change_gives a table.old) block_len (resize_rows n table.old first_block block_count)) (resize_done n table.old first_block block_count) (change_gives a table.new)) }
 {
-    let r = fat::tested::tested_resize(table, n, block_len, first_block, block_count);
-    let answer = r.answer;
-    let found = order::broken_at(answer);
-    Answered {
-        answer: order::number(answer),
-        entry: found.entry,
-        rule: found.rule,
-    }
+    fat::tested::tested_resize(table, n, block_len, first_block, block_count).into()
 }
 
 #[unsafe(no_mangle)]
@@ -61,14 +46,7 @@ pub extern "C" fn mukthiban_tested_fat_delete(
     requires { Volume n table.old }
     ensures { Located result.answer result.entry result.rule (λ a. First (change_rows (λ a. change_gives a table.old) block_len (delete_rows n table.old first_block)) (delete_done n table.old first_block) (change_gives a table.new)) }
 {
-    let r = fat::tested::tested_delete(table, n, block_len, first_block);
-    let answer = r.answer;
-    let found = order::broken_at(answer);
-    Answered {
-        answer: order::number(answer),
-        entry: found.entry,
-        rule: found.rule,
-    }
+    fat::tested::tested_delete(table, n, block_len, first_block).into()
 }
 
 #[unsafe(no_mangle)]
@@ -81,15 +59,7 @@ pub extern "C" fn mukthiban_tested_fat_open_list(
     requires { Volume n table.now }
     ensures { Located result.answer result.entry result.rule (λ a. First (list_rows n table.now first_block list.old) (list_done n table.now first_block list.old) (list_gives a result.count list.new)) }
 {
-    let r = fat_list::open_list_sound(table, n, first_block, list);
-    let answer = r.answer;
-    let found = order::broken_at(answer);
-    Opened {
-        answer: order::number(answer),
-        count: r.count,
-        entry: found.entry,
-        rule: found.rule,
-    }
+    fat_list::open_list_sound(table, n, first_block, list).into()
 }
 
 #[unsafe(no_mangle)]
@@ -106,14 +76,7 @@ pub extern "C" fn mukthiban_tested_fat_read(
     requires fact { Data n (length «data».now) block_len }
     ensures { Located result.answer result.entry result.rule (λ a. First (carry_rows n table.now block_len first_block pos (length buf.old) buf.old) (read_done n table.now «data».now block_len first_block pos buf.old) (carry_gives a buf.new)) }
 {
-    let r = fat_copy::read_sound(table, data, block_len, n, first_block, pos, buf);
-    let answer = r.answer;
-    let found = order::broken_at(answer);
-    Answered {
-        answer: order::number(answer),
-        entry: found.entry,
-        rule: found.rule,
-    }
+    fat_copy::read_sound(table, data, block_len, n, first_block, pos, buf).into()
 }
 
 #[unsafe(no_mangle)]
@@ -130,12 +93,5 @@ pub extern "C" fn mukthiban_tested_fat_write(
     requires fact { Data n (length «data».old) block_len }
     ensures { Located result.answer result.entry result.rule (λ a. First (change_rows (λ a. carry_gives a «data».old) block_len (carry_rows n table.now block_len first_block pos (length buf.now) «data».old)) (write_done n table.now «data».old block_len first_block pos buf.now) (carry_gives a «data».new)) }
 {
-    let r = fat::tested::tested_write(table, n, data, block_len, first_block, pos, buf);
-    let answer = r.answer;
-    let found = order::broken_at(answer);
-    Answered {
-        answer: order::number(answer),
-        entry: found.entry,
-        rule: found.rule,
-    }
+    fat::tested::tested_write(table, n, data, block_len, first_block, pos, buf).into()
 }

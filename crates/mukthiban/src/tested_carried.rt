@@ -22,12 +22,8 @@ pub extern "C" fn mukthiban_tested_tree_carried_dir(
     ensures { Exported result.answer (λ a. First (shown_rows (dirs (tables dir_hash.now dir_table.now file_hash.now file_table.now)) inode (replicate 4 0)) (carried_done Directory (tables dir_hash.now dir_table.now file_hash.now file_table.now) inode) (shown_gives a carried.new)) }
 {
     let r = tree_carry::carried_dir(dir_hash, dir_table, inode);
-    let bytes = r.bytes;
-    *carried = bytes;
-    let answer = r.answer;
-    Plain {
-        answer: order::number(answer),
-    }
+    *carried = r.unwrap_or([0; 4]);
+    r.into()
 }
 
 #[unsafe(no_mangle)]
@@ -43,12 +39,8 @@ pub extern "C" fn mukthiban_tested_tree_carried_file(
     ensures { Exported result.answer (λ a. First (shown_rows (files (tables dir_hash.now dir_table.now file_hash.now file_table.now)) inode (replicate 20 0)) (carried_done File (tables dir_hash.now dir_table.now file_hash.now file_table.now) inode) (shown_gives a carried.new)) }
 {
     let r = tree_carry::carried_file(file_hash, file_table, inode);
-    let bytes = r.bytes;
-    *carried = bytes;
-    let answer = r.answer;
-    Plain {
-        answer: order::number(answer),
-    }
+    *carried = r.unwrap_or([0; 20]);
+    r.into()
 }
 
 #[unsafe(no_mangle)]
@@ -63,11 +55,7 @@ pub extern "C" fn mukthiban_tested_tree_set_carried_dir(
     requires { Ready (tables dir_hash.now dir_table.old file_hash.now file_table.now) }
     ensures { Exported result.answer (λ a. First (carry_rows (tables dir_hash.now dir_table.old file_hash.now file_table.now) (dirs (tables dir_hash.now dir_table.old file_hash.now file_table.now)) inode) (carry_done Directory (tables dir_hash.now dir_table.old file_hash.now file_table.now) inode carried.now) (carry_gives a (tables dir_hash.now dir_table.new file_hash.now file_table.now))) }
 {
-    let bytes = *carried;
-    let answer = tree_carry::set_carried_dir(dir_hash, dir_table, inode, bytes);
-    Plain {
-        answer: order::number(answer),
-    }
+    tree_carry::set_carried_dir(dir_hash, dir_table, inode, *carried).into()
 }
 
 #[unsafe(no_mangle)]
@@ -82,9 +70,5 @@ pub extern "C" fn mukthiban_tested_tree_set_carried_file(
     requires { Ready (tables dir_hash.now dir_table.now file_hash.now file_table.old) }
     ensures { Exported result.answer (λ a. First (carry_rows (tables dir_hash.now dir_table.now file_hash.now file_table.old) (files (tables dir_hash.now dir_table.now file_hash.now file_table.old)) inode) (carry_done File (tables dir_hash.now dir_table.now file_hash.now file_table.old) inode carried.now) (carry_gives a (tables dir_hash.now dir_table.now file_hash.now file_table.new))) }
 {
-    let bytes = *carried;
-    let answer = tree_carry::set_carried_file(file_hash, file_table, inode, bytes);
-    Plain {
-        answer: order::number(answer),
-    }
+    tree_carry::set_carried_file(file_hash, file_table, inode, *carried).into()
 }

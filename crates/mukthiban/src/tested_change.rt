@@ -24,14 +24,9 @@ pub extern "C" fn mukthiban_tested_tree_make_dir(
     requires { ReadyOpens (tables dir_hash.old dir_table.old file_hash.now file_table.now) (packed.opens opened.old opens.old) }
     ensures { Exported result.answer (λ a. Inside (tables dir_hash.old dir_table.old file_hash.now file_table.now) (packed.opens opened.old opens.old) (make_tests Directory (tables dir_hash.old dir_table.old file_hash.now file_table.now) (packed.opens opened.old opens.old) parent name.now) (make_done Directory (tables dir_hash.old dir_table.old file_hash.now file_table.now) (packed.opens opened.old opens.old) parent name.now carried.now) (gives a result.inode (tables dir_hash.new dir_table.new file_hash.now file_table.now) (packed.opens opened.new opens.new))) }
 {
-    let r = tree_make::make_dir(
+    tree_make::make_dir(
         dir_hash, dir_table, file_hash, file_table, opens, opened, parent, name, carried,
-    );
-    let answer = r.answer;
-    Made {
-        answer: order::number(answer),
-        inode: r.inode,
-    }
+    ).into()
 }
 
 #[unsafe(no_mangle)]
@@ -49,14 +44,9 @@ pub extern "C" fn mukthiban_tested_tree_make_file(
     requires { ReadyOpens (tables dir_hash.now dir_table.old file_hash.old file_table.old) (packed.opens opened.old opens.old) }
     ensures { Exported result.answer (λ a. Inside (tables dir_hash.now dir_table.old file_hash.old file_table.old) (packed.opens opened.old opens.old) (make_tests File (tables dir_hash.now dir_table.old file_hash.old file_table.old) (packed.opens opened.old opens.old) parent name.now) (make_done File (tables dir_hash.now dir_table.old file_hash.old file_table.old) (packed.opens opened.old opens.old) parent name.now carried.now) (gives a result.inode (tables dir_hash.now dir_table.new file_hash.new file_table.new) (packed.opens opened.new opens.new))) }
 {
-    let r = tree_make::make_file(
+    tree_make::make_file(
         dir_hash, dir_table, file_hash, file_table, opens, opened, parent, name, carried,
-    );
-    let answer = r.answer;
-    Made {
-        answer: order::number(answer),
-        inode: r.inode,
-    }
+    ).into()
 }
 
 #[unsafe(no_mangle)]
@@ -74,13 +64,9 @@ pub extern "C" fn mukthiban_tested_tree_rename_dir(
     requires { ReadyOpens (tables dir_hash.old dir_table.old file_hash.now file_table.now) (packed.opens opened.now opens.now) }
     ensures { Exported result.answer (λ a. Inside (tables dir_hash.old dir_table.old file_hash.now file_table.now) (packed.opens opened.now opens.now) (rename_tests Directory (tables dir_hash.old dir_table.old file_hash.now file_table.now) (packed.opens opened.now opens.now) inode parent name.now) (rename_done Directory (tables dir_hash.old dir_table.old file_hash.now file_table.now) (packed.opens opened.now opens.now) inode parent name.now) (gives a 0 (tables dir_hash.new dir_table.new file_hash.now file_table.now) (packed.opens opened.now opens.now))) }
 {
-    let k = *opened;
-    let answer = tree_change::rename_dir(
-        dir_hash, dir_table, file_hash, file_table, opens, k, inode, parent, name,
-    );
-    Plain {
-        answer: order::number(answer),
-    }
+    tree_change::rename_dir(
+        dir_hash, dir_table, file_hash, file_table, opens, *opened, inode, parent, name,
+    ).into()
 }
 
 #[unsafe(no_mangle)]
@@ -98,13 +84,9 @@ pub extern "C" fn mukthiban_tested_tree_rename_file(
     requires { ReadyOpens (tables dir_hash.now dir_table.old file_hash.old file_table.old) (packed.opens opened.now opens.now) }
     ensures { Exported result.answer (λ a. Inside (tables dir_hash.now dir_table.old file_hash.old file_table.old) (packed.opens opened.now opens.now) (rename_tests File (tables dir_hash.now dir_table.old file_hash.old file_table.old) (packed.opens opened.now opens.now) inode parent name.now) (rename_done File (tables dir_hash.now dir_table.old file_hash.old file_table.old) (packed.opens opened.now opens.now) inode parent name.now) (gives a 0 (tables dir_hash.now dir_table.new file_hash.new file_table.new) (packed.opens opened.now opens.now))) }
 {
-    let k = *opened;
-    let answer = tree_change::rename_file(
-        dir_hash, dir_table, file_hash, file_table, opens, k, inode, parent, name,
-    );
-    Plain {
-        answer: order::number(answer),
-    }
+    tree_change::rename_file(
+        dir_hash, dir_table, file_hash, file_table, opens, *opened, inode, parent, name,
+    ).into()
 }
 
 #[unsafe(no_mangle)]
@@ -120,12 +102,9 @@ pub extern "C" fn mukthiban_tested_tree_delete_dir(
     requires { ReadyOpens (tables dir_hash.old dir_table.old file_hash.now file_table.now) (packed.opens opened.old opens.old) }
     ensures { Exported result.answer (λ a. Inside (tables dir_hash.old dir_table.old file_hash.now file_table.now) (packed.opens opened.old opens.old) (delete_tests Directory (tables dir_hash.old dir_table.old file_hash.now file_table.now) (packed.opens opened.old opens.old) inode) (delete_done Directory (tables dir_hash.old dir_table.old file_hash.now file_table.now) (packed.opens opened.old opens.old) inode) (gives a 0 (tables dir_hash.new dir_table.new file_hash.now file_table.now) (packed.opens opened.new opens.new))) }
 {
-    let answer = tree_change::delete_dir(
+    tree_change::delete_dir(
         dir_hash, dir_table, file_hash, file_table, opens, opened, inode,
-    );
-    Plain {
-        answer: order::number(answer),
-    }
+    ).into()
 }
 
 #[unsafe(no_mangle)]
@@ -141,10 +120,7 @@ pub extern "C" fn mukthiban_tested_tree_delete_file(
     requires { ReadyOpens (tables dir_hash.now dir_table.old file_hash.old file_table.old) (packed.opens opened.old opens.old) }
     ensures { Exported result.answer (λ a. Inside (tables dir_hash.now dir_table.old file_hash.old file_table.old) (packed.opens opened.old opens.old) (delete_tests File (tables dir_hash.now dir_table.old file_hash.old file_table.old) (packed.opens opened.old opens.old) inode) (delete_done File (tables dir_hash.now dir_table.old file_hash.old file_table.old) (packed.opens opened.old opens.old) inode) (gives a 0 (tables dir_hash.now dir_table.new file_hash.new file_table.new) (packed.opens opened.new opens.new))) }
 {
-    let answer = tree_change::delete_file(
+    tree_change::delete_file(
         dir_hash, dir_table, file_hash, file_table, opens, opened, inode,
-    );
-    Plain {
-        answer: order::number(answer),
-    }
+    ).into()
 }

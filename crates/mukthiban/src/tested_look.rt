@@ -24,13 +24,7 @@ pub extern "C" fn mukthiban_tested_tree_lookup_dir(
     ensures { Exported result.answer (λ a. First (lookup_rows (dirs (tables dir_hash.now dir_table.now file_hash.now file_table.now)) (name_key parent name.now)) (lookup_done (dirs (tables dir_hash.now dir_table.now file_hash.now file_table.now)) (name_key parent name.now)) (lookup_gives a result.inode result.compared)) }
 {
     let key = SaveExtKey::new(parent, name);
-    let r = tree_look::lookup(dir_hash, dir_table, SaveExtDirEntry::WIDTH, key);
-    let answer = r.answer;
-    Found {
-        answer: order::number(answer),
-        inode: r.inode,
-        compared: r.compared,
-    }
+    tree_look::lookup(dir_hash, dir_table, SaveExtDirEntry::WIDTH, key).into()
 }
 
 #[unsafe(no_mangle)]
@@ -46,13 +40,7 @@ pub extern "C" fn mukthiban_tested_tree_lookup_file(
     ensures { Exported result.answer (λ a. First (lookup_rows (files (tables dir_hash.now dir_table.now file_hash.now file_table.now)) (name_key parent name.now)) (lookup_done (files (tables dir_hash.now dir_table.now file_hash.now file_table.now)) (name_key parent name.now)) (lookup_gives a result.inode result.compared)) }
 {
     let key = SaveExtKey::new(parent, name);
-    let r = tree_look::lookup(file_hash, file_table, SaveExtFileEntry::WIDTH, key);
-    let answer = r.answer;
-    Found {
-        answer: order::number(answer),
-        inode: r.inode,
-        compared: r.compared,
-    }
+    tree_look::lookup(file_hash, file_table, SaveExtFileEntry::WIDTH, key).into()
 }
 
 #[unsafe(no_mangle)]
@@ -67,12 +55,7 @@ pub extern "C" fn mukthiban_tested_tree_list_dirs(
     requires { Ready (tables dir_hash.now dir_table.now file_hash.now file_table.now) }
     ensures { Exported result.answer (λ a. ListDirs (tables dir_hash.now dir_table.now file_hash.now file_table.now) inode list.old (list_gives a result.count list.new)) }
 {
-    let r = tree_look::list_dirs(dir_hash, dir_table, file_hash, file_table, inode, list);
-    let answer = r.answer;
-    Listed {
-        answer: order::number(answer),
-        count: r.count,
-    }
+    tree_look::list_dirs(dir_hash, dir_table, file_hash, file_table, inode, list).into()
 }
 
 #[unsafe(no_mangle)]
@@ -87,12 +70,7 @@ pub extern "C" fn mukthiban_tested_tree_list_files(
     requires { Ready (tables dir_hash.now dir_table.now file_hash.now file_table.now) }
     ensures { Exported result.answer (λ a. ListFiles (tables dir_hash.now dir_table.now file_hash.now file_table.now) inode list.old (list_gives a result.count list.new)) }
 {
-    let r = tree_look::list_files(dir_hash, dir_table, file_hash, file_table, inode, list);
-    let answer = r.answer;
-    Listed {
-        answer: order::number(answer),
-        count: r.count,
-    }
+    tree_look::list_files(dir_hash, dir_table, file_hash, file_table, inode, list).into()
 }
 
 #[unsafe(no_mangle)]
@@ -105,13 +83,5 @@ pub extern "C" fn mukthiban_tested_tree_stat(
     requires { Ready (tables dir_hash.now dir_table.now file_hash.now file_table.now) }
     ensures { Exported result.answer (λ a. (stat_gives a result.dir_total result.dir_free result.file_total result.file_free ≡ stat_done (tables dir_hash.now dir_table.now file_hash.now file_table.now))) }
 {
-    let r = tree_look::stat(dir_hash, dir_table, file_hash, file_table);
-    let answer = r.answer;
-    Stat {
-        answer: order::number(answer),
-        dir_total: r.dir_total,
-        dir_free: r.dir_free,
-        file_total: r.file_total,
-        file_free: r.file_free,
-    }
+    Ok(tree_look::stat(dir_hash, dir_table, file_hash, file_table)).into()
 }

@@ -25,19 +25,15 @@ pub extern "C" fn mukthiban_tested_tree_open_dir(
     requires { ReadyOpens (tables dir_hash.now dir_table.now file_hash.now file_table.now) (packed.opens opened.old opens.old) × (kind ≤ 1) }
     ensures { Exported result.answer (λ a. OpenIn (dirs (tables dir_hash.now dir_table.now file_hash.now file_table.now)) (packed.opens opened.old opens.old) inode (want_of kind) (opening_in a (packed.opens opened.new opens.new))) }
 {
-    let want = want_of(kind);
-    let answer = tree_look::open(
+    tree_look::open(
         dir_hash,
         dir_table,
         SaveExtDirEntry::WIDTH,
         opens,
         opened,
         inode,
-        want,
-    );
-    Plain {
-        answer: order::number(answer),
-    }
+        want_of(kind),
+    ).into()
 }
 
 #[unsafe(no_mangle)]
@@ -54,19 +50,15 @@ pub extern "C" fn mukthiban_tested_tree_open_file(
     requires { ReadyOpens (tables dir_hash.now dir_table.now file_hash.now file_table.now) (packed.opens opened.old opens.old) × (kind ≤ 1) }
     ensures { Exported result.answer (λ a. OpenIn (files (tables dir_hash.now dir_table.now file_hash.now file_table.now)) (packed.opens opened.old opens.old) inode (want_of kind) (opening_in a (packed.opens opened.new opens.new))) }
 {
-    let want = want_of(kind);
-    let answer = tree_look::open(
+    tree_look::open(
         file_hash,
         file_table,
         SaveExtFileEntry::WIDTH,
         opens,
         opened,
         inode,
-        want,
-    );
-    Plain {
-        answer: order::number(answer),
-    }
+        want_of(kind),
+    ).into()
 }
 
 #[unsafe(no_mangle)]
@@ -83,19 +75,15 @@ pub extern "C" fn mukthiban_tested_tree_close_dir(
     requires { ReadyOpens (tables dir_hash.now dir_table.now file_hash.now file_table.now) (packed.opens opened.old opens.old) × (kind ≤ 1) }
     ensures { Exported result.answer (λ a. CloseIn (dirs (tables dir_hash.now dir_table.now file_hash.now file_table.now)) (packed.opens opened.old opens.old) inode (want_of kind) (opening_in a (packed.opens opened.new opens.new))) }
 {
-    let want = want_of(kind);
-    let answer = tree_look::close(
+    tree_look::close(
         dir_hash,
         dir_table,
         SaveExtDirEntry::WIDTH,
         opens,
         opened,
         inode,
-        want,
-    );
-    Plain {
-        answer: order::number(answer),
-    }
+        want_of(kind),
+    ).into()
 }
 
 #[unsafe(no_mangle)]
@@ -112,17 +100,13 @@ pub extern "C" fn mukthiban_tested_tree_close_file(
     requires { ReadyOpens (tables dir_hash.now dir_table.now file_hash.now file_table.now) (packed.opens opened.old opens.old) × (kind ≤ 1) }
     ensures { Exported result.answer (λ a. CloseIn (files (tables dir_hash.now dir_table.now file_hash.now file_table.now)) (packed.opens opened.old opens.old) inode (want_of kind) (opening_in a (packed.opens opened.new opens.new))) }
 {
-    let want = want_of(kind);
-    let answer = tree_look::close(
+    tree_look::close(
         file_hash,
         file_table,
         SaveExtFileEntry::WIDTH,
         opens,
         opened,
         inode,
-        want,
-    );
-    Plain {
-        answer: order::number(answer),
-    }
+        want_of(kind),
+    ).into()
 }

@@ -20,13 +20,5 @@ pub extern "C" fn mukthiban_tested_volume_audit(
     requires clear { Clear 0 work.old }
     ensures { Located result.answer result.entry result.rule (λ a. AuditSays n table.now block_len file_table.now work.old list.old work.new (audit_gives a result.count list.new)) }
 {
-    let r = audit_inner::audit_sound(table, n, block_len, file_table, work, list);
-    let answer = r.answer;
-    let found = order::broken_at(answer);
-    Audited {
-        answer: order::number(answer),
-        count: r.count,
-        entry: found.entry,
-        rule: found.rule,
-    }
+    audit_inner::audit_sound(table, n, block_len, file_table, work, list).into()
 }

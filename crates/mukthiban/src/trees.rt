@@ -20,12 +20,9 @@ pub extern "C" fn mukthiban_tree_format(
 ) -> Plain
     ensures { Exported result.answer (λ a. FormatPromise (tables dir_hash.old dir_table.old file_hash.old file_table.old) dir_max file_max (carry_gives a (tables dir_hash.new dir_table.new file_hash.new file_table.new))) }
 {
-    let answer = tree::format::format(
+    tree::format::format(
         dir_hash, dir_table, dir_max, file_hash, file_table, file_max,
-    );
-    Plain {
-        answer: order::number(answer),
-    }
+    ).into()
 }
 
 #[unsafe(no_mangle)]
@@ -38,11 +35,7 @@ pub extern "C" fn mukthiban_tree_test(
 ) -> Plain
     ensures { Exported result.answer (λ a. TestPromise (tables dir_hash.now dir_table.now file_hash.now file_table.now) work.old (tested a work.new)) }
 {
-    let r = tree_test::test(dir_hash, dir_table, file_hash, file_table, work);
-    let answer = r.answer;
-    Plain {
-        answer: order::number(answer),
-    }
+    tree_test::test(dir_hash, dir_table, file_hash, file_table, work).into()
 }
 
 #[unsafe(no_mangle)]
@@ -55,11 +48,5 @@ pub extern "C" fn mukthiban_tree_aged(
 ) -> Aged
     ensures { Exported result.answer (λ a. AgedPromise (tables dir_hash.now dir_table.now file_hash.now file_table.now) work.old (beside (age_gives a result.table result.inode) work.new)) }
 {
-    let r = tree_aged::aged(dir_hash, dir_table, file_hash, file_table, work);
-    let answer = r.answer;
-    Aged {
-        answer: order::number(answer),
-        table: r.table,
-        inode: r.inode,
-    }
+    tree_aged::aged(dir_hash, dir_table, file_hash, file_table, work).into()
 }

@@ -21,15 +21,7 @@ pub extern "C" fn mukthiban_volume_audit(
 ) -> Audited
     ensures { Located result.answer result.entry result.rule (λ a. AuditPromise table.now (length «data».now) block_len (tables dir_hash.now dir_table.now file_hash.now file_table.now) work.old list.old (beside (audit_gives a result.count list.new) work.new)) }
 {
-    let r = audit::audit(
+    audit::audit(
         table, data, block_len, dir_hash, dir_table, file_hash, file_table, work, list,
-    );
-    let answer = r.answer;
-    let found = order::broken_at(answer);
-    Audited {
-        answer: order::number(answer),
-        count: r.count,
-        entry: found.entry,
-        rule: found.rule,
-    }
+    ).into()
 }
