@@ -37,7 +37,7 @@ pub struct Plain {
     pub answer: u32,
 }
 
-impl<T> From<Result<T, Refusal>> for Plain {
+impl<T: Drop> From<Result<T, Refusal>> for Plain {
     ghost use Rattle.std.specs.Prelude.{◌≡◌};
     ghost use Rattle.order.specs.Answer.{answer_of, number_of};
 
