@@ -5,29 +5,16 @@ use mathlib.Core.Bool.{Bool, true, false, cond}
 use mathlib.Core.Logic.{⊎_elim}
 use Prim.Native.Nat.{ℕ, zero, suc, ◌+◌, ◌*◌, ◌-◌, ◌≤◌, ◌<◌}
 use native.Mathlib.Omega.{arith}
-use native.Mathlib.Nat.{mul-le-mul_right}
+use native.Mathlib.Nat.{mul-le-mul_right, sub-zero}
 use lib.Dec.{eqb, leb}
 use lib.ListN.{length, get_or, set, length-set}
 use lib.Seq.{sets}
-use borrow.Author.Tests.{eq-eqb, ne_eqb, le-leb, lt-leb}
 use Rattle.links.proofs.Held.{same_or}
 use Rattle.tree_table.specs.Field.{field}
 use Rattle.tree_table.specs.Chain.{member, link_at}
 use Rattle.salvage_tree.specs.Entries.{bound, met_from, collision, gone}
-use Rattle.salvage_tree.specs.Inner.Says.{Marks, Least, Free, unmarked, PutFree, Sized}
+use Rattle.salvage_tree.specs.Inner.Says.{Marks, unmarked, Sized}
 use Rattle.salvage_tree.proofs.Marked.{stops_zero, stops_over, stops_met, goes_on, met_stop, met_on, marked_met, free_met, marks_on, unmarked_free, unmarked_not}
-
-pub least_first : (a b : ℕ) → a ≤ b → Least a b a
-least_first a b h = record { is = rw (le-leb a b h) }
-
-pub least_second : (a b : ℕ) → b < a → Least a b b
-least_second a b h = record { is = rw (lt-leb a b h) }
-
-pub free_yes : (m : ℕ) → m ≡ 0 → Free m 1
-free_yes m e = record { is = rw (eq-eqb m 0 e) }
-
-pub free_no : (m : ℕ) → (m ≡ 0 → ⊥) → Free m 0
-free_no m e = record { is = rw (ne_eqb m 0 e) }
 
 -- ---- along the removed list
 
@@ -46,10 +33,11 @@ begins : (w : ℕ) (t : List ℕ) → gone w t ≡ met_from (bound w t) (collisi
 unfolding gone
 begins w t = refl
 
-pub marking_begin : (w : ℕ) (t : List ℕ) (n : ℕ) (work : List ℕ) (x : ℕ) → Sized w t n work → Marks work [] → x ≡ link_at t w (w - 4) 0 → Marking w t n work work x n
+pub marking_begin : (w : ℕ) (t : List ℕ) (n : ℕ) (work : List ℕ) (x : ℕ) → Sized w t n work → Marks work [] → x ≡ link_at t w (w - 4) 0 → Marking w t n work work x (n - 0)
 marking_begin w t n work x s m q = let e : x ≡ collision w t 0 = q ∙ last_field w t 0 in record {
   met = [];
-  is = begins w t ∙ ap (λ (k : ℕ). met_from k (collision w t) k [] (collision w t 0)) (sym s.is) ∙ ap (met_from n (collision w t) n []) (sym e);
+  is = begins w t ∙ ap (λ (k : ℕ). met_from k (collision w t) k [] (collision w t 0)) (sym s.is) ∙ ap (met_from n (collision w t) n []) (sym e)
+      ∙ ap {B = List ℕ} (λ (k : ℕ). met_from k (collision w t) n [] x) (sym (sub-zero n));
   marks = m;
   long = refl;
 }
@@ -77,16 +65,16 @@ module _ (w : ℕ) (t : List ℕ) (n : ℕ) (work₀ work : List ℕ) (x left : 
           ends (met_stop left (collision w t) n g.met x (stops_met n g.met x some h
           (marked_met work g.met x g.marks (λ z. e (ap (λ (j : ℕ). get_or work j 0) q ∙ z)))))
 
-      pub marking_on : (i : ℕ) → i ≡ x → get_or work i 0 ≡ 0 → Sized w t n work₀ → (left ≡ 0 → ⊥) → (y : ℕ) → y ≡ link_at t w (w - 4) x
-          → Marking w t n work₀ (set work i 1) y (left - 1)
-      marking_on i q e s k y f =
-          let m : left ≡ suc (left - 1) = omega (arith, k) in
-          subst⁻¹ (λ (j : ℕ). Marking w t n work₀ (set work j 1) y (left - 1)) q (record {
+      pub marking_on : (i : ℕ) → i ≡ x → get_or work i 0 ≡ 0 → Sized w t n work₀ → (y : ℕ) → y ≡ link_at t w (w - 4) x
+          → (left' : ℕ) → left ≡ left' + 1 → Marking w t n work₀ (set work i 1) y left'
+      marking_on i q e s y f left' k =
+          let m : left ≡ suc left' = omega (arith, k) in
+          subst⁻¹ (λ (j : ℕ). Marking w t n work₀ (set work j 1) y left') q (record {
             met = x ∷ g.met;
             is = g.is
                 ∙ ap (λ (l : ℕ). met_from l (collision w t) n g.met x) m
-                ∙ met_on (left - 1) (collision w t) n g.met x (goes_on n g.met x some h (free_met work g.met x g.marks (ap (λ (j : ℕ). get_or work j 0) (sym q) ∙ e)))
-                ∙ ap (met_from (left - 1) (collision w t) n (x ∷ g.met)) (sym (f ∙ last_field w t x));
+                ∙ met_on left' (collision w t) n g.met x (goes_on n g.met x some h (free_met work g.met x g.marks (ap (λ (j : ℕ). get_or work j 0) (sym q) ∙ e)))
+                ∙ ap (met_from left' (collision w t) n (x ∷ g.met)) (sym (f ∙ last_field w t x));
             marks = marks_on work g.met x g.marks (omega (arith, h, s.long, g.long));
             long = length-set work x 1 ∙ g.long;
           })
@@ -127,28 +115,18 @@ pub counting_begin : (n : ℕ) (work : List ℕ) → Counting n work 1 0
 counting_begin n work = record { sum = omega arith; few = omega arith }
 
 module _ (n : ℕ) (work : List ℕ) (x count : ℕ) (g : Counting n work x count) where
-  pub counting_on : x < n → (i f : ℕ) → i ≡ x → Free (get_or work i 0) f → Counting n work (x + 1) (count + f)
-  counting_on h i f q r = ⊎_elim
-      (λ e. let z : f ≡ 1 = (subst (λ (j : ℕ). Free (get_or work j 0) f) q r).is ∙ one (get_or work x 0) e in
-      record { sum = omega (arith, g.sum, ap length (more x n work h e), z); few = omega (arith, g.few, z) })
-      (λ e. let z : f ≡ 0 = (subst (λ (j : ℕ). Free (get_or work j 0) f) q r).is ∙ none (get_or work x 0) e in
-      record { sum = omega (arith, g.sum, ap length (skip x n work h e), z); few = omega (arith, g.few, z) })
-      (same_or (get_or work x 0) 0)
-    where
-      one : (v : ℕ) → v ≡ 0 → ◌≡◌ {A = ℕ} (cond (eqb v 0) 1 0) 1
-      one v e = rw (eq-eqb v 0 e)
+  -- place i is that of entry x, and m the count then
+  pub counting_hit : x < n → (i : ℕ) → i ≡ x → get_or work i 0 ≡ 0 → (m : ℕ) → m ≡ count + 1 → Counting n work (x + 1) m
+  counting_hit h i q e m k =
+      let e : get_or work x 0 ≡ 0 = subst (λ (j : ℕ). get_or work j 0 ≡ 0) q e in
+      record { sum = omega (arith, g.sum, ap length (more x n work h e), k); few = omega (arith, g.few, k) }
 
-      none : (v : ℕ) → (v ≡ 0 → ⊥) → ◌≡◌ {A = ℕ} (cond (eqb v 0) 1 0) 0
-      none v e = rw (ne_eqb v 0 e)
+  pub counting_skip : x < n → (i : ℕ) → i ≡ x → (get_or work i 0 ≡ 0 → ⊥) → (m : ℕ) → m ≡ count → Counting n work (x + 1) m
+  counting_skip h i q e m k =
+      record { sum = omega (arith, g.sum, ap length (skip x n work h (λ z. e (subst⁻¹ (λ (j : ℕ). get_or work j 0 ≡ 0) q z))), k); few = omega (arith, g.few, k) }
 
   pub counting_end : n ≤ x → count ≡ length (unmarked (n - 1) 1 work)
   counting_end h = omega (arith, g.sum, ap length (none_left x n work h))
-
-  pub counting_fits : x < n → n ≤ 65536 → (m f : ℕ) → Free m f → count + f < 18446744073709551616
-  counting_fits h s m f r = ⊎_elim
-      (λ e. omega (arith, g.few, h, s, r.is, ap {B = ℕ} (λ (b : Bool). cond b 1 0) (eq-eqb m 0 e)))
-      (λ e. omega (arith, g.few, h, s, r.is, ap {B = ℕ} (λ (b : Bool). cond b 1 0) (ne_eqb m 0 e)))
-      (same_or m 0)
 
 pub record Listing (n : ℕ) (work l₀ l : List ℕ) (x at : ℕ) : Type 0 where
   pub is : sets l₀ 0 (unmarked (n - 1) 1 work) ≡ sets l at (unmarked (n - x) x work)
@@ -160,34 +138,28 @@ listing_begin n work l = record { is = refl; sum = omega arith; long = refl }
 
 module _ (n : ℕ) (work l₀ l : List ℕ) (x at : ℕ) (g : Listing n work l₀ l x at) where
   pub listing_room : x < n → length (unmarked (n - 1) 1 work) ≤ length l₀ → (i : ℕ) → i ≡ x → get_or work i 0 ≡ 0 → at < length l
-  listing_room h r i q e = omega (arith, g.sum, g.long, r, ap length (more x n work h (ap (λ (j : ℕ). get_or work j 0) (sym q) ∙ e)))
+  listing_room h r i q e = omega (arith, g.sum, g.long, r, ap length (more x n work h (subst (λ (j : ℕ). get_or work j 0 ≡ 0) q e)))
 
-  pub listing_on : x < n → (i : ℕ) → i ≡ x → (l' : List ℕ) (at' : ℕ) → PutFree l at x (get_or work i 0) l' at' → Listing n work l₀ l' (x + 1) at'
-  listing_on h i q l' at' p = ⊎_elim
-      (λ e.
-      let z = p.free (ap (λ (j : ℕ). get_or work j 0) q ∙ e) in
-      let s : suc at ≡ at' = omega (arith, z.1) in
+  pub listing_hit : x < n → (i : ℕ) → i ≡ x → get_or work i 0 ≡ 0 → (l' : List ℕ) → l' ≡ set l at x → (at' : ℕ) → at' ≡ at + 1 → Listing n work l₀ l' (x + 1) at'
+  listing_hit h i q e l' p at' k =
+      let m = more x n work h (subst (λ (j : ℕ). get_or work j 0 ≡ 0) q e) in
+      let s : suc at ≡ at' = omega (arith, k) in
       record {
-        is = g.is ∙ ap (sets l at) (more x n work h e) ∙ ap (λ (y : List ℕ). sets y (suc at) (unmarked (n - (x + 1)) (x + 1) work)) (sym z.0)
+        is = g.is ∙ ap (sets l at) m ∙ ap (λ (y : List ℕ). sets y (suc at) (unmarked (n - (x + 1)) (x + 1) work)) (sym p)
             ∙ ap (λ (j : ℕ). sets l' j (unmarked (n - (x + 1)) (x + 1) work)) s;
-        sum = omega (arith, g.sum, ap length (more x n work h e), s);
-        long = ap length z.0 ∙ length-set l at x ∙ g.long;
-      })
-      (λ e.
-      let z = p.other (λ k. e (ap (λ (j : ℕ). get_or work j 0) (sym q) ∙ k)) in
+        sum = omega (arith, g.sum, ap length m, s);
+        long = ap length p ∙ length-set l at x ∙ g.long;
+      }
+
+  pub listing_skip : x < n → (i : ℕ) → i ≡ x → (get_or work i 0 ≡ 0 → ⊥) → (l' : List ℕ) → l' ≡ l → (at' : ℕ) → at' ≡ at → Listing n work l₀ l' (x + 1) at'
+  listing_skip h i q e l' p at' k =
+      let m = skip x n work h (λ z. e (subst⁻¹ (λ (j : ℕ). get_or work j 0 ≡ 0) q z)) in
       record {
-        is = g.is ∙ ap (sets l at) (skip x n work h e) ∙ ap (λ (y : List ℕ). sets y at (unmarked (n - (x + 1)) (x + 1) work)) (sym z.0)
-            ∙ ap (λ (j : ℕ). sets l' j (unmarked (n - (x + 1)) (x + 1) work)) (sym z.1);
-        sum = omega (arith, g.sum, ap length (skip x n work h e), z.1);
-        long = ap length z.0 ∙ g.long;
-      })
-      (same_or (get_or work x 0) 0)
+        is = g.is ∙ ap (sets l at) m ∙ ap (λ (y : List ℕ). sets y at (unmarked (n - (x + 1)) (x + 1) work)) (sym p)
+            ∙ ap (λ (j : ℕ). sets l' j (unmarked (n - (x + 1)) (x + 1) work)) (sym k);
+        sum = omega (arith, g.sum, ap length m, k);
+        long = ap length p ∙ g.long;
+      }
 
   pub listing_end : n ≤ x → l ≡ sets l₀ 0 (unmarked (n - 1) 1 work)
   listing_end h = sym (g.is ∙ ap (sets l at) (none_left x n work h))
-
-pub put_other : (l : List ℕ) (at x m : ℕ) → (m ≡ 0 → ⊥) → PutFree l at x m l at
-put_other l at x m e = record { free = λ z. absurd (e z); other = λ z. (refl, refl) }
-
-pub put_free : (l : List ℕ) (at x m : ℕ) → m ≡ 0 → PutFree l at x m (set l at x) (at + 1)
-put_free l at x m e = record { free = λ z. (refl, refl); other = λ z. absurd (z e) }

@@ -3,23 +3,30 @@ use mathlib.Core.Path.{◌≡◌, refl, sym, ap, subst, subst⁻¹, ◌∙◌}
 use mathlib.Core.List.{List, [], ◌++◌}
 use mathlib.Core.Bool.{Bool, true, false, cond}
 use mathlib.Core.Logic.{◌⊎◌, inl, inr, ⊎_elim}
-use Prim.Native.Nat.{ℕ, ◌+◌, ◌*◌, ◌-◌, ◌/◌, ◌≤◌, ◌<◌}
+use Prim.Native.Nat.{ℕ, ◌+◌, ◌*◌, ◌-◌, ◌/◌, ◌≤◌, ◌<◌, min}
 use native.Mathlib.Omega.{arith}
 use native.Mathlib.Nat.{div-add-mod, mod-lt, mul_comm, mul-le-mul_right}
 use lib.Dec.{leb}
-use borrow.Author.Tests.{leb-true}
+use borrow.Author.Tests.{le-leb, lt-leb}
 use lib.ListN.{length, take, drop, replicate, length-replicate}
 use lib.Seq.{sets, sets-eq, length-take-le}
-use Rattle.order.specs.Beside.{beside}
-use Rattle.order.proofs.Beside.{passed}
+use Rattle.std.specs.Prelude.{Err}
+use Rattle.order.specs.Answer.{Answer}
 use Rattle.order.specs.Answer as is
+use Rattle.order.specs.Beside.{beside}
+use Rattle.order.specs.Gate.{cleared}
+use Rattle.order.specs.Given.{None}
+use Rattle.order.specs.declared.Refusal.{Refusal}
+use Rattle.order.proofs.Beside.{passed, refused}
+use Rattle.order.proofs.Gate.{gate_given}
 use Rattle.links.proofs.Held.{same_or}
-use Rattle.tree_table.specs.Field.{field, count_field}
+use Rattle.tree_marks.proofs.Walks.{le_or_lt}
+use Rattle.tree_table.specs.Field.{field}
 use Rattle.tree_table.specs.Chain.{link_at}
 use Rattle.tree_sound.specs.Sizes.{Beyond}
 use Rattle.salvage_tree.specs.Entries.{bound, gone, others, entries}
 use Rattle.salvage_tree.specs.Calls.{Entered, entered_gives, entered_rows, entered_done, entered_gate, EnteredPromise}
-use Rattle.salvage_tree.specs.Inner.Says.{Marks, Least, unmarked, Sized, EnteredSays}
+use Rattle.salvage_tree.specs.Inner.Says.{Marks, Roomy, RoomFor, unmarked, Sized, EnteredSays}
 use Rattle.salvage_tree.proofs.Marked.{marks_none, marks_others}
 
 -- what is listed where the marks are those of the removed list
@@ -67,27 +74,22 @@ module _ (w : ℕ) (t : List ℕ) (n : ℕ) (work₀ work₁ work work' list : L
 
 -- ---- the rows of sizes and work list
 
-lesser : (a b : ℕ) → cond (leb a b) a b ≤ b
-lesser a b = go (leb a b) refl
-  where
-    go : (x : Bool) → leb a b ≡ x → cond x a b ≤ b
-    go true e = leb-true a b e
-    go false e = omega arith
-
-folded : (w : ℕ) (t : List ℕ) → cond (leb (field w t 0 count_field) (length t / w)) (field w t 0 count_field) (length t / w) ≡ bound w t
-unfolding bound
-folded w t = refl
-
 -- the count stands first in entry 0
-first_field : (w : ℕ) (t : List ℕ) → link_at t w 0 0 ≡ field w t 0 count_field
-unfolding field
-first_field w t = refl
+pub bound_is : (w : ℕ) (t : List ℕ) (c room : ℕ) → c ≡ link_at t w 0 0 → room ≡ length t / w → min c room ≡ bound w t
+unfolding bound field
+bound_is w t c room e q = lesser c room ∙ ap (λ (k : ℕ). cond (leb k room) k room) e ∙ ap (λ (k : ℕ). cond (leb (link_at t w 0 0) k) (link_at t w 0 0) k) q
+  where
+    lesser : (a b : ℕ) → min a b ≡ cond (leb a b) a b
+    lesser a b = ⊎_elim (λ h. rw (le-leb a b h) (omega arith)) (λ h. rw (lt-leb a b h) (omega arith)) (le_or_lt a b)
+
+pub bound_low : (w : ℕ) (t : List ℕ) → bound w t ≤ length t / w
+bound_low w t = omega (arith, bound_is w t (link_at t w 0 0) (length t / w) refl refl)
 
 room_fits : (w : ℕ) (t : List ℕ) → (length t / w) * w ≤ length t
 room_fits w t = omega (arith, div-add-mod (length t) w, mul_comm w (length t / w))
 
 -- a table that holds an entry has room for one
-pub room_some : (w : ℕ) (t : List ℕ) → 24 ≤ w → w ≤ length t → 0 < length t / w
+room_some : (w : ℕ) (t : List ℕ) → 24 ≤ w → w ≤ length t → 0 < length t / w
 room_some w t wide fit = ⊎_elim
     (λ z. absurd (omega (arith, fit, div-add-mod (length t) w, ap (λ (k : ℕ). w * k) z, mod-lt (length t) (pos w wide))))
     (λ z. omega (arith, z))
@@ -96,45 +98,40 @@ room_some w t wide fit = ⊎_elim
     pos : (w : ℕ) → 24 ≤ w → 0 < w
     pos w h = omega (arith, h)
 
-pub room_taken : (w : ℕ) (t work : List ℕ) → length t / w ≤ length work → length t / w ≡ length (take (length t / w) work)
-room_taken w t work h = sym (length-take-le (length t / w) work h)
+module _ (w : ℕ) (t work : List ℕ) (r : ℕ) (f : Roomy w t (length work) r) where
+  pub sized : 24 ≤ w → (n : ℕ) → n ≡ bound w t → Sized w t n (take r work)
+  sized wide n e = let low : n ≤ length t / w = omega (arith, e, bound_low w t) in record {
+    wide = wide;
+    some = f.some;
+    is = e;
+    inside = omega (arith, room_fits w t, mul-le-mul_right w low);
+    few = omega (arith, low, f.is, f.few);
+    long = omega (arith, low, f.is, length-take-le r work f.enough);
+  }
 
-module _ (w : ℕ) (t work list : List ℕ) (wide : 24 ≤ w) where
-  pub size_short : length t < w → EnteredPromise w t work list (beside (entered_gives is.SizeMismatch 0 list) work)
-  size_short h = inl (h, refl)
+  -- none of the rows applies, whatever a refusal gives
+  pub fits : {A : Type 0} (refuse : Answer → List ℕ → A) → 24 ≤ w → None (entered_gate refuse w t work)
+  fits refuse wide = (
+    (λ h. omega (arith, h, f.some)),
+    (⊎_elim (λ h. omega (arith, h, room_some w t wide f.some)) (λ h. omega (arith, h, f.is, f.few)), ((λ h. omega (arith, h, f.is, f.enough)), tt)),
+  )
 
-  module _ (fit : w ≤ length t) where
-    misfit : length t < w → ⊥
-    misfit h = omega (arith, h, fit)
+  -- the first places are clear, as many as there is room for
+  pub clear_is : (v : List ℕ) → v ≡ replicate (length (take r work)) 0 → v ++ drop r work ≡ cleared (length t / w) work
+  clear_is v e = ap (λ (x : List ℕ). x ++ drop r work) (e ∙ ap (λ (k : ℕ). replicate k 0) (length-take-le r work f.enough))
+      ∙ ap (λ (k : ℕ). cleared k work) f.is
 
-    pub size_large : 65536 < length t / w → EnteredPromise w t work list (beside (entered_gives is.InvalidValue 0 list) work)
-    size_large h = inr (misfit, inl (inr h, refl))
+module _ (w : ℕ) (t work list : List ℕ) where
+  pub size_refused : (why : Refusal) → RoomFor w t (length work) (Err why) → EnteredPromise w t work list (beside (entered_gives (Err why) 0 list) work)
+  size_refused why g =
+      refused (entered_gate (λ a v. beside (entered_gives a 0 list) v) w t work) (cleared (length t / w) work) (entered_rows w t list) (entered_done w t list)
+      (beside (entered_gives (Err why) 0 list) work)
+      (gate_given (λ a v. beside (entered_gives a 0 list) v) (length t / w) work (length t < w) (Beyond (length t / w)) (length work < length t / w) [] (Err why) work
+      (g work refl))
 
-    module _ (small : length t / w ≤ 65536) (one : 0 < length t / w) where
-      inside : Beyond (length t / w) → ⊥
-      inside = ⊎_elim (λ h. omega (arith, h, one)) (λ h. omega (arith, h, small))
-
-      pub size_work : length work < length t / w → EnteredPromise w t work list (beside (entered_gives is.WorkTooShort 0 list) work)
-      size_work h = inr (misfit, inr (inside, inl (h, refl)))
-
-      module _ (long : length t / w ≤ length work) where
-        pub sized : (c n : ℕ) → c ≡ link_at t w 0 0 → Least c (length t / w) n → Sized w t n (take (length t / w) work)
-        sized c n e l = record {
-          wide = wide;
-          some = fit;
-          is = l.is ∙ ap (λ (k : ℕ). cond (leb k (length t / w)) k (length t / w)) (e ∙ first_field w t) ∙ folded w t;
-          inside = omega (arith, room_fits w t, mul-le-mul_right w low);
-          few = omega (arith, low, small);
-          long = omega (arith, low, length-take-le (length t / w) work long);
-        }
-          where
-            low : n ≤ length t / w
-            low = subst⁻¹ (λ (k : ℕ). k ≤ length t / w) l.is (lesser c (length t / w))
-
-        pub size_passed : (o : Entered) (v : List ℕ) → EnteredSays w t list o (length (take (length t / w) work)) v
-            → EnteredPromise w t work list (beside o (v ++ drop (length t / w) work))
-        size_passed o v s =
-            subst⁻¹ (λ (x : List ℕ). EnteredPromise w t work list (beside o (x ++ drop (length t / w) work)))
-            (s.clear ∙ ap (λ (k : ℕ). replicate k 0) (length-take-le (length t / w) work long))
-            (passed (entered_gate (λ a x. beside (entered_gives a 0 list) x) w t work) (replicate (length t / w) 0 ++ drop (length t / w) work) (entered_rows w t list)
-            (entered_done w t list) o (misfit, (inside, ((λ k. omega (arith, k, long)), tt))) s.given)
+  pub size_passed : 24 ≤ w → (r : ℕ) → Roomy w t (length work) r → (o : Entered) (v : List ℕ) → EnteredSays w t list o (length (take r work)) v
+      → EnteredPromise w t work list (beside o (v ++ drop r work))
+  size_passed wide r f o v s =
+      subst⁻¹ (λ (x : List ℕ). EnteredPromise w t work list (beside o x)) (clear_is w t work r f v s.clear)
+      (passed (entered_gate (λ a x. beside (entered_gives a 0 list) x) w t work) (cleared (length t / w) work) (entered_rows w t list) (entered_done w t list) o
+      (fits w t work r f (λ a x. beside (entered_gives a 0 list) x) wide) s.given)

@@ -1,10 +1,6 @@
 -- `salvage_tree::list_live` meets its contract.
-use Prim.Native.Nat.{◌-◌}
 use Rattle.salvage_tree.proofs.Loops.{Listing}
 use Rattle.salvage_tree.proofs.list_live.Given as goal
 
 abbrev pub invariant-loop-x : goal.invariant-loop-x
 invariant-loop-x l = Listing l.n l.work l.initial.list l.list l.x l.at
-
-abbrev pub decreases-loop-x : goal.decreases-loop-x
-decreases-loop-x l = l.n - l.x
