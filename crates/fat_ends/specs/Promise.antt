@@ -1,6 +1,5 @@
 -- What the two passes tell of a table of n blocks.
-use Rattle.std.specs.Prelude.{◌≡◌, ℕ}
-use Rattle.std.specs.Option.{Option, Some, None}
+use Rattle.std.specs.Prelude.{◌≡◌, ℕ, Option, Some, None}
 use Rattle.fat_node.specs.Entry.{Bytes}
 use Rattle.fat_table.specs.Sound.{Sound}
 use Rattle.fat_table.specs.Counts.{free_blocks, other_chains}

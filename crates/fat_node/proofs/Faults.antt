@@ -2,17 +2,17 @@
 use mathlib.Core.Path.{◌≡◌, refl, sym, ap, subst, ◌∙◌}
 use mathlib.Core.Bool.{Bool, true, false, not, ◌&&◌, ◌||◌}
 use mathlib.Core.Logic.{◌⊎◌, inl, inr, ⊎_elim}
-use Prim.Native.Nat.{ℕ, suc, ◌+◌, ◌-◌, ◌%◌, ◌<◌, ◌≤◌}
+use Prim.Native.Nat.{ℕ, suc, ◌+◌, ◌-◌, ◌<◌, ◌≤◌}
 use native.Mathlib.Omega.{arith}
 use lib.Dec.{eqb, leb, ltb}
-use borrow.Author.Tests.{eqb-true, eqb-false, eq-eqb, ne_eqb, ltb-true, ltb-false, lt-ltb, le-ltb, leb-false, le-leb, lt-leb}
+use borrow.Author.Tests.{eqb-true, eqb-false, eq-eqb, ne_eqb, ltb-true, ltb-false, lt-ltb, le-ltb, leb-false, lt-leb}
 use Rattle.order.specs.Answer.{fault, unbroken}
 use Rattle.order.specs.declared.Fault.{Fault}
 use Rattle.fat_node.specs.Entry.{Bytes, top, u_at, v_at}
-use Rattle.fat_node.specs.Node.{NodeAt, prev_at, next_at}
+use Rattle.fat_node.specs.Node.{NodeAt}
 use Rattle.fat_node.specs.Fault.{when, bad_start, bad_second, differs, span_fault, node_fault}
-use Rattle.fat_node.specs.Inner.Reads.{Reads}
-use Rattle.fat_node.specs.declared.NodeRead.TheVariants.{Found, Broken}
+use Rattle.std.specs.Prelude.{Ok, Err}
+use Rattle.fat_node.specs.Inner.Reads.{Unread, SizeReads}
 use Rattle.fat_node.proofs.Nodes.{one_or_more}
 use Rattle.fat_node.proofs.Cases.{untrue}
 
@@ -157,112 +157,34 @@ module _ (n : ℕ) (t : Bytes) (b : ℕ) where
       (λ e. let m = w.more (omega (arith, e, w.some)) in when_no _ _ _ (le-ltb (v_at t (b + 1)) top m.0) ∙ span_clear s small m.1.0 m.1.1 m.2.0 m.2.1 (omega (arith, e, w.some)) w.within)
       (one_or_more s)
 
--- ---- entries
-
-pub start_zero : (u : ℕ) → u ≡ 0 → true ≡ bad_start u
-unfolding bad_start
-start_zero u e = rw (eq-eqb u 0 e)
-
-pub start_some : (u : ℕ) → (u ≡ 0 → ⊥) → ltb 2147483648 u ≡ bad_start u
-unfolding bad_start
-start_some u e = rw (ne_eqb u 0 e)
-
-pub second_u : (u v b x : ℕ) → x ≡ u → (x ≡ 2147483648 + (b + 1) → ⊥) → true ≡ bad_second u v b
-unfolding bad_second
-second_u u v b x e h = rw (ne_eqb u (2147483648 + (b + 1)) (λ q. h (e ∙ q)))
-
-pub second_flag : (u v b x : ℕ) → x ≡ u → x ≡ 2147483648 + (b + 1) → 2147483648 ≤ v → true ≡ bad_second u v b
-unfolding bad_second
-second_flag u v b x e q h = rw (eq-eqb u (2147483648 + (b + 1)) (sym e ∙ q), le-leb 2147483648 v h)
-
-pub second_low : (u v b x y : ℕ) → x ≡ u → x ≡ 2147483648 + (b + 1) → v < 2147483648 → y ≡ v → ltb y (b + 2) ≡ bad_second u v b
-unfolding bad_second
-second_low u v b x y e q h f = rw (eq-eqb u (2147483648 + (b + 1)) (sym e ∙ q), lt-leb 2147483648 v h, f)
-
-pub differ_u : (t : Bytes) (e u v x : ℕ) → x ≡ u_at t e → (x ≡ u → ⊥) → true ≡ differs t e u v
-unfolding differs
-differ_u t e u v x p h = sym (ap (λ (a : Bool). not (a && eqb (v_at t e) v)) (ne_eqb (u_at t e) u (λ q. h (p ∙ q))))
-
-pub differ_v : (t : Bytes) (e u v x y : ℕ) → x ≡ u_at t e → x ≡ u → y ≡ v_at t e → not (eqb y v) ≡ differs t e u v
-unfolding differs
-differ_v t e u v x y p q r = ap (λ (a : ℕ). not (eqb a v)) r ∙ sym (ap (λ (a : Bool). not (a && eqb (v_at t e) v)) (eq-eqb (u_at t e) u (sym p ∙ q)))
-
--- ---- what the code finds of a node of several blocks
-
-pub span_2 : (n : ℕ) (t : Bytes) (b : ℕ) → n < b + 2 → fault (b + 1) 2 ≡ span_fault n t b
-unfolding span_fault
-span_2 n t b h = sym (when_yes _ _ _ (lt-ltb n (b + 2) h))
-
-pub span_3 : (n : ℕ) (t : Bytes) (b u v : ℕ) (x : Bool) → b + 2 ≤ n → u ≡ u_at t (b + 2) → v ≡ v_at t (b + 2) → x ≡ bad_second u v b → x ≡ true → fault (b + 2) 3 ≡ span_fault n t b
-unfolding span_fault
-span_3 n t b u v x h eu ev ex y =
-    let p : bad_second (u_at t (b + 2)) (v_at t (b + 2)) b ≡ true = cc in
-    sym (when_no _ _ _ (le-ltb n (b + 2) h) ∙ when_yes _ _ _ p)
-
-pub span_4 : (n : ℕ) (t : Bytes) (b u v e : ℕ) (x : Bool) → b + 2 ≤ n → u ≡ u_at t (b + 2) → v ≡ v_at t (b + 2) → x ≡ bad_second u v b → x ≡ false → e ≡ v → n < e → fault (b + 2) 4 ≡ span_fault n t b
-unfolding span_fault
-span_4 n t b u v e x h eu ev ex y ee l =
-    let p : bad_second (u_at t (b + 2)) (v_at t (b + 2)) b ≡ false = cc in
-    sym (when_no _ _ _ (le-ltb n (b + 2) h) ∙ when_no _ _ _ p ∙ when_yes _ _ _ (lt-ltb n (v_at t (b + 2)) (omega arith)))
-
-pub span_5 : (n : ℕ) (t : Bytes) (b u v e : ℕ) (x z : Bool) → b + 2 ≤ n → u ≡ u_at t (b + 2) → v ≡ v_at t (b + 2) → x ≡ bad_second u v b → x ≡ false → e ≡ v → e ≤ n
-    → z ≡ differs t e u v → z ≡ true → fault e 5 ≡ span_fault n t b
-unfolding span_fault
-span_5 n t b u v e x z h eu ev ex y ee l ez d =
-    let p : bad_second (u_at t (b + 2)) (v_at t (b + 2)) b ≡ false = cc in
-    let q : differs t (v_at t (b + 2)) (u_at t (b + 2)) (v_at t (b + 2)) ≡ true = cc in
-    ap (λ (a : ℕ). fault a 5) (ee ∙ ev) ∙ sym (when_no _ _ _ (le-ltb n (b + 2) h) ∙ when_no _ _ _ p ∙ when_no _ _ _ (le-ltb n (v_at t (b + 2)) (omega arith)) ∙ when_yes _ _ _ q)
-
-pub span_none : (n : ℕ) (t : Bytes) (b u v e : ℕ) (x z : Bool) → b + 2 ≤ n → u ≡ u_at t (b + 2) → v ≡ v_at t (b + 2) → x ≡ bad_second u v b → x ≡ false → e ≡ v → e ≤ n
-    → z ≡ differs t e u v → z ≡ false → unbroken ≡ span_fault n t b
-unfolding span_fault
-span_none n t b u v e x z h eu ev ex y ee l ez d =
-    let p : bad_second (u_at t (b + 2)) (v_at t (b + 2)) b ≡ false = cc in
-    let q : differs t (v_at t (b + 2)) (u_at t (b + 2)) (v_at t (b + 2)) ≡ false = cc in
-    sym (when_no _ _ _ (le-ltb n (b + 2) h) ∙ when_no _ _ _ p ∙ when_no _ _ _ (le-ltb n (v_at t (b + 2)) (omega arith)) ∙ when_no _ _ _ q)
-
 -- ---- the reader
 
--- what is broken is no node
-pub unread : (t : Bytes) (n b : ℕ) (f : Fault) → n ≤ 1000000 → f ≡ node_fault n t b → (f.rule ≡ 0 → ⊥) → Reads t n b (Broken f)
-unread t n b f small e h = record { first = e; broken = h; none = λ s w. h (ap (λ (x : Fault). x.rule) (e ∙ node_clear n t b s w small)) }
+module _ (t : Bytes) (n b u v : ℕ) (small : n ≤ 1000000) (room : b < n) (eu : u ≡ u_at t (b + 1)) (ev : v ≡ v_at t (b + 1)) where
+  -- what is broken is no node
+  unread : (f : Fault) → f ≡ node_fault n t b → (f.rule ≡ 0 → ⊥) → Unread t n b f
+  unread f e h = record { first = e; broken = h; none = λ s w. h (ap (λ (x : Fault). x.rule) (e ∙ node_clear n t b s w small)) }
 
--- rule 1
-pub read_start : (t : Bytes) (n b u : ℕ) (x : Bool) → n ≤ 1000000 → u ≡ u_at t (b + 1) → x ≡ bad_start u → x ≡ true → Reads t n b (Broken (fault (b + 1) 1))
-unfolding node_fault
-read_start t n b u x small eu ex y =
-    let p : bad_start (u_at t (b + 1)) ≡ true = cc in
-    unread t n b (fault (b + 1) 1) small (sym (when_yes _ _ _ p)) (λ e. omega (arith, e))
-
-module _ (t : Bytes) (n b u v : ℕ) (x : Bool) (small : n ≤ 1000000) (room : b < n) (eu : u ≡ u_at t (b + 1)) (ev : v ≡ v_at t (b + 1)) (ex : x ≡ bad_start u) (no : x ≡ false) where
-  start : bad_start (u_at t (b + 1)) ≡ false
-  start = cc
-
-  form : (0 < u_at t (b + 1)) × (u_at t (b + 1) ≤ top)
-  form = start_fits (u_at t (b + 1)) start
-
-  -- a node of one block
-  pub read_one : (p q : ℕ) → p ≡ u % 2147483648 → q ≡ v % 2147483648 → v < 2147483648 → Reads t n b (Found (record { size = 1; prev = p; next = q }))
-  read_one p q ep eq lo = (one_node n t b room form (omega (arith, lo, ev)), ep ∙ ap (λ (x : ℕ). x % top) eu, eq ∙ ap (λ (x : ℕ). x % top) ev)
-
-  -- one that says it has several: rules 2 to 5
-  pub read_span : (f : Fault) → 2147483648 ≤ v → f ≡ span_fault n t b → (f.rule ≡ 0 → ⊥) → Reads t n b (Broken f)
+  -- rule 1
+  pub read_start : bad_start u ≡ true → Unread t n b (fault (b + 1) 1)
   unfolding node_fault
-  read_span f hi ef h = unread t n b f small (ef ∙ sym (when_no _ _ _ start ∙ when_no _ _ _ (le-ltb (v_at t (b + 1)) top (omega (arith, hi, ev))))) h
+  read_start y = unread (fault (b + 1) 1) (sym (when_yes _ _ _ (ap bad_start (sym eu) ∙ y))) (λ e. omega arith)
 
-  -- one of several
-  pub read_more : (f : Fault) (p q w e : ℕ) → p ≡ u % 2147483648 → q ≡ v % 2147483648 → 2147483648 ≤ v → f ≡ span_fault n t b → f.rule ≡ 0 → w ≡ v_at t (b + 2) → e ≡ w
-      → Reads t n b (Found (record { size = e - b; prev = p; next = q }))
-  read_more f p q w e ep eq hi ef z ew ee = (
-    subst (λ (x : ℕ). NodeAt t n b (x - b)) (sym (ee ∙ ew)) (more_node n t b form (omega (arith, hi, ev)) (ap (λ (x : Fault). x.rule) (sym ef) ∙ z)),
-    ep ∙ ap (λ (x : ℕ). x % top) eu,
-    eq ∙ ap (λ (x : ℕ). x % top) ev,
-  )
+  module _ (no : bad_start u ≡ false) where
+    start : bad_start (u_at t (b + 1)) ≡ false
+    start = ap bad_start (sym eu) ∙ no
 
--- its second entry stands, and its end is not before it
-module _ (t : Bytes) (n b : ℕ) (f : Fault) (ef : f ≡ span_fault n t b) (z : f.rule ≡ 0) where
-  pub span_room : b + 2 ≤ n
-  span_room = let w = span_node n t b (ap (λ (x : Fault). x.rule) (sym ef) ∙ z) in omega (arith, w.0, w.1)
+    -- rules 2 to 5
+    pub read_span : (f : Fault) → 2147483648 ≤ v → SizeReads t n b (Err f) → Unread t n b f
+    unfolding node_fault
+    read_span f hi p =
+        unread f (p.0 ∙ sym (when_no _ _ _ start ∙ when_no _ _ _ (le-ltb (v_at t (b + 1)) top (omega (arith, hi, ev))))) p.1
 
-  pub span_after : (w e : ℕ) → w ≡ v_at t (b + 2) → e ≡ w → b ≤ e
-  span_after w e ew ee = omega (arith, ew, ee, (span_node n t b (ap (λ (x : Fault). x.rule) (sym ef) ∙ z)).0)
+    -- a node of one block
+    pub read_one : (s : ℕ) → v < 2147483648 → s ≡ 1 → NodeAt t n b s
+    read_one s lo e = subst (NodeAt t n b) (sym e) (one_node n t b room (start_fits (u_at t (b + 1)) start) (omega (arith, lo, ev)))
+
+    -- one of several
+    pub read_more : (s : ℕ) → 2147483648 ≤ v → SizeReads t n b (Ok s) → NodeAt t n b s
+    read_more s hi p =
+        subst (NodeAt t n b) (omega (arith, p.1))
+        (more_node n t b (start_fits (u_at t (b + 1)) start) (omega (arith, hi, ev)) (ap (λ (x : Fault). x.rule) p.0))

@@ -1,6 +1,6 @@
 -- The laws of a written node: what is read back, which entries stay, and the head.
 use Prim.Native.Nat.{ℕ, ◌+◌, ◌*◌, ◌%◌, ◌≤◌, ◌<◌}
-use mathlib.Core.Path.{◌≡◌, refl, sym, ap, subst, ◌∙◌}
+use mathlib.Core.Path.{◌≡◌, refl, ap, subst, ◌∙◌}
 use mathlib.Core.Bool.{Bool, true, false, cond}
 use mathlib.Core.Logic.{◌≢◌, ◌⊎◌, inl, inr, ⊎_elim}
 use native.Mathlib.Omega.{arith}
@@ -9,20 +9,7 @@ use lib.ListN.{length}
 use borrow.Author.Tests.{eqb-true, eqb-false, eq-eqb, ne_eqb, leb-true, leb-false}
 use Rattle.words.proofs.Laws as words
 use Rattle.fat_node.specs.Entry.{Bytes, Entry, entry, get, put, top, u_at, v_at}
-use Rattle.fat_node.specs.Node.{
-  Run,
-  run,
-  prev_at,
-  next_at,
-  HeldBy,
-  NodeAt,
-  prev_half,
-  next_half,
-  start_entry,
-  span_entry,
-  set_node,
-  set_head,
-}
+use Rattle.fat_node.specs.Node.{Run, prev_at, next_at, NodeAt, prev_half, next_half, start_entry, span_entry, set_node, set_head}
 use Rattle.fat_node.proofs.Entries.{length_put, get_put, get_other, get_before, get_after, bytes_put, put_same}
 
 -- the halves of a start entry ---------------------------------------------------------------------

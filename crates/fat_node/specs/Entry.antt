@@ -1,6 +1,6 @@
 -- An entry of the block table: two little-endian u32, u and v. Entry 0 is the head, entry b + 1 belongs to block b. The low 31 bits of a word are an
 -- index (a block number plus 1, or 0 for none), its top bit a flag.
-use Rattle.std.specs.Prelude.{ℕ, ◌+◌, ◌*◌, ◌%◌, List}
+use Rattle.std.specs.Prelude.{ℕ, ◌+◌, ◌*◌, List}
 use Rattle.words.specs.Word.{word, put_word}
 
 -- what stands in a lent slice of bytes: numbers below 256

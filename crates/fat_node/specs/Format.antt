@@ -1,5 +1,5 @@
 -- What format promises.
-use Rattle.std.specs.Prelude.{ℕ, List, [], ◌∷◌, ◌≡◌}
+use Rattle.std.specs.Prelude.{ℕ, List, [], ◌∷◌}
 use Rattle.order.specs.First.{Row, row, First}
 use Rattle.order.specs.Answer.{Answer}
 use Rattle.order.specs.Answer.{Done, SizeMismatch, InvalidValue}

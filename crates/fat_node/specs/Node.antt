@@ -1,6 +1,6 @@
 -- A node of the block table, a run of blocks with its links, and the head.
 use Rattle.std.specs.Prelude.{ℕ, ◌+◌, ◌%◌, ◌<◌, ◌≤◌, ◌≡◌, cond, eqb}
-use Rattle.fat_node.specs.Entry.{Bytes, Entry, entry, get, put, top, u_at, v_at}
+use Rattle.fat_node.specs.Entry.{Bytes, Entry, entry, put, top, u_at, v_at}
 
 -- s blocks from block b
 pub record Run : Type 0 where

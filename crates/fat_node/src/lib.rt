@@ -9,7 +9,7 @@ ghost use Rattle.fat_node.specs.Entry.{entry, put, top, u_at, v_at};
 ghost use Rattle.fat_node.specs.Node.{run, prev_at, next_at, NodeAt, prev_half, set_node, set_head};
 ghost use Rattle.fat_node.specs.Sizes.{blocks, Misfit, Outside};
 ghost use Rattle.fat_node.specs.Format.{FormatPromise};
-ghost use Rattle.fat_node.specs.Inner.Reads.{EndReads, Reads, HeadReads};
+ghost use Rattle.fat_node.specs.Inner.Reads.{SizeReads, Reads, HeadReads};
 ghost use Rattle.fat_node.specs.Fault.{bad_start, bad_second, differs};
 
 use order::{Fault, Refusal};
@@ -33,6 +33,7 @@ pub struct Counts {
 const FLAG: u32 = 2147483648;
 
 // The first word of entry e.
+#[tactic(auto, unfolding(crate::specs::Entry::get))]
 pub fn u_of(table: &[u8], e: usize) -> u32
     requires { 8 * e + 8 ≤ length table.now }
     ensures { result ≡ u_at table.now e }
@@ -41,6 +42,7 @@ pub fn u_of(table: &[u8], e: usize) -> u32
 }
 
 // Its second word.
+#[tactic(auto, unfolding(crate::specs::Entry::get))]
 pub fn v_of(table: &[u8], e: usize) -> u32
     requires { 8 * e + 8 ≤ length table.now }
     ensures { result ≡ v_at table.now e }
@@ -78,6 +80,7 @@ pub fn size_of(table: &[u8], n: usize, b: usize) -> u32
 }
 
 // Whether u of a start entry has its flag and an index, or neither.
+#[tactic(auto, unfolding(crate::specs::Fault::bad_start))]
 fn bad_start(u: u32) -> bool
     ensures { result ≡ bad_start u }
 {
@@ -85,6 +88,7 @@ fn bad_start(u: u32) -> bool
 }
 
 // Whether u and v are not what the second entry of a node of several blocks at block b holds.
+#[tactic(auto, unfolding(crate::specs::Fault::bad_second))]
 fn bad_second(u: u32, v: u32, b: usize) -> bool
     requires { b ≤ 1000000 }
     ensures { result ≡ bad_second u v b }
@@ -93,6 +97,7 @@ fn bad_second(u: u32, v: u32, b: usize) -> bool
 }
 
 // Whether entry e does not hold u and v.
+#[tactic(auto, unfolding(crate::specs::Fault::differs))]
 fn differs(table: &[u8], e: usize, u: u32, v: u32) -> bool
     requires { 8 * e + 8 ≤ length table.now }
     ensures { result ≡ differs table.now e u v }
@@ -100,11 +105,12 @@ fn differs(table: &[u8], e: usize, u: u32, v: u32) -> bool
     u_of(table, e) != u || v_of(table, e) != v
 }
 
-// The end of the node at block b, whose start entry says several blocks; or the first of rules 2 to 5 that is broken there.
-fn span_end(table: &[u8], n: usize, b: usize) -> Result<usize, Fault>
+// The size of the node at block b, whose start entry says several blocks; or the first of rules 2 to 5 that is broken there.
+#[tactic(auto, unfolding(crate::specs::Fault::span_fault, crate::specs::Fault::when))]
+fn span_size(table: &[u8], n: usize, b: usize) -> Result<usize, Fault>
     requires table_len { length table.now ≡ 8 * (n + 1) }
     requires b_lt_n { (b < n) × (n ≤ 1000000) }
-    ensures { EndReads table.now n b result }
+    ensures { SizeReads table.now n b result }
 {
     if n < b + 2 {
         return Err(Fault {
@@ -133,7 +139,7 @@ fn span_end(table: &[u8], n: usize, b: usize) -> Result<usize, Fault>
             rule: 5,
         });
     }
-    Ok(end)
+    Ok(end - b)
 }
 
 // The node that stands at block b of n, or where it can't be read, and by which rule.
@@ -150,19 +156,16 @@ pub fn get_node(table: &[u8], n: usize, b: usize) -> Result<Node, Fault>
             rule: 1,
         });
     }
-    let end = if v < FLAG {
-        b + 1
-    } else {
-        span_end(table, n, b)?
-    };
+    let size = if v < FLAG { 1 } else { span_size(table, n, b)? };
     Ok(Node {
-        size: end - b,
+        size,
         prev: (u % FLAG) as usize,
         next: (v % FLAG) as usize,
     })
 }
 
 // Writes both words of entry e.
+#[tactic(auto, unfolding(crate::specs::Entry::put))]
 fn set_entry(table: &mut [u8], e: usize, u: u32, v: u32)
     requires { 8 * e + 8 ≤ length table.old }
     ensures { table.new ≡ put table.old e (entry u v) }
@@ -172,6 +175,7 @@ fn set_entry(table: &mut [u8], e: usize, u: u32, v: u32)
 }
 
 // u of a start entry: the flag is set exactly when there is no previous.
+#[tactic(auto, unfolding(crate::specs::Node::prev_half))]
 fn prev_half(prev: usize) -> u32
     requires { prev < top }
     ensures { result ≡ prev_half prev }
@@ -183,6 +187,7 @@ fn prev_half(prev: usize) -> u32
 }
 
 // Writes a node's one, two or three entries; those between its second and its last are left alone.
+#[tactic(auto, unfolding(crate::specs::Node::set_node, crate::specs::Node::next_half))]
 pub fn set_node(table: &mut [u8], n: usize, b: usize, node: Node)
     requires n_bound { (n ≤ 1000000) × (length table.old ≡ 8 * (n + 1)) }
     requires le_size { (1 ≤ node.size) × (b + node.size ≤ n) }
@@ -216,6 +221,7 @@ pub fn get_head(table: &[u8]) -> Option<usize>
 }
 
 // Names the first free node in the head.
+#[tactic(auto, unfolding(crate::specs::Node::set_head))]
 pub fn set_head(table: &mut [u8], first: usize)
     requires { (first ≤ 1000000) × (8 ≤ length table.old) }
     ensures { table.new ≡ set_head table.old first }
@@ -246,6 +252,7 @@ pub fn outside(table: &[u8]) -> bool
 }
 
 // Makes of a table of any bytes one whose blocks are all free, in one node.
+#[tactic(auto, unfolding(crate::specs::Format::formatted))]
 pub fn format(table: &mut [u8]) -> Result<(), Refusal>
     ensures { FormatPromise table.old result table.new }
 {

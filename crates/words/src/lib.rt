@@ -12,6 +12,8 @@ fn join(a: u8, b: u8, c: u8, d: u8) -> u32
     a as u32 + b as u32 * 256 + c as u32 * 65536 + d as u32 * 16777216
 }
 
+// The word that stands at a place.
+#[tactic(auto, unfolding(crate::specs::Word::word))]
 pub fn get_u32(s: &[u8], at: usize) -> u32
     requires { at + 4 ≤ length s.now }
     ensures { result ≡ word s.now at }
@@ -19,6 +21,8 @@ pub fn get_u32(s: &[u8], at: usize) -> u32
     join(s[at], s[at + 1], s[at + 2], s[at + 3])
 }
 
+// Puts a word there.
+#[tactic(auto, unfolding(crate::specs::Word::put_word))]
 pub fn put_u32(s: &mut [u8], at: usize, w: u32)
     requires { at + 4 ≤ length s.old }
     ensures { s.new ≡ put_word s.old at w }

@@ -1,8 +1,7 @@
 -- What the join of fragments says of the work list. A fragment is a stretch of a chain whose inner links have been joined. The place of its first node
 -- names its last node, and that of the last the first, in the low 20 bits; the 12 bits above hold the sum of its sizes: at both ends, if it is below
 -- 2,048; else, but for a single node, whose size the table has, the high part at the first node and the low part at the last.
-use Rattle.std.specs.Prelude.{◌≡◌, List, ◌⊎◌, Bool, true, ℕ, ◌+◌, ◌/◌, ◌%◌, ◌<◌, ◌≤◌, length, get_or, set}
-use Rattle.std.specs.Option.{Option, Some, None}
+use Rattle.std.specs.Prelude.{◌≡◌, List, ◌⊎◌, Bool, true, ℕ, ◌+◌, ◌/◌, ◌%◌, ◌<◌, ◌≤◌, length, get_or, set, Option, Some, None}
 use Rattle.fat_node.specs.Node.{NodeAt, prev_at, next_at}
 use Rattle.fat_table.specs.Sound.{IsNode, Path, Along, Covered, Counted, File, Sound}
 use Rattle.fat_node.specs.declared.Counts.{Counts}

@@ -1,7 +1,6 @@
 -- What the passes say of the work list: 0 where no node starts, 1 at a node that was not come to yet, a colour or the ring's mark at one that was.
 -- Contracts inside the crate.
-use Rattle.std.specs.Prelude.{◌≡◌, Bool, true, false, List, ◌⊎◌, ℕ, zero, suc, ◌+◌, ◌<◌, ◌≤◌, length, get_or, Result, Ok, Err}
-use Rattle.std.specs.Option.{Option, Some, None}
+use Rattle.std.specs.Prelude.{◌≡◌, Bool, true, false, List, ◌⊎◌, ℕ, zero, suc, ◌+◌, ◌<◌, ◌≤◌, length, get_or, Result, Ok, Err, Option, Some, None}
 use Rattle.order.specs.Answer.{unbroken}
 use Rattle.fat_node.specs.Entry.{Bytes}
 use Rattle.order.specs.declared.Fault.{Fault}

@@ -1,6 +1,5 @@
 -- What the readers of a node and of the head answer.
-use Rattle.std.specs.Prelude.{ℕ, ◌≡◌, Result, Ok, Err}
-use Rattle.std.specs.Option.{Option, Some, None}
+use Rattle.std.specs.Prelude.{ℕ, ◌+◌, ◌≡◌, Result, Ok, Err, Option, Some, None}
 use Rattle.fat_node.specs.Entry.{Bytes, v_at}
 use Rattle.fat_node.specs.Node.{NodeAt, prev_at, next_at, HeadForm}
 use Rattle.order.specs.Answer.{unbroken}
@@ -14,10 +13,10 @@ pub record Unread (t : Bytes) (n b : ℕ) (f : Fault) : Type 0 where
   pub broken : f.rule ≡ 0 → ⊥
   pub none : (s : ℕ) → NodeAt t n b s → ⊥
 
--- of a node of several blocks the end is read where rules 2 to 5 hold; else f says the first of them that is broken
-abbrev pub EndReads : Bytes → ℕ → ℕ → Result ℕ Fault → Type 0
-EndReads t n b (Ok end) = (span_fault n t b ≡ unbroken) × (end ≡ v_at t (b + 2))
-EndReads t n b (Err f) = (f ≡ span_fault n t b) × (f.rule ≡ 0 → ⊥)
+-- of a node of several blocks the size is read where rules 2 to 5 hold; else f says the first of them that is broken
+abbrev pub SizeReads : Bytes → ℕ → ℕ → Result ℕ Fault → Type 0
+SizeReads t n b (Ok size) = (span_fault n t b ≡ unbroken) × (b + size ≡ v_at t (b + 2))
+SizeReads t n b (Err f) = (f ≡ span_fault n t b) × (f.rule ≡ 0 → ⊥)
 
 -- a node is read where one stands, with its size and its links
 abbrev pub Reads : Bytes → ℕ → ℕ → Result Node Fault → Type 0
