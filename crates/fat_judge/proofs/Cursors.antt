@@ -5,8 +5,6 @@ use Prim.Native.Nat.{ℕ, suc, ◌+◌, ◌-◌, ◌*◌, ◌/◌, ◌%◌, ◌�
 use native.Mathlib.Omega.{arith}
 use native.Mathlib.Nat.{add-mul, suc-mul, mod-lt, div-add-mod', div-lt_iff_lt-mul, mul-le-mul, mul-le-mul_right}
 use mathlib.Core.Bool.{Bool, true, false}
-use lib.Dec.{ltb}
-use borrow.Author.Tests.{ltb-true, ltb-false}
 use Rattle.fat_node.specs.Entry.{Bytes}
 use Rattle.fat_node.specs.Node.{Run}
 use Rattle.fat_table.specs.Chain.{total, size_at}
@@ -70,9 +68,3 @@ stretch_few n t b l w k =
 
 abbrev pub Passes : Bool → ℕ → ℕ → ℕ → Type 0
 Passes r size pos len = (r ≡ true → size < pos + len) × (r ≡ false → pos + len ≤ size)
-
-pub passes_before : (size pos len : ℕ) → size < pos → Passes true size pos len
-passes_before size pos len h = ((λ e. omega (arith, h)), (λ e. let z : ◌≡◌ {A = ℕ} 0 1 = cc in let z' : ⊥ = omega (arith, z) in absurd z'))
-
-pub passes_after : (size pos len : ℕ) → pos ≤ size → Passes (ltb (size - pos) len) size pos len
-passes_after size pos len h = ((λ e. omega (arith, h, ltb-true (size - pos) len e)), (λ e. omega (arith, h, ltb-false (size - pos) len e)))

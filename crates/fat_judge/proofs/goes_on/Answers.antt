@@ -30,8 +30,8 @@ overflow_sub-end-2 c = omega arith
 pub overflow_add-end-2 : goal.overflow_add-end-2
 overflow_add-end-2 c = search far_fits
 
-pub seek_on-sought-requires : goal.seek_on-sought-requires
-seek_on-sought-requires c = search amid_way
+pub seek_on-requires : goal.seek_on-requires
+seek_on-requires c = search amid_way
 
 pub returns-in-Within : goal.returns-in-Within
 returns-in-Within c = search goes_far

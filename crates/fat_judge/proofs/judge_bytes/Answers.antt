@@ -9,8 +9,8 @@ overflow_add-count c = search (count_fits)
 pub overflow_add-first_block : goal.overflow_add-first_block
 overflow_add-first_block c = search (file_fits)
 
-pub seek-sought-requires : goal.seek-sought-requires
-seek-sought-requires c = record { chain_from = search (file_from, are_bytes); le_count = search rules }
+pub seek-requires : goal.seek-requires
+seek-requires c = record { chain_from = search (file_from, are_bytes); le_count = search rules }
 
 pub overflow_sub-from : goal.overflow_sub-from
 overflow_sub-from c = search (part_some, are_bytes)
@@ -27,8 +27,8 @@ goes_on-requires c = record { amid = search (carry_amid, are_bytes); le_block_le
 pub overflow_add-index : goal.overflow_add-index
 overflow_add-index c = search (node_fits, are_bytes)
 
-pub returns-then-goes_on : goal.returns-then-goes_on
-returns-then-goes_on c = search (carry_at, are_bytes)
+pub returns-else-not-goes_on : goal.returns-else-not-goes_on
+returns-else-not-goes_on c = search (carry_at, are_bytes)
 
 pub overflow_sub-count : goal.overflow_sub-count
 overflow_sub-count c = search (past_part, are_bytes)
@@ -39,8 +39,8 @@ overflow_mul-count c = search (past_fits, are_bytes)
 pub returns-then-passes : goal.returns-then-passes
 returns-then-passes c = search (end_out, are_bytes)
 
-pub returns-else-goes_on : goal.returns-else-goes_on
-returns-else-goes_on c = search (carry_out, are_bytes)
+pub returns-then-not-goes_on : goal.returns-then-not-goes_on
+returns-then-not-goes_on c = search (carry_out, are_bytes)
 
 pub returns-else-passes : goal.returns-else-passes
 returns-else-passes c = search (end_at, are_bytes)

@@ -3,8 +3,8 @@ use Rattle.fat_walk.proofs.Found.{head_chain, file_from, are_bytes}
 use borrow.Author.Rules.{rules}
 use Rattle.fat_judge.proofs.judge_count.Goals as goal
 
-pub seek-sought-requires : goal.seek-sought-requires
-seek-sought-requires c = record { chain_from = search (file_from, are_bytes); le_count = search rules }
+pub seek-requires : goal.seek-requires
+seek-requires c = record { chain_from = search (file_from, are_bytes); le_count = search rules }
 
 pub is_end-requires : goal.is_end-requires
 is_end-requires c = search (in_standing, are_bytes)
@@ -15,17 +15,17 @@ returns-then-is_end c = search (resize_same, are_bytes)
 pub last_from-last-requires : goal.last_from-last-requires
 last_from-last-requires c = search (in_amid, are_bytes)
 
-pub seek-more-requires : goal.seek-more-requires
-seek-more-requires c = record { chain_from = search (head_chain, are_bytes); le_count = search (past_some, are_bytes) }
+pub seek-requires-in-Past : goal.seek-requires-in-Past
+seek-requires-in-Past c = record { chain_from = search (head_chain, are_bytes); le_count = search (past_some, are_bytes) }
 
-pub overflow_sub-result : goal.overflow_sub-result
-overflow_sub-result c = search (past_last, are_bytes)
+pub overflow_sub-last : goal.overflow_sub-last
+overflow_sub-last c = search (past_last, are_bytes)
 
 pub returns-else-is_end : goal.returns-else-is_end
 returns-else-is_end c = search (resize_shrink, are_bytes)
 
-pub returns-in-Within-more : goal.returns-in-Within-more
-returns-in-Within-more c = search (resize_grow, are_bytes)
+pub returns-in-Within-seek : goal.returns-in-Within-seek
+returns-in-Within-seek c = search (resize_grow, are_bytes)
 
-pub returns-in-Past-more : goal.returns-in-Past-more
-returns-in-Past-more c = search (resize_full, are_bytes)
+pub returns-in_default : goal.returns-in_default
+returns-in_default c = search (resize_full, are_bytes)

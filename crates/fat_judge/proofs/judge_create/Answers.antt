@@ -8,14 +8,14 @@ use Rattle.fat_judge.proofs.judge_create.Goals as goal
 pub returns-then-block_count-eq0 : goal.returns-then-block_count-eq0
 returns-then-block_count-eq0 c = inl (c.if-block_count-eq0.true, refl)
 
-pub seek-sought-requires : goal.seek-sought-requires
-seek-sought-requires c = record { chain_from = search (head_chain, are_bytes); le_count = search rules }
+pub seek-requires : goal.seek-requires
+seek-requires c = record { chain_from = search (head_chain, are_bytes); le_count = search rules }
 
 pub returns-in_default : goal.returns-in_default
 returns-in_default c = search (create_none, are_bytes)
 
-pub overflow_sub-result : goal.overflow_sub-result
-overflow_sub-result c = search (create_some, are_bytes)
+pub overflow_sub-first : goal.overflow_sub-first
+overflow_sub-first c = search (create_some, are_bytes)
 
 pub returns : goal.returns
 returns c = search (create_at, are_bytes)

@@ -9,8 +9,8 @@ returns-then-not-begins c = search (delete_no_file)
 pub overflow_add-first_block : goal.overflow_add-first_block
 overflow_add-first_block c = search (file_fits, is_file)
 
-pub last_of-last-requires : goal.last_of-last-requires
-last_of-last-requires c = record { chain_from = search (file_from, is_file, are_bytes); fact = λ e. omega (arith, e) }
+pub last_of-requires : goal.last_of-requires
+last_of-requires c = record { chain_from = search (file_from, is_file, are_bytes); fact = λ e. omega (arith, e) }
 
 pub returns : goal.returns
 returns c = search (delete_at)

@@ -13,8 +13,8 @@ returns-then-n-room c = search (list_any, is_file, are_bytes)
 pub overflow_add-first_block : goal.overflow_add-first_block
 overflow_add-first_block c = search (file_fits, is_file)
 
-pub seek-sought-requires : goal.seek-sought-requires
-seek-sought-requires c = record { chain_from = search (file_from, is_file, are_bytes); le_count = search rules }
+pub seek-requires : goal.seek-requires
+seek-requires c = record { chain_from = search (file_from, is_file, are_bytes); le_count = search rules }
 
 pub returns-in-Within : goal.returns-in-Within
 returns-in-Within c = search (list_short, is_file, are_bytes)
