@@ -1,16 +1,14 @@
 -- The blocks of a chain written into a list.
 use mathlib.Core.Path.{◌≡◌, refl, sym, ap, subst, subst⁻¹, ◌∙◌}
 use mathlib.Core.List.{List, [], ◌∷◌, ◌++◌, append_assoc}
-use Prim.Native.Nat.{ℕ, suc, ◌+◌, ◌-◌, ◌*◌, ◌≤◌, ◌<◌}
+use Prim.Native.Nat.{ℕ, zero, suc, ◌+◌, ◌-◌, ◌*◌, ◌≤◌}
 use native.Mathlib.Omega.{arith}
 use native.Mathlib.Numerals.{add-one}
-use lib.ListN.{length, set, drop, length-set}
+use lib.ListN.{length, set, drop}
 use lib.Seq.{sets, length-sets, sets-eq}
-use Rattle.order.specs.Answer.{Answer}
 use Rattle.order.specs.Answer as is
-use Rattle.order.proofs.Tests.{test_refused, tests_passed}
+use Rattle.order.proofs.Tests.{tests_passed}
 use Rattle.fat_node.specs.Entry.{Bytes}
-use Rattle.fat_table.specs.Sound.{File}
 use Rattle.fat_promises.specs.Calls.{list_gives, list_tests, list_done, MayList, ListSound}
 use Rattle.fat_promises.proofs.May.{none_list}
 use Rattle.fat_node.specs.Node.{Run, next_at}
@@ -18,51 +16,24 @@ use Rattle.fat_table.specs.Chain.{total, size_at, chain_at, file_at}
 use Rattle.fat_table.specs.Steps.{first}
 use Rattle.fat_promises.specs.Blocks.{blocks_from, blocks_of}
 use Rattle.fat_walk.specs.Inner.Chains.{Standing, Chain}
-use Rattle.fat_judge.specs.Inner.Plans.{ListPlanned}
-use Rattle.fat_judge.specs.declared.ListPlan.{ListPlan}
-use Rattle.fat_judge.specs.declared.ListPlan.TheVariants as list-plan
 use Rattle.fat_table.proofs.Unchanged.{total_append}
 use Rattle.fat_walk.proofs.Nodes.{mid_size, mid_next, mid_standing, mid_pos, mid_within}
 use Rattle.fat_walk.proofs.Walks.{Named, named, ended}
 use Rattle.fat_walk.proofs.Blocks.{length_from, length_blocks, sets_append}
 
--- k numbers of a run are written
-pub record Numbering (l₀ : List ℕ) (at b size : ℕ) (l : List ℕ) (k : ℕ) : Type 0 where
-  pub is : sets l₀ at (blocks_from size b) ≡ sets l (at + k) (blocks_from (size - k) (b + k))
-  pub within : k ≤ size
-  pub long : length l ≡ length l₀
+-- k numbers of a run are written, and one more
+from_last : (k b : ℕ) → blocks_from (suc k) b ≡ blocks_from k b ++ (b + k) ∷ []
+from_last zero b = ap (λ (x : ℕ). x ∷ []) (omega arith)
+from_last (suc k) b =
+    let e : suc b + k ≡ b + suc k = omega arith in
+    ap (λ (l : List ℕ). b ∷ l) (from_last k (suc b) ∙ ap (λ (x : ℕ). blocks_from k (suc b) ++ x ∷ []) e)
 
-pub number_begin : (l : List ℕ) (at b size : ℕ) → Numbering l at b size l 0
-number_begin l at b size =
-    let e : at ≡ at + 0 = omega arith in
-    let f : b ≡ b + 0 = omega arith in
-    let h : size ≡ size - 0 = omega arith in
-    record {
-      is = ap (λ (j : ℕ). sets l j (blocks_from size b)) e ∙ ap (λ (j : ℕ). sets l (at + 0) (blocks_from size j)) f
-          ∙ ap (λ (j : ℕ). sets l (at + 0) (blocks_from j (b + 0))) h;
-      within = omega arith;
-      long = refl;
-    }
-
-pub number_turn : (l₀ : List ℕ) (at b size : ℕ) (l : List ℕ) (k : ℕ) → Numbering l₀ at b size l k → k < size → Numbering l₀ at b size (set l (at + k) (b + k)) (k + 1)
-number_turn l₀ at b size l k w h =
-    let m : ℕ = size - (k + 1) in
-    let e : size - k ≡ suc m = omega arith in
-    let f : suc (at + k) ≡ at + (k + 1) = omega arith in
-    let g : suc (b + k) ≡ b + (k + 1) = omega arith in
-    record {
-      is = w.is
-          ∙ ap (λ (j : ℕ). sets l (at + k) (blocks_from j (b + k))) e
-          ∙ ap (λ (j : ℕ). sets (set l (at + k) (b + k)) j (blocks_from m (suc (b + k)))) f
-          ∙ ap (λ (j : ℕ). sets (set l (at + k) (b + k)) (at + (k + 1)) (blocks_from m j)) g;
-      within = omega arith;
-      long = length-set l (at + k) (b + k) ∙ w.long;
-    }
-
-pub number_end : (l₀ : List ℕ) (at b size : ℕ) (l : List ℕ) (k : ℕ) → Numbering l₀ at b size l k → size ≤ k → l ≡ sets l₀ at (blocks_from size b)
-number_end l₀ at b size l k w h =
-    let e : size - k ≡ 0 = omega arith in
-    sym (w.is ∙ ap (λ (j : ℕ). sets l (at + k) (blocks_from j (b + k))) e)
+pub number_turn : (l : List ℕ) (at b k : ℕ) → set (sets l at (blocks_from k b)) (at + k) (b + k) ≡ sets l at (blocks_from (k + 1) b)
+number_turn l at b k =
+    ap (λ (j : ℕ). set (sets l at (blocks_from k b)) (at + j) (b + k)) (sym (length_from k b))
+    ∙ sym (sets_append (blocks_from k b) ((b + k) ∷ []) l at)
+    ∙ ap (sets l at) (sym (from_last k b))
+    ∙ ap (λ (j : ℕ). sets l at (blocks_from j b)) (sym (add-one k))
 
 -- the blocks of some runs of a chain are written, and index i names the next
 pub record Filling (c : List Run) (l₀ : List ℕ) (i at : ℕ) (l : List ℕ) : Type 0 where
@@ -136,26 +107,16 @@ listed_is c l h =
     let e : 0 + length (blocks_of c) ≡ total c = omega (arith, length_blocks c) in
     sets-eq (blocks_of c) l 0 (omega (arith, e, h)) ∙ ap (λ (j : ℕ). blocks_of c ++ drop j l) e
 
-module _ (n : ℕ) (t : Bytes) (b : ℕ) (list : List ℕ) (r : ListPlan) (s : ListPlanned n t b (length list) r) where
-  pub list_refused : (a : Answer) → r ≡ list-plan.Refused a → ListSound n t b list (list_gives a 0 list)
-  list_refused a e = test_refused (λ a. list_gives a 0 list) (list_done n t b list) (list_tests n t b (length list)) a (subst (ListPlanned n t b (length list)) e s)
+module _ (n : ℕ) (t : Bytes) (b : ℕ) (list : List ℕ) (may : MayList n t b (length list)) where
+  list_room : total (chain_at t n (b + 1)) ≤ length list
+  list_room = omega (arith, may.enough, ap (λ (i : ℕ). total (chain_at t n i)) (add-one b))
 
-  module _ (e : r ≡ list-plan.Listing) where
-    may : MayList n t b (length list)
-    may = subst (ListPlanned n t b (length list)) e s
-
-    pub list_file : File t n b
-    list_file = may.file
-
-    pub list_room : total (chain_at t n (b + 1)) ≤ length list
-    list_room = omega (arith, may.enough, ap (λ (i : ℕ). total (chain_at t n i)) (add-one b))
-
-    pub list_done_lem : (count : ℕ) (l : List ℕ) → (count ≡ total (chain_at t n (b + 1))) × (l ≡ sets list 0 (blocks_of (chain_at t n (b + 1))))
-        → ListSound n t b list (list_gives is.Done count l)
-    list_done_lem count l p =
-        let q : l ≡ blocks_of (file_at n t b) ++ drop (total (file_at n t b)) list =
-        p.1 ∙ listed_is (chain_at t n (b + 1)) list list_room ∙ ap (λ (j : ℕ). blocks_of (chain_at t n j) ++ drop (total (chain_at t n j)) list) (add-one b) in
-        let k : count ≡ total (file_at n t b) = p.0 ∙ ap (λ (j : ℕ). total (chain_at t n j)) (add-one b) in
-        subst⁻¹ (λ (z : List ℕ). ListSound n t b list (list_gives is.Done count z)) q
-        (subst⁻¹ (λ (z : ℕ). ListSound n t b list (list_gives is.Done z (blocks_of (file_at n t b) ++ drop (total (file_at n t b)) list))) k
-        (tests_passed (λ a. list_gives a 0 list) (list_done n t b list) (list_tests n t b (length list)) (none_list n t b (length list) may)))
+  pub list_done_lem : (count : ℕ) (l : List ℕ) → (count ≡ total (chain_at t n (b + 1))) × (l ≡ sets list 0 (blocks_of (chain_at t n (b + 1))))
+      → ListSound n t b list (list_gives is.Done count l)
+  list_done_lem count l p =
+      let q : l ≡ blocks_of (file_at n t b) ++ drop (total (file_at n t b)) list =
+      p.1 ∙ listed_is (chain_at t n (b + 1)) list list_room ∙ ap (λ (j : ℕ). blocks_of (chain_at t n j) ++ drop (total (chain_at t n j)) list) (add-one b) in
+      let k : count ≡ total (file_at n t b) = p.0 ∙ ap (λ (j : ℕ). total (chain_at t n j)) (add-one b) in
+      subst⁻¹ (λ (z : List ℕ). ListSound n t b list (list_gives is.Done count z)) q
+      (subst⁻¹ (λ (z : ℕ). ListSound n t b list (list_gives is.Done z (blocks_of (file_at n t b) ++ drop (total (file_at n t b)) list))) k
+      (tests_passed (λ a. list_gives a 0 list) (list_done n t b list) (list_tests n t b (length list)) (none_list n t b (length list) may)))

@@ -1,6 +1,5 @@
 use Rattle.fat_list.proofs.Lists.{fill_begin, fill_end, fill_count, fill_standing, fill_room, fill_fits, fill_next}
 use native.Mathlib.Omega.{arith}
-use Prim.Native.Nat.{◌-◌}
 use Rattle.fat_list.proofs.number_chain.Goals as goal
 
 pub loop-i-init : goal.loop-i-init
