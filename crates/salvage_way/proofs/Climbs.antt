@@ -1,18 +1,24 @@
 -- Going up, directory by directory: what is counted, and what is listed.
 use mathlib.Core.Path.{◌≡◌, refl, sym, ap, subst, subst⁻¹, ◌∙◌}
-use mathlib.Core.List.{List, [], ◌∷◌}
+use mathlib.Core.List.{List, [], ◌∷◌, ◌++◌}
 use mathlib.Core.Bool.{Bool, true, false, cond}
+use mathlib.Core.Logic.{⊎_elim}
 use Prim.Native.Nat.{ℕ, zero, suc, ◌+◌, ◌*◌, ◌-◌, ◌≤◌, ◌<◌}
 use native.Mathlib.Omega.{arith}
+use native.Mathlib.Nat.{sub-zero, div-add-mod}
 use lib.Dec.{eqb}
-use lib.ListN.{length, get_or, set, length-set}
-use lib.Seq.{sets}
+use lib.ListN.{length, get_or, set, take, length-set, length-append}
+use lib.Seq.{length-take-le, take_all}
+use Rattle.std.proofs.lemmas.List.{append_assoc, append-nil, take_more_set}
 use borrow.Author.Tests.{eq-eqb, ne_eqb}
+use Rattle.links.proofs.Held.{same_or}
+use Rattle.tree_marks.proofs.Walks.{le_or_lt}
 use Rattle.tree_table.specs.Field.{field}
 use Rattle.tree_table.specs.Chain.{member, link_at}
 use Rattle.salvage_tree.specs.Entries.{bound, goes, gone}
 use Rattle.salvage_tree.specs.Inner.Says.{Marks, Sized}
 use Rattle.salvage_tree.proofs.Marked.{stops_zero, stops_over, stops_met, goes_on, marked_met, free_met, marks_on}
+use Rattle.salvage_tree.proofs.Outs.{bound_low}
 use Rattle.salvage_way.specs.Way.{parent_of, way_from, way}
 use Rattle.salvage_way.specs.Inner.Says.{Ready}
 
@@ -48,10 +54,10 @@ pub record Climbing (t : List ℕ) (n : ℕ) (work₀ work : List ℕ) (x left :
   pub marks : Marks work met
   pub long : length work ≡ length work₀
 
-climb_begin : (t : List ℕ) (n : ℕ) (work : List ℕ) (x : ℕ) → Ready t n work → Climbing t n work work x n (way t x)
+climb_begin : (t : List ℕ) (n : ℕ) (work : List ℕ) (x : ℕ) → Ready t n work → Climbing t n work work x (n - 0) (way t x)
 climb_begin t n work x r = record {
   met = gone 40 t;
-  is = begins t x ∙ ap (λ (k : ℕ). way_from k t k (gone 40 t) x) (sym r.sized.is);
+  is = begins t x ∙ ap (λ (k : ℕ). way_from k t k (gone 40 t) x) (sym r.sized.is) ∙ ap {B = List ℕ} (λ (k : ℕ). way_from k t n (gone 40 t) x) (sym (sub-zero n));
   marks = r.marks;
   long = refl;
 }
@@ -77,17 +83,17 @@ module _ (t : List ℕ) (n : ℕ) (work₀ work : List ℕ) (x left : ℕ) (rest
       at_met : (get_or work i 0 ≡ 0 → ⊥) → rest ≡ []
       at_met e = stop (stops_met n g.met x some h (marked_met work g.met x g.marks (λ z. e (ap (λ (j : ℕ). get_or work j 0) q ∙ z))))
 
-      module _ (e : get_or work i 0 ≡ 0) (k : left ≡ 0 → ⊥) where
-        here : rest ≡ x ∷ way_from (left - 1) t n (x ∷ g.met) (parent_of t x)
+      module _ (e : get_or work i 0 ≡ 0) (left' : ℕ) (k : left ≡ left' + 1) where
+        here : rest ≡ x ∷ way_from left' t n (x ∷ g.met) (parent_of t x)
         here =
-            let m : left ≡ suc (left - 1) = omega (arith, k) in
+            let m : left ≡ suc left' = omega (arith, k) in
             g.is ∙ ap (λ (l : ℕ). way_from l t n g.met x) m
-            ∙ way_on (left - 1) t n g.met x (goes_on n g.met x some h (free_met work g.met x g.marks (ap (λ (j : ℕ). get_or work j 0) (sym q) ∙ e)))
+            ∙ way_on left' t n g.met x (goes_on n g.met x some h (free_met work g.met x g.marks (ap (λ (j : ℕ). get_or work j 0) (sym q) ∙ e)))
 
-        on : Ready t n work₀ → (y : ℕ) → y ≡ parent_of t x → Climbing t n work₀ (set work i 1) y (left - 1) (way_from (left - 1) t n (x ∷ g.met) (parent_of t x))
-        on s y f = subst⁻¹ (λ (j : ℕ). Climbing t n work₀ (set work j 1) y (left - 1) (way_from (left - 1) t n (x ∷ g.met) (parent_of t x))) q (record {
+        on : Ready t n work₀ → (y : ℕ) → y ≡ parent_of t x → Climbing t n work₀ (set work i 1) y left' (way_from left' t n (x ∷ g.met) (parent_of t x))
+        on s y f = subst⁻¹ (λ (j : ℕ). Climbing t n work₀ (set work j 1) y left' (way_from left' t n (x ∷ g.met) (parent_of t x))) q (record {
           met = x ∷ g.met;
-          is = ap (way_from (left - 1) t n (x ∷ g.met)) (sym f);
+          is = ap (way_from left' t n (x ∷ g.met)) (sym f);
           marks = marks_on work g.met x g.marks (omega (arith, h, s.sized.long, g.long));
           long = length-set work x 1 ∙ g.long;
         })
@@ -100,7 +106,7 @@ pub record Counting (t : List ℕ) (n : ℕ) (work₀ work : List ℕ) (inode x 
   pub sum : count + length rest ≡ length (way t inode)
   pub few : count + left ≤ n
 
-pub count_begin : (t : List ℕ) (n : ℕ) (work : List ℕ) (inode : ℕ) → Ready t n work → Counting t n work work inode inode n 0
+pub count_begin : (t : List ℕ) (n : ℕ) (work : List ℕ) (inode : ℕ) → Ready t n work → Counting t n work work inode inode (n - 0) 0
 count_begin t n work inode r = record { rest = way t inode; climbing = climb_begin t n work inode r; sum = omega arith; few = omega arith }
 
 module _ (t : List ℕ) (n : ℕ) (work₀ work : List ℕ) (inode x left count : ℕ) (g : Counting t n work₀ work inode x left count) where
@@ -119,63 +125,76 @@ module _ (t : List ℕ) (n : ℕ) (work₀ work : List ℕ) (inode x left count 
   pub count_met : ((x ≡ 0) → ⊥) → x < n → (i : ℕ) → i ≡ x → (get_or work i 0 ≡ 0 → ⊥) → count ≡ length (way t inode)
   count_met p h i q e = counted (at_met t n work₀ work x left g.rest g.climbing p h i q e)
 
-  pub count_on : ((x ≡ 0) → ⊥) → x < n → (i : ℕ) → i ≡ x → get_or work i 0 ≡ 0 → (left ≡ 0 → ⊥) → Ready t n work₀ → (y : ℕ) → y ≡ parent_of t x
-      → Counting t n work₀ (set work i 1) inode y (left - 1) (count + 1)
-  count_on p h i q e k s y f =
-      let r = here t n work₀ work x left g.rest g.climbing p h i q e k in
+  pub count_on : ((x ≡ 0) → ⊥) → x < n → (i : ℕ) → i ≡ x → get_or work i 0 ≡ 0 → (left' : ℕ) → left ≡ left' + 1 → Ready t n work₀ → (y : ℕ) → y ≡ parent_of t x
+      → Counting t n work₀ (set work i 1) inode y left' (count + 1)
+  count_on p h i q e left' k s y f =
+      let r = here t n work₀ work x left g.rest g.climbing p h i q e left' k in
       record {
-        rest = way_from (left - 1) t n (x ∷ g.climbing.met) (parent_of t x);
-        climbing = on t n work₀ work x left g.rest g.climbing p h i q e k s y f;
+        rest = way_from left' t n (x ∷ g.climbing.met) (parent_of t x);
+        climbing = on t n work₀ work x left g.rest g.climbing p h i q e left' k s y f;
         sum = omega (arith, g.sum, ap length r);
         few = omega (arith, g.few, k);
       }
 
-pub count_fits : (t : List ℕ) (n : ℕ) (work₀ work : List ℕ) (inode x left count : ℕ) → Ready t n work₀ → Counting t n work₀ work inode x left count → (left ≡ 0 → ⊥)
-    → count + 1 < 18446744073709551616
-count_fits t n work₀ work inode x left count r g k = omega (arith, g.few, r.sized.few, k)
-
 -- ---- listing
 
-pub record Listing (t : List ℕ) (n : ℕ) (work₀ work : List ℕ) (inode x left : ℕ) (l₀ l : List ℕ) (at : ℕ) : Type 0 where
-  pub rest : List ℕ
-  pub climbing : Climbing t n work₀ work x left rest
-  pub is : sets l₀ 0 (way t inode) ≡ sets l at rest
-  pub sum : at + length rest ≡ length (way t inode)
-  pub long : length l ≡ length l₀
+-- x is the next directory of the way that starts at inode, after the first i, which stand in the list
+pub record Listing (t : List ℕ) (inode x i : ℕ) (l : List ℕ) : Type 0 where
+  pub left : ℕ
+  pub met : List ℕ
+  pub is : way t inode ≡ take i l ++ way_from left t (bound 40 t) met x
 
-pub list_begin : (t : List ℕ) (n : ℕ) (work : List ℕ) (inode : ℕ) (l : List ℕ) → Ready t n work → Listing t n work work inode inode n l l 0
-list_begin t n work inode l r = record { rest = way t inode; climbing = climb_begin t n work inode r; is = refl; sum = omega arith; long = refl }
+pub list_begin : (t : List ℕ) (inode : ℕ) (l : List ℕ) → Listing t inode inode 0 l
+list_begin t inode l = record { left = bound 40 t; met = gone 40 t; is = begins t inode }
 
-module _ (t : List ℕ) (n : ℕ) (work₀ work : List ℕ) (inode x left : ℕ) (l₀ l : List ℕ) (at : ℕ) (g : Listing t n work₀ work inode x left l₀ l at) where
-  listed : g.rest ≡ [] → l ≡ sets l₀ 0 (way t inode)
-  listed e = sym (g.is ∙ ap (sets l at) e)
+goes_below : (n : ℕ) (met : List ℕ) (x : ℕ) → goes n met x ≡ true → x < n
+goes_below n met x e = ⊎_elim
+    (λ h. ⊎_elim
+    (λ z. let f : goes n met x ≡ false = stops_zero n met x z in absurd (cc))
+    (λ z. let f : goes n met x ≡ false = stops_over n met x (omega (arith, z)) h in absurd (cc))
+    (same_or x 0))
+    (λ h. h)
+    (le_or_lt n x)
 
-  pub list_full : left ≡ 0 → l ≡ sets l₀ 0 (way t inode)
-  list_full e = listed (full t n work₀ work x left g.rest g.climbing e)
+-- the way goes on with x, which lies in the table
+record Next (t : List ℕ) (x : ℕ) (rest : List ℕ) : Type 0 where
+  left : ℕ
+  met : List ℕ
+  is : rest ≡ x ∷ way_from left t (bound 40 t) met (parent_of t x)
+  below : x < bound 40 t
 
-  pub list_zero : x ≡ 0 → l ≡ sets l₀ 0 (way t inode)
-  list_zero e = listed (at_zero t n work₀ work x left g.rest g.climbing e)
+next : (k : ℕ) (t met : List ℕ) (x : ℕ) → 0 < length (way_from k t (bound 40 t) met x) → Next t x (way_from k t (bound 40 t) met x)
+next zero t met x h = absurd (omega (arith, h))
+next (suc k) t met x h = go (goes (bound 40 t) met x) refl h
+  where
+    go : (b : Bool) → goes (bound 40 t) met x ≡ b → 0 < length (cond b (x ∷ way_from k t (bound 40 t) (x ∷ met) (parent_of t x)) [])
+        → Next t x (cond b (x ∷ way_from k t (bound 40 t) (x ∷ met) (parent_of t x)) [])
+    go true e h = record { left = k; met = x ∷ met; is = refl; below = goes_below (bound 40 t) met x e }
+    go false e h = absurd (omega (arith, h))
 
-  pub list_over : ((x ≡ 0) → ⊥) → n ≤ x → l ≡ sets l₀ 0 (way t inode)
-  list_over p h = listed (at_over t n work₀ work x left g.rest g.climbing p h)
+module _ (t : List ℕ) (inode x i : ℕ) (l : List ℕ) (long : length l ≡ length (way t inode)) (g : Listing t inode x i l) (h : i < length l) where
+  more : Next t x (way_from g.left t (bound 40 t) g.met x)
+  more = next g.left t g.met x (omega (arith, ap length g.is, length-append (take i l) (way_from g.left t (bound 40 t) g.met x), length-take-le i l))
 
-  pub list_met : ((x ≡ 0) → ⊥) → x < n → (i : ℕ) → i ≡ x → (get_or work i 0 ≡ 0 → ⊥) → l ≡ sets l₀ 0 (way t inode)
-  list_met p h i q e = listed (at_met t n work₀ work x left g.rest g.climbing p h i q e)
+  pub list_in : x * 40 + 40 ≤ length t
+  list_in = omega (arith, more.below, bound_low 40 t, div-add-mod (length t) 40)
 
-  module _ (p : (x ≡ 0) → ⊥) (h : x < n) (i : ℕ) (q : i ≡ x) (e : get_or work i 0 ≡ 0) (k : left ≡ 0 → ⊥) where
-    r : g.rest ≡ x ∷ way_from (left - 1) t n (x ∷ g.climbing.met) (parent_of t x)
-    r = here t n work₀ work x left g.rest g.climbing p h i q e k
+  pub list_on : (y : ℕ) → y ≡ parent_of t x → Listing t inode y (i + 1) (set l i x)
+  list_on y f = record {
+    left = more.left;
+    met = more.met;
+    is = g.is ∙ ap (λ (r : List ℕ). take i l ++ r) more.is
+        ∙ sym (append_assoc (take i l) (x ∷ []) (way_from more.left t (bound 40 t) more.met (parent_of t x)))
+        ∙ ap (λ (a : List ℕ). a ++ way_from more.left t (bound 40 t) more.met (parent_of t x)) (sym (take_more_set l i x h))
+        ∙ ap (λ (z : ℕ). take (i + 1) (set l i x) ++ way_from more.left t (bound 40 t) more.met z) (sym f);
+  }
 
-    pub list_room : length (way t inode) ≤ length l₀ → at < length l
-    list_room f = omega (arith, g.sum, ap length r, g.long, f)
-
-    pub list_on : Ready t n work₀ → (y : ℕ) → y ≡ parent_of t x → Listing t n work₀ (set work i 1) inode y (left - 1) l₀ (set l at x) (at + 1)
-    list_on s y f =
-        let m : suc at ≡ at + 1 = omega arith in
-        record {
-          rest = way_from (left - 1) t n (x ∷ g.climbing.met) (parent_of t x);
-          climbing = on t n work₀ work x left g.rest g.climbing p h i q e k s y f;
-          is = g.is ∙ ap (sets l at) r ∙ ap (λ (j : ℕ). sets (set l at x) j (way_from (left - 1) t n (x ∷ g.climbing.met) (parent_of t x))) m;
-          sum = omega (arith, g.sum, ap length r);
-          long = length-set l at x ∙ g.long;
-        }
+pub list_end : (t : List ℕ) (inode x i : ℕ) (l : List ℕ) → length l ≡ length (way t inode) → Listing t inode x i l → length l ≤ i → l ≡ way t inode
+list_end t inode x i l long g h =
+    let q : way t inode ≡ l ++ way_from g.left t (bound 40 t) g.met x =
+    g.is ∙ ap (λ (a : List ℕ). a ++ way_from g.left t (bound 40 t) g.met x) (take_all i l h) in
+    whole l (way_from g.left t (bound 40 t) g.met x) (omega (arith, ap length q, long)) ∙ sym q
+  where
+    whole : (a r : List ℕ) → length (a ++ r) ≡ length a → a ≡ a ++ r
+    whole a [] e = sym (append-nil a)
+    whole a (z ∷ r) e = absurd (omega (arith, e, length-append a (z ∷ r)))

@@ -1,40 +1,16 @@
 -- `salvage_way::list_way` meets its contract.
 use native.Mathlib.Omega.{arith}
-use Rattle.salvage_way.proofs.Climbs.{list_begin, list_full, list_zero, list_over, list_met, list_on, list_room, ready_in}
+use Rattle.salvage_way.proofs.Climbs.{list_begin, list_in, list_on, list_end}
 use Rattle.salvage_way.proofs.list_way.Goals as goal
 
-pub loop-left-init : goal.loop-left-init
-loop-left-init c = search (list_begin)
-
-pub returns-then-x-eq0 : goal.returns-then-x-eq0
-returns-then-x-eq0 c = search (list_zero)
-
-pub returns-then-n-x : goal.returns-then-n-x
-returns-then-n-x c = search (list_over)
-
-pub bounds-work-i : goal.bounds-work-i
-bounds-work-i c = omega arith
-
-pub returns-then-work-i-ne0 : goal.returns-then-work-i-ne0
-returns-then-work-i-ne0 c = search (list_met)
-
-pub bounds-work-i-in-loop-left : goal.bounds-work-i-in-loop-left
-bounds-work-i-in-loop-left c = omega arith
-
-pub bounds-list-at : goal.bounds-list-at
-bounds-list-at c = search (list_room)
+pub loop-place-init : goal.loop-place-init
+loop-place-init c = list_begin _ _ _
 
 pub parent_of-x-requires : goal.parent_of-x-requires
-parent_of-x-requires c = search (ready_in)
+parent_of-x-requires c = list_in _ _ _ _ _ (omega arith) c.loop-place.invariant (omega arith)
 
-pub overflow_sub-left : goal.overflow_sub-left
-overflow_sub-left c = omega arith
-
-pub loop-left-smaller : goal.loop-left-smaller
-loop-left-smaller c = omega arith
-
-pub loop-left-preserved : goal.loop-left-preserved
-loop-left-preserved c = search (list_on)
+pub loop-place-preserved : goal.loop-place-preserved
+loop-place-preserved c = list_on _ _ _ _ _ (omega arith) c.loop-place.invariant (omega arith) _ c.parent_of-x.ensures
 
 pub returns : goal.returns
-returns c = search (list_full)
+returns c = list_end _ _ _ _ _ (omega arith) c.loop-place.invariant (omega arith)
