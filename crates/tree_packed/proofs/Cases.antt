@@ -1,16 +1,16 @@
 -- What a put gives, by the places of its code.
-use mathlib.Core.Path.{◌≡◌, refl, sym, ap, ◌∙◌, subst}
+use mathlib.Core.Path.{◌≡◌, sym, ap, ◌∙◌}
 use mathlib.Core.List.{List}
-use mathlib.Core.Logic.{◌⊎◌, inl, inr, ⊎_elim, ◌≢◌}
-use mathlib.Core.Bool.{Bool, true, false}
-use Prim.Native.Nat.{ℕ, zero, suc, ◌+◌, ◌-◌, ◌*◌, ◌/◌, ◌≤◌, ◌<◌}
+use mathlib.Core.Logic.{◌≢◌}
+use mathlib.Core.Bool.{true}
+use Prim.Native.Nat.{ℕ, ◌+◌, ◌-◌, ◌*◌, ◌/◌, ◌≤◌, ◌<◌}
 use native.Mathlib.Omega.{arith}
-use lib.Dec.{eqb, ltb}
-use lib.ListN.{length, get_or, set}
+use lib.Dec.{eqb}
+use lib.ListN.{length, set}
 use borrow.Author.Tests.{eq-eqb, ne_eqb, lt-ltb, le-ltb, eqb-true}
-use Rattle.tree_packed.specs.Packed.{inode_at, record_at, Packed, Place, rec, below}
-use Rattle.tree_packed.specs.Put.{Put, IsFull, gives, taken_out, put_in, put_of}
-use Rattle.std.proofs.Common.{Option, Some, None}
+use Rattle.tree_packed.specs.Packed.{Packed, Place, rec}
+use Rattle.tree_packed.specs.Put.{IsFull, gives, taken_out, put_in, put_of}
+use Rattle.std.proofs.Common.{Some, None}
 use Rattle.tree_packed.proofs.Laws.{place_below, listed}
 
 module _ {k : ℕ} {l : List ℕ} (P : Packed k l) (x r : ℕ) (c : ℕ) (e : c ≡ rec k l x) where

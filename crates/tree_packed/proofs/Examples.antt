@@ -1,10 +1,9 @@
 -- Worked puts, computed: a list of seven places, of which the odd one is never used.
 use mathlib.Core.Path.{◌≡◌, refl}
-use mathlib.Core.List.{List, [], ◌∷◌}
-use Prim.Native.Nat.{ℕ}
+use mathlib.Core.List.{[], ◌∷◌}
 use Rattle.tree_packed.specs.Packed.{rec, below}
 use Rattle.tree_packed.specs.Put.{gives, taken_out, put_in, put_of}
-use Rattle.std.proofs.Common.{Option, Some, None}
+use Rattle.std.proofs.Common.{Some, None}
 
 -- the first record, before it a lower one, between them a third
 pub first : put_of 0 (9 ∷ 9 ∷ 9 ∷ 9 ∷ 9 ∷ 9 ∷ 9 ∷ []) 5 1 ≡ gives (Some 1) (5 ∷ 1 ∷ 9 ∷ 9 ∷ 9 ∷ 9 ∷ 9 ∷ [])

@@ -1,19 +1,16 @@
 -- What a put keeps: the list's form, its length, the places past the records, and every other inode's record.
 use mathlib.Core.Path.{◌≡◌, refl, sym, ap, ◌∙◌, subst}
 use mathlib.Core.List.{List}
-use mathlib.Core.Logic.{◌⊎◌, inl, inr, ⊎_elim, ◌≢◌}
-use mathlib.Core.Bool.{Bool, true, false}
-use Prim.Native.Nat.{ℕ, zero, suc, ◌+◌, ◌-◌, ◌*◌, ◌/◌, ◌≤◌, ◌<◌}
+use mathlib.Core.Logic.{⊎_elim, ◌≢◌}
+use Prim.Native.Nat.{ℕ, zero, suc, ◌+◌, ◌-◌, ◌*◌, ◌≤◌, ◌<◌}
 use native.Mathlib.Omega.{arith}
-use lib.Dec.{eqb, ltb}
 use lib.ListN.{length, get_or, set, length-set}
 use lib.Seq.{get_or-set_same, get_or-set_other}
 use borrow.Author.Tests.{eq-eqb, ne_eqb}
-use Rattle.links.specs.Change.{pick, upd}
+use Rattle.links.specs.Change.{upd}
 use Rattle.tree_packed.specs.Packed.{inode_at, record_at, Packed, Place, rec, below}
-use Rattle.tree_packed.specs.Put.{taken_out, put_in}
-use Rattle.tree_packed.proofs.Laws.{le_or_lt, same_or_not, at_same, shorter, apart, rec_at, rec_none, place_below, listed, unlisted}
-use Rattle.tree_packed.proofs.Moves.{Down, Risen, taken_down, put_risen}
+use Rattle.tree_packed.proofs.Laws.{le_or_lt, same_or_not, at_same, shorter, apart, rec_at, rec_none, place_below, unlisted}
+use Rattle.tree_packed.proofs.Moves.{Down, Risen}
 
 -- k records of l, the record r of x put, m records of l'
 pub record Keeps (k : ℕ) (l : List ℕ) (x r m : ℕ) (l' : List ℕ) : Type 0 where

@@ -1,15 +1,13 @@
 -- The laws of a packed list: rising from any record to any later one, the record of an inode, the place of an inode.
-use mathlib.Core.Path.{◌≡◌, refl, sym, ap, ◌∙◌, subst}
+use mathlib.Core.Path.{◌≡◌, refl, ap, ◌∙◌}
 use mathlib.Core.List.{List}
 use mathlib.Core.Logic.{◌⊎◌, inl, inr, ⊎_elim, ◌≢◌}
 use mathlib.Core.Bool.{Bool, true, false}
 use Prim.Native.Nat.{ℕ, zero, suc, ◌+◌, ◌*◌, ◌≤◌, ◌<◌}
-use native.Mathlib.Numerals.{add-one}
 use native.Mathlib.Omega.{arith}
-use lib.Dec.{eqb, ltb, leb}
+use lib.Dec.{eqb, leb}
 use lib.ListN.{length, get_or}
 use borrow.Author.Tests.{eqb-true, eqb-false, leb-true, leb-false, ne_eqb, eq-eqb, lt-ltb, le-ltb}
-use Rattle.links.specs.Change.{pick}
 use Rattle.tree_packed.specs.Packed.{inode_at, record_at, Packed, Place, rec, below}
 
 pub le_or_lt : (a b : ℕ) → (a ≤ b) ⊎ (b < a)

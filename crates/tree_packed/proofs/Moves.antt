@@ -1,13 +1,14 @@
 -- Records that come down by two places, and that go up by two: place by place, as the loops move them, and as taken_out and put_in say it.
-use mathlib.Core.Path.{◌≡◌, refl, sym, ap, ◌∙◌, subst}
+use mathlib.Core.Path.{◌≡◌, sym, ◌∙◌, subst}
 use mathlib.Core.List.{List, [], ◌∷◌, ◌++◌}
-use mathlib.Core.Logic.{◌⊎◌, inl, inr, ⊎_elim, ◌≢◌}
-use Prim.Native.Nat.{ℕ, zero, suc, ◌+◌, ◌-◌, ◌*◌, ◌≤◌, ◌<◌}
+use mathlib.Core.Logic.{⊎_elim}
+use Prim.Native.Nat.{ℕ, ◌+◌, ◌-◌, ◌*◌, ◌≤◌, ◌<◌}
 use native.Mathlib.Omega.{arith}
-use lib.ListN.{length, get_or, set, take, drop, length-append, length-take, length-drop, length-set, get_or-append, get_or-eq_default}
+use lib.ListN.{length, get_or, set, take, drop, length-append, length-drop, length-set, get_or-append}
 use lib.Seq.{get_or-append-add, get_or-take, get_or-drop, get_or-set_same, get_or-set_other, length-take-le, ext_get_or}
+use Rattle.std.specs.List.{CopiedTo, SameBelow, SameFrom}
 use Rattle.tree_packed.specs.Put.{taken_out, put_in}
-use Rattle.tree_packed.proofs.Laws.{le_or_lt, at_same, same_or_not}
+use Rattle.tree_packed.proofs.Laws.{le_or_lt, at_same}
 
 -- pieces of a list one behind the other: its first a places, m, n places from b on, all from e on ------------------------------------------------------
 
@@ -61,26 +62,6 @@ pub record Down (a e : ℕ) (l l' : List ℕ) : Type 0 where
   pub moved : (i : ℕ) → a ≤ i → i + 2 < e → get_or l' i 0 ≡ get_or l (i + 2) 0
   pub past : (i : ℕ) → a ≤ i → e ≤ i + 2 → get_or l' i 0 ≡ get_or l i 0
 
-pub down_begin : (a : ℕ) (l : List ℕ) → Down a (a + 2) l l
-down_begin a l = record { size = refl; front = λ i h. refl; moved = λ i h g. absurd (omega arith); past = λ i h g. refl }
-
-pub down_step : {a : ℕ} {l w : List ℕ} (i : ℕ) → Down a (i + 2) l w → a ≤ i → i + 2 < length l → Down a (i + 1 + 2) l (set w i (get_or w (i + 2) 0))
-down_step {a} {l} {w} i D h g =
-    let v = get_or w (i + 2) 0 in
-    record {
-      size = length-set w i (get_or w (i + 2) 0) ∙ D.size;
-      front = λ t p. get_or-set_other w i t (get_or w (i + 2) 0) 0 (λ z. omega arith) ∙ D.front t p;
-      moved =
-          λ t p q.
-          ⊎_elim
-          (λ (m : i ≤ t).
-          let e : t ≡ i = omega arith in
-          at_same (set w i (get_or w (i + 2) 0)) e ∙ get_or-set_same w i (get_or w (i + 2) 0) 0 (omega (arith, D.size)) ∙ D.past (i + 2) (omega arith) (omega arith) ∙ at_same l (omega arith))
-          (λ (m : t < i). get_or-set_other w i t (get_or w (i + 2) 0) 0 (λ z. omega arith) ∙ D.moved t p (omega arith))
-          (le_or_lt i t);
-      past = λ t p q. get_or-set_other w i t (get_or w (i + 2) 0) 0 (λ z. omega arith) ∙ D.past t p (omega arith);
-    }
-
 pub down_one : {a e : ℕ} {l p q : List ℕ} → Down a e l p → Down a e l q → p ≡ q
 down_one {a} {e} {l} {p} {q} D E =
     ext_get_or 0 p q (D.size ∙ sym E.size)
@@ -119,25 +100,6 @@ pub record Up (i e : ℕ) (l l' : List ℕ) : Type 0 where
   pub front : (t : ℕ) → t < i + 2 → get_or l' t 0 ≡ get_or l t 0
   pub moved : (t : ℕ) → i ≤ t → t < e → get_or l' (t + 2) 0 ≡ get_or l t 0
   pub past : (t : ℕ) → i ≤ t → e ≤ t → get_or l' (t + 2) 0 ≡ get_or l (t + 2) 0
-
-pub up_begin : (e : ℕ) (l : List ℕ) → Up e e l l
-up_begin e l = record { size = refl; front = λ t h. refl; moved = λ t h g. absurd (omega arith); past = λ t h g. refl }
-
-pub up_step : {e : ℕ} {l w : List ℕ} (i : ℕ) → Up (i + 1) e l w → i < e → i + 2 < length l → Up i e l (set w (i + 2) (get_or w i 0))
-up_step {e} {l} {w} i U h g =
-    record {
-      size = length-set w (i + 2) (get_or w i 0) ∙ U.size;
-      front = λ t p. get_or-set_other w (i + 2) t (get_or w i 0) 0 (λ z. omega arith) ∙ U.front t (omega arith);
-      moved =
-          λ t p q.
-          ⊎_elim
-          (λ (m : t ≤ i).
-          let s : t ≡ i = omega arith in
-          at_same (set w (i + 2) (get_or w i 0)) (omega arith) ∙ get_or-set_same w (i + 2) (get_or w i 0) 0 (omega (arith, U.size)) ∙ U.front i (omega arith) ∙ at_same l (omega arith))
-          (λ (m : i < t). get_or-set_other w (i + 2) (t + 2) (get_or w i 0) 0 (λ z. omega arith) ∙ U.moved t (omega arith) q)
-          (le_or_lt t i);
-      past = λ t p q. get_or-set_other w (i + 2) (t + 2) (get_or w i 0) 0 (λ z. omega arith) ∙ U.past t (omega arith) q;
-    }
 
 -- and x and r stand at the two places
 pub record Risen (a e x r : ℕ) (l l' : List ℕ) : Type 0 where
@@ -197,14 +159,30 @@ put_risen k j x r l h g =
           ∙ at_same l (omega arith);
     }
 
--- one turn of the loop that goes down
-pub up_turn : {i e : ℕ} {l w : List ℕ} → Up i e l w → 0 < i → i ≤ e → e + 2 ≤ length l → Up (i - 1) e l (set w (i - 1 + 2) (get_or w (i - 1) 0))
-up_turn {i} {e} {l} {w} U p h g = up_step (i - 1) (subst (λ (z : ℕ). Up z e l w) (omega arith) U) (omega arith) (omega arith)
+-- what the code's two copies leave
+pub came_down : {k j : ℕ} (l w : List ℕ) → j < k → 2 * k ≤ length l → length w ≡ length l
+    → CopiedTo l w (2 * (j + 1)) (2 * j) (2 * k - 2 * (j + 1)) × SameBelow l w (2 * j) × SameFrom l w (2 * j + (2 * k - 2 * (j + 1))) → w ≡ taken_out k j l
+came_down {k} {j} l w h g size C =
+    down_one
+    (record {
+      size = size;
+      front = λ i p. C.1 i 0 p;
+      moved = λ i p q. C.0 i 0 p (omega arith) ∙ at_same l (omega arith);
+      past = λ i p q. C.2 i 0 (omega arith);
+    })
+    (taken_down k j l h g)
 
--- the loops' ends
-pub down_done : {k j : ℕ} {l w : List ℕ} (i : ℕ) → Down (2 * j) (i + 2) l w → j < k → 2 * k ≤ length l → i + 2 ≡ 2 * k → w ≡ taken_out k j l
-down_done {k} {j} {l} {w} i D h g e = down_one (subst (λ (z : ℕ). Down (2 * j) z l w) e D) (taken_down k j l h g)
-
-pub up_done : {k j i : ℕ} {l w : List ℕ} (x r : ℕ) → Up i (2 * k) l w → i ≡ 2 * j → j ≤ k → 2 * (k + 1) ≤ length l → set (set w i x) (i + 1) r ≡ put_in k j x r l
-up_done {k} {j} {i} {l} {w} x r U e h g =
-    risen_one (subst (λ (z : ℕ). Risen z (2 * k) x r l (set (set w i x) (i + 1) r)) e (up_end x r U (omega arith))) (put_risen k j x r l h g)
+pub went_up : {k j : ℕ} (x r : ℕ) (l w : List ℕ) → j ≤ k → 2 * (k + 1) ≤ length l → length w ≡ length l
+    → CopiedTo l w (2 * j) (2 * (j + 1)) (2 * k - 2 * j) × SameBelow l w (2 * (j + 1)) × SameFrom l w (2 * (j + 1) + (2 * k - 2 * j))
+    → set (set w (2 * j) x) (2 * j + 1) r ≡ put_in k j x r l
+went_up {k} {j} x r l w h g size C =
+    risen_one
+    (up_end x r
+    (record {
+      size = size;
+      front = λ t p. C.1 t 0 (omega arith);
+      moved = λ t p q. C.0 (t + 2) 0 (omega arith) (omega arith) ∙ at_same l (omega arith);
+      past = λ t p q. C.2 (t + 2) 0 (omega arith);
+    })
+    (omega arith))
+    (put_risen k j x r l h g)

@@ -1,9 +1,9 @@
 -- Packed records and one record for each inode are the same: what a put keeps, when it finds the list full, and a run of puts from none open.
 --
 use mathlib.Core.Path.{◌≡◌, refl, sym, ap, ◌∙◌, subst}
-use mathlib.Core.List.{List, [], ◌∷◌}
-use mathlib.Core.Logic.{◌⊎◌, inl, inr, ⊎_elim, ◌≢◌}
-use Prim.Native.Nat.{ℕ, zero, suc, ◌+◌, ◌-◌, ◌*◌, ◌/◌, ◌≤◌, ◌<◌}
+use mathlib.Core.List.{List}
+use mathlib.Core.Logic.{⊎_elim, ◌≢◌}
+use Prim.Native.Nat.{ℕ, ◌+◌, ◌-◌, ◌*◌, ◌/◌, ◌≤◌, ◌<◌}
 use native.Mathlib.Omega.{arith}
 use lib.Dec.{eqb}
 use lib.ListN.{length, get_or, set}
@@ -12,7 +12,7 @@ use borrow.Author.Tests.{eq-eqb, ne_eqb}
 use Rattle.links.specs.Change.{pick, upd}
 use Rattle.tree_packed.specs.Packed.{inode_at, Packed, Place, rec, below}
 use Rattle.tree_packed.specs.Put.{Put, IsFull, gives, taken_out, put_in, put_of}
-use Rattle.tree_packed.specs.Run.{Change, change, dense, Run, none, put}
+use Rattle.tree_packed.specs.Run.{Change, dense, Run, none, put}
 use Rattle.std.proofs.Common.{Option, Some, None}
 use Rattle.tree_packed.proofs.Laws.{le_or_lt, same_or_not, listed}
 use Rattle.tree_packed.proofs.Moves.{taken_down, put_risen}

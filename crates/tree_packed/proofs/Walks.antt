@@ -1,13 +1,18 @@
 -- What the loops over a packed list hold to: the test of its form, and the search by halves.
-use mathlib.Core.Path.{◌≡◌, refl, sym, ap, ◌∙◌, subst}
-use mathlib.Core.List.{List}
-use mathlib.Core.Logic.{◌⊎◌, inl, inr, ⊎_elim, ◌≢◌}
+use mathlib.Core.Path.{◌≡◌, refl, ap, ◌∙◌, subst}
+use mathlib.Core.List.{List, []}
+use mathlib.Core.Logic.{⊎_elim, ◌≢◌}
 use mathlib.Core.Bool.{Bool, true, false}
 use Prim.Native.Nat.{ℕ, zero, suc, ◌+◌, ◌-◌, ◌*◌, ◌/◌, ◌≤◌, ◌<◌}
 use native.Mathlib.Omega.{arith}
-use lib.ListN.{length, get_or}
-use Rattle.tree_packed.specs.Packed.{inode_at, record_at, Packed, Place, rec}
-use Rattle.tree_packed.proofs.Laws.{le_or_lt, at_same, apart, shorter, found, not_found}
+use lib.Dec.{ltb}
+use lib.ListN.{length, get_or, take, drop}
+use lib.Seq.{get_or-take, get_or-drop, length-take-le}
+use borrow.Author.Tests.{ltb-true, ltb-false}
+use Rattle.std.specs.List.Sorted.{IsNonDecreasingBy, IsPartitionPoint}
+use Rattle.std.specs.Simd.{first_chunks}
+use Rattle.tree_packed.specs.Packed.{inode_at, record_at, Packed, Place}
+use Rattle.tree_packed.proofs.Laws.{le_or_lt, at_same, apart}
 
 -- the form ---------------------------------------------------------------------------------------------------------------------------------------------
 
@@ -78,6 +83,27 @@ front_empty {k} {l} {i} h e P = let q : 0 < record_at l i = P.held i h in omega 
 pub short : {k : ℕ} {l : List ℕ} → length l / 2 < k → Packed k l → ⊥
 short {k} {l} h P = let q : 2 * k ≤ length l = P.fits in omega arith
 
+-- the pairs that the code reads ------------------------------------------------------------------------------------------------------------------------
+
+pair_at : (n : ℕ) (l : List ℕ) (i j : ℕ) (d : List ℕ) → i < n → j < 2 → get_or (get_or (first_chunks 2 n l) i d) j 0 ≡ get_or l (2 * i + j) 0
+pair_at zero l i j d h g = absurd (omega arith)
+pair_at (suc n) l zero j d h g = get_or-take 2 l j 0 g ∙ at_same l (omega arith)
+pair_at (suc n) l (suc i) j d h g = pair_at n (drop 2 l) i j d (omega arith) g ∙ get_or-drop 2 l (2 * i + j) 0 ∙ at_same l (omega arith)
+
+-- p are the pairs of l, of which the code looks at the first k
+module _ (l : List ℕ) {p : List (List ℕ)} (k : ℕ) (e : p ≡ first_chunks 2 (length l / 2) l) (h : k ≤ length l / 2) where
+  taken_at : (i j : ℕ) (d : List ℕ) → i < k → j < 2 → get_or (get_or (take k p) i d) j 0 ≡ get_or l (2 * i + j) 0
+  taken_at i j d f g =
+      ap (λ (z : List ℕ). get_or z j 0) (get_or-take k p i d f ∙ ap (λ (z : List (List ℕ)). get_or z i d) e) ∙ pair_at (length l / 2) l i j d (omega arith) g
+
+  pub pair_inode : (i : ℕ) (d : List ℕ) → i < k → get_or (get_or (take k p) i d) 0 0 ≡ inode_at l i
+  pair_inode i d f = taken_at i 0 d f (omega arith) ∙ at_same l (omega arith)
+
+  pub pair_record : (i : ℕ) (d : List ℕ) → i < k → get_or (get_or (take k p) i d) 1 0 ≡ record_at l i
+  pair_record i d f = taken_at i 1 d f (omega arith)
+
+-- the form, as the code tells it ----------------------------------------------------------------------------------------------------------------------
+
 abbrev Tells : Type 0 → Bool → Type 0
 Tells P r = (r ≡ true → P) × (P → r ≡ true)
 
@@ -87,44 +113,27 @@ tells_no f = (λ (e : false ≡ true). let z : ◌≡◌ {A = ℕ} 0 1 = cc in a
 pub tells_yes : {P : Type 0} → P → Tells P true
 tells_yes p = (λ e. p, λ q. refl)
 
--- by halves --------------------------------------------------------------------------------------------------------------------------------------------
+-- the place, as the search by halves finds it ------------------------------------------------------------------------------------------------------------
 
--- the place lies from a to b
-pub record Halves (k : ℕ) (l : List ℕ) (x a b : ℕ) : Type 0 where
-  pub left : a ≤ b
-  pub right : b ≤ k
-  pub under : (i : ℕ) → i < a → inode_at l i < x
-  pub over : (i : ℕ) → b ≤ i → i < k → x ≤ inode_at l i
+module _ {k : ℕ} {l : List ℕ} (P : Packed k l) (x : ℕ) {p : List (List ℕ)} (e : p ≡ first_chunks 2 (length l / 2) l) (n : length p ≡ length l / 2) where
+  fits : k ≤ length l / 2
+  fits = omega (arith, P.fits)
 
-pub halves_begin : (k : ℕ) (l : List ℕ) (x : ℕ) → Halves k l x 0 k
-halves_begin k l x = record { left = omega arith; right = omega arith; under = λ i h. absurd (omega arith); over = λ i h g. absurd (omega arith) }
+  long : length (take k p) ≡ k
+  long = length-take-le k p (omega (arith, fits))
 
-module _ {k : ℕ} {l : List ℕ} (P : Packed k l) {x a b : ℕ} (H : Halves k l x a b) where
-  pub halves_up : (m : ℕ) → m < b → inode_at l m < x → Halves k l x (m + 1) b
-  halves_up m h g =
+  pub inodes_rise : IsNonDecreasingBy (λ (y : List ℕ). get_or y 0 0) (take k p)
+  inodes_rise i j d g h =
+      rw (pair_inode l k e fits i d (omega (arith, long)), pair_inode l k e fits j d (omega (arith, long)))
+      (⊎_elim (λ (m : j ≤ i). let s : inode_at l i ≡ inode_at l j = at_same l (omega arith) in omega arith)
+      (λ (m : i < j). let s : inode_at l i < inode_at l j = apart P i j m (omega (arith, long)) in omega arith)
+      (le_or_lt j i))
+
+  pub place_found : {j : ℕ} → j ≤ length (take k p)
+      → IsPartitionPoint (λ (y : List ℕ). ltb (get_or y 0 0) x ≡ true) (λ (y : List ℕ). ltb (get_or y 0 0) x ≡ false) (take k p) j → Place k l x j
+  place_found {j} b S =
       record {
-        left = omega arith;
-        right = H.right;
-        under =
-            λ i p.
-            ⊎_elim (λ (q : m ≤ i). let e : inode_at l i ≡ inode_at l m = at_same l (omega arith) in omega arith)
-            (λ (q : i < m). let e : inode_at l i < inode_at l m = apart P i m q (omega (arith, H.right)) in omega arith)
-            (le_or_lt m i);
-        over = H.over;
+        within = omega (arith, long);
+        under = λ i h. let s = pair_inode l k e fits i [] (omega (arith, long)) in let q = ltb-true _ _ (S.0 i [] (omega arith) h) in omega arith;
+        over = λ i h g. let s = pair_inode l k e fits i [] g in let q = ltb-false _ _ (S.1 i [] h (omega (arith, long))) in omega arith;
       }
-
-  pub halves_down : (m : ℕ) → a ≤ m → m < b → x ≤ inode_at l m → Halves k l x a m
-  halves_down m h f g =
-      record {
-        left = h;
-        right = omega (arith, H.right);
-        under = H.under;
-        over =
-            λ i p r.
-            ⊎_elim (λ (q : i ≤ m). let e : inode_at l i ≡ inode_at l m = at_same l (omega arith) in omega arith)
-            (λ (q : m < i). let e : inode_at l m < inode_at l i = apart P m i q r in omega arith)
-            (le_or_lt i m);
-      }
-
-  pub halves_end : b ≤ a → Place k l x a
-  halves_end h = record { within = omega (arith, H.left, H.right); under = H.under; over = λ i p q. H.over i (omega arith) q }

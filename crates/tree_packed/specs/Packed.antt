@@ -1,5 +1,5 @@
 -- Open records packed: a list with two places a record, the inode and its record, and the number k of records in it.
-use Rattle.std.specs.Prelude.{◌≡◌, List, ℕ, zero, suc, ◌+◌, ◌*◌, ◌≤◌, ◌<◌, eqb, ltb, length, get_or}
+use Rattle.std.specs.Prelude.{List, ℕ, zero, suc, ◌+◌, ◌*◌, ◌≤◌, ◌<◌, eqb, ltb, length, get_or}
 use Rattle.links.specs.Change.{pick}
 
 abbrev pub inode_at : List ℕ → ℕ → ℕ

@@ -11,21 +11,16 @@ ghost use Rattle.tree_packed.specs.Opens.{opens, InOrder, with_record};
 pub fn well_formed(list: &[u32], k: usize) -> bool
     ensures { (result ≡ true → Packed k list.now) × (Packed k list.now → result ≡ true) }
 {
-    if list.len() / 2 < k {
+    let (pairs, _) = list.as_chunks::<2>();
+    if pairs.len() < k {
         return false;
     }
-    let mut last: u32 = 0;
-    let mut i: usize = 0;
-    while i < k {
-        let x = list[2 * i];
-        if x <= last {
+    let mut last = 0;
+    for pair in &pairs[..k] {
+        if pair[0] <= last || pair[1] == 0 {
             return false;
         }
-        if list[2 * i + 1] == 0 {
-            return false;
-        }
-        last = x;
-        i += 1;
+        last = pair[0];
     }
     true
 }
@@ -35,17 +30,8 @@ fn place_of(list: &[u32], k: usize, inode: u32) -> usize
     requires { Packed k list.now }
     ensures { Place k list.now inode result }
 {
-    let mut a: usize = 0;
-    let mut b = k;
-    while a < b {
-        let m = a + (b - a) / 2;
-        if list[2 * m] < inode {
-            a = m + 1;
-        } else {
-            b = m;
-        }
-    }
-    a
+    let (pairs, _) = list.as_chunks::<2>();
+    pairs[..k].partition_point(|pair| pair[0] < inode)
 }
 
 // The record of an inode, 0 where it has none.
@@ -54,13 +40,11 @@ pub fn record_of(list: &[u32], k: usize, inode: u32) -> u32
     ensures { result ≡ rec k list.now inode }
 {
     let j = place_of(list, k, inode);
-    if k <= j {
-        return 0;
+    if j < k && list[2 * j] == inode {
+        list[2 * j + 1]
+    } else {
+        0
     }
-    if list[2 * j] != inode {
-        return 0;
-    }
-    list[2 * j + 1]
 }
 
 // Whether a record of this inode would find no place.
@@ -68,10 +52,7 @@ pub fn is_full(list: &[u32], k: usize, inode: u32) -> bool
     requires { Packed k list.now }
     ensures { (result ≡ true → IsFull k list.now inode) × (IsFull k list.now inode → result ≡ true) }
 {
-    if k < list.len() / 2 {
-        return false;
-    }
-    record_of(list, k, inode) == 0
+    list.len() / 2 <= k && record_of(list, k, inode) == 0
 }
 
 // Takes the record at place j out: those behind it come down.
@@ -79,12 +60,7 @@ fn take_out(list: &mut [u32], k: usize, j: usize)
     requires { (j < k) × (2 * k ≤ length list.old) }
     ensures { list.new ≡ taken_out k j list.old }
 {
-    let mut i = 2 * j;
-    while i + 2 < 2 * k {
-        let w = list[i + 2];
-        list[i] = w;
-        i += 1;
-    }
+    list.copy_within(2 * (j + 1)..2 * k, 2 * j);
 }
 
 // Puts a record in at place j: those from there on go up.
@@ -92,14 +68,9 @@ fn put_in(list: &mut [u32], k: usize, j: usize, inode: u32, record: u32)
     requires { (j ≤ k) × (2 * (k + 1) ≤ length list.old) }
     ensures { list.new ≡ put_in k j inode «record» list.old }
 {
-    let mut i = 2 * k;
-    while 2 * j < i {
-        i -= 1;
-        let w = list[i];
-        list[i + 2] = w;
-    }
-    list[i] = inode;
-    list[i + 1] = record;
+    list.copy_within(2 * j..2 * k, 2 * (j + 1));
+    list[2 * j] = inode;
+    list[2 * j + 1] = record;
 }
 
 // Puts the record of an inode: inserted, replaced or, where it is 0, taken out. The number of records afterwards, or None where no place is left.

@@ -1,5 +1,4 @@
 -- `tree_packed::put` meets its contract.
-use Prim.Native.Nat.{◌-◌}
 use native.Mathlib.Omega.{arith}
 use Rattle.tree_packed.proofs.Cases.{put_nothing, put_full, put_new, put_out, put_over, there}
 use Rattle.tree_packed.proofs.put.Goals as goal
