@@ -1,31 +1,29 @@
 -- The steps of create, resize and delete as few writes, and the calls: judge, then step.
-use mathlib.Core.Path.{◌≡◌, refl, sym, ap, subst, subst⁻¹, ◌∙◌}
-use mathlib.Core.List.{List, [], ◌∷◌, ◌++◌, append_assoc}
+use mathlib.Core.Path.{◌≡◌, sym, ap, subst, subst⁻¹, ◌∙◌}
+use mathlib.Core.Logic.{◌⊎◌, ⊎_elim}
+use mathlib.Core.List.{List, ◌∷◌, ◌++◌, append_assoc}
 use Prim.Native.Nat.{ℕ, ◌+◌, ◌-◌, ◌≤◌}
 use native.Mathlib.Omega.{arith}
 use Rattle.words.proofs.Laws as words
-use Rattle.order.specs.First.{First}
+use Rattle.std.specs.Prelude.{Ok}
+use Rattle.order.specs.Given.{Given}
 use Rattle.order.specs.Answer.{Answer}
 use Rattle.order.specs.Answer as is
 use Rattle.order.proofs.Tests.{test_refused, tests_passed}
 use Rattle.fat_node.specs.Entry.{Bytes}
 use Rattle.fat_node.specs.Node.{Run, next_at, set_head}
 use Rattle.fat_table.specs.Sound.{File}
-use Rattle.fat_table.specs.Chain.{total, size_at, head_at, chain_at, free_at, file_at}
+use Rattle.fat_table.specs.Chain.{total, size_at, head_at, free_at, file_at}
 use Rattle.fat_table.specs.Steps.{created, resized, deleted}
 use Rattle.fat_table.proofs.Unchanged.{total_append}
-use Rattle.fat_promises.specs.Calls.{create_gives, create_tests, create_rows, create_done, CreateSound, change_gives, resize_tests, resize_rows, resize_done, ResizeSound, delete_tests, delete_rows, delete_done, DeleteSound}
+use Rattle.fat_promises.specs.Calls.{create_gives, create_tests, create_done, CreateSound, change_gives, resize_tests, resize_done, ResizeSound, delete_tests, delete_done, DeleteSound}
 use Rattle.fat_promises.proofs.May.{none_create, none_resize, none_delete}
 use Rattle.fat_walk.specs.Volume.{Volume}
-use Rattle.fat_walk.specs.Inner.Chains.{Standing, StandingAt, Chain, ChainFrom, Inside, LastAt}
+use Rattle.fat_walk.specs.Inner.Chains.{Standing, StandingAt, Chain, Inside, LastAt}
 use Rattle.fat_step.specs.Inner.Writes.{join_at, cut_at}
-use Rattle.fat_judge.specs.Inner.Plans.{TakeAt, CreateAt, CreatePlanned, SameAt, ShrinkAt, GrowAt, ResizePlanned, RecutAt, Recut, DeleteAt, DeletePlanned}
-use Rattle.fat_judge.specs.declared.CreatePlan.{CreatePlan}
-use Rattle.fat_judge.specs.declared.CreatePlan.TheVariants as create-plan
+use Rattle.fat_judge.specs.Inner.Plans.{TakeAt, CreateAt, SameAt, ShrinkAt, GrowAt, ResizePlanned, RecutAt, Recut, DeleteAt}
 use Rattle.fat_judge.specs.declared.ResizePlan.{ResizePlan}
-use Rattle.fat_judge.specs.declared.ResizePlan.TheVariants as resize-plan
-use Rattle.fat_judge.specs.declared.DeletePlan.{DeletePlan}
-use Rattle.fat_judge.specs.declared.DeletePlan.TheVariants as delete-plan
+use Rattle.fat_judge.specs.declared.ResizePlan.TheVariants.{Same, Shrink, Grow}
 use Rattle.fat_walk.proofs.Chains.{free_chain, file_chain}
 use Rattle.fat_step.proofs.Few.{both_is, both_chain, created_few, resized_few, resized_same, deleted_few}
 use Rattle.fat_walk.proofs.Found.{inside_standing, inside_next, inside_part, last_standing, first_standing, first_below, head_chain}
@@ -123,9 +121,9 @@ module _ (n : ℕ) (t : Bytes) (v : Volume n t) (g : words.Bytes t) where
       ∙ deleted_few n t (whole_of n t v g) b w.may.file w.end.before w.end.node w.end.is
 
   -- to the same count
-  pub resize_kept : (b c : ℕ) (r : ResizePlan) → ResizePlanned n t b c r → r ≡ resize-plan.Same → ResizeSound n t b c (change_gives is.Done t)
-  resize_kept b c r s e =
-      let w : SameAt n t b c = subst (ResizePlanned n t b c) e s in
+  pub resize_kept : (b c : ℕ) (p : ResizePlan) → ResizePlanned n t b c (Ok p) → p ≡ Same → ResizeSound n t b c (change_gives is.Done t)
+  resize_kept b c p s e =
+      let w : SameAt n t b c = subst (λ (q : ResizePlan). ResizePlanned n t b c (Ok q)) e s in
       subst (λ (x : Bytes). ResizeSound n t b c (change_gives is.Done x)) (ap (resized n t b) w.same ∙ resized_same n t (whole_of n t v g) b w.may.file)
       (tests_passed (λ a. change_gives a t) (resize_done n t b c) (resize_tests n t b c) (none_resize n t b c w.may))
 
@@ -134,93 +132,81 @@ recut_part n t y x m w = w.at.cut.some
 
 -- the calls ----------------------------------------------------------------------------------------------------
 
-module _ (n : ℕ) (t : Bytes) (c : ℕ) (r : CreatePlan) (s : CreatePlanned n t c r) where
-  pub create_refused : (a : Answer) → r ≡ create-plan.Refused a → CreateSound n t c (create_gives a 0 t)
-  create_refused a e = test_refused (λ a. create_gives a 0 t) (create_done n t c) (create_tests n t c) a (subst (CreatePlanned n t c) e s)
+module _ (n : ℕ) (t : Bytes) (c : ℕ) where
+  pub create_refused : (a : Answer) → Given (create_tests n t c) a → CreateSound n t c (create_gives a 0 t)
+  create_refused a s = test_refused (λ a. create_gives a 0 t) (create_done n t c) (create_tests n t c) a s
 
-  module _ (f x m : ℕ) (e : r ≡ create-plan.Cut f x m) where
-    create_as : CreateAt n t c f x m
-    create_as = subst (CreatePlanned n t c) e s
-
+  module _ (f x m : ℕ) (w : CreateAt n t c f x m) where
     pub create_goes : TakeAt n t x m
-    create_goes = record { count = c; cut = create_as.cut }
+    create_goes = record { count = c; cut = w.cut }
 
     pub create_done_lem : (u : Bytes) → ((c : ℕ) → Inside (free_at n t) c x m → u ≡ created n t c) → CreateSound n t c (create_gives is.Done f u)
     create_done_lem u p =
-        subst⁻¹ (λ (z : Bytes). CreateSound n t c (create_gives is.Done f z)) (p c create_as.cut)
-        (subst⁻¹ (λ (z : ℕ). CreateSound n t c (create_gives is.Done z (created n t c))) create_as.at
-        (tests_passed (λ a. create_gives a 0 t) (create_done n t c) (create_tests n t c) (none_create n t c create_as.may)))
+        subst⁻¹ (λ (z : Bytes). CreateSound n t c (create_gives is.Done f z)) (p c w.cut)
+        (subst⁻¹ (λ (z : ℕ). CreateSound n t c (create_gives is.Done z (created n t c))) w.at
+        (tests_passed (λ a. create_gives a 0 t) (create_done n t c) (create_tests n t c) (none_create n t c w.may)))
 
-module _ (n : ℕ) (t : Bytes) (b c : ℕ) (r : ResizePlan) (s : ResizePlanned n t b c r) where
-  pub resize_refused : (a : Answer) → r ≡ resize-plan.Refused a → ResizeSound n t b c (change_gives a t)
-  resize_refused a e = test_refused (λ a. change_gives a t) (resize_done n t b c) (resize_tests n t b c) a (subst (ResizePlanned n t b c) e s)
+module _ (n : ℕ) (t : Bytes) (b c : ℕ) where
+  pub resize_refused : (a : Answer) → Given (resize_tests n t b c) a → ResizeSound n t b c (change_gives a t)
+  resize_refused a s = test_refused (λ a. change_gives a t) (resize_done n t b c) (resize_tests n t b c) a s
 
-  done : (y x m : ℕ) → RecutAt n t b c y x m → (u : Bytes) → ((b c : ℕ) → RecutAt n t b c y x m → u ≡ resized n t b c) → ResizeSound n t b c (change_gives is.Done u)
-  done y x m w u p =
-      subst⁻¹ (λ (z : Bytes). ResizeSound n t b c (change_gives is.Done z)) (p b c w)
-      (tests_passed (λ a. change_gives a t) (resize_done n t b c) (resize_tests n t b c) (none_resize n t b c w.may))
+  shrink_as : (y x m : ℕ) → ShrinkAt n t b c y x m → RecutAt n t b c y x m
+  shrink_as y x m a =
+      let w : Inside (file_at n t b) c x m = a.cut in
+      record {
+        may = a.may;
+        end = a.end;
+        cut = record {
+          before = w.before;
+          node = w.node;
+          after = w.after ++ free_at n t;
+          is = ap (λ (l : List Run). l ++ free_at n t) w.is ∙ append_assoc w.before (w.node ∷ w.after) (free_at n t);
+          at = w.at;
+          sum = w.sum;
+          some = w.some;
+          fits = w.fits;
+        };
+      }
 
-  module _ (y x m : ℕ) (e : r ≡ resize-plan.Shrink y x m) where
-    shrink_as : RecutAt n t b c y x m
-    shrink_as =
-        let a : ShrinkAt n t b c y x m = subst (ResizePlanned n t b c) e s in
-        let w : Inside (file_at n t b) c x m = a.cut in
-        record {
-          may = a.may;
-          end = a.end;
-          cut = record {
-            before = w.before;
-            node = w.node;
-            after = w.after ++ free_at n t;
-            is = ap (λ (l : List Run). l ++ free_at n t) w.is ∙ append_assoc w.before (w.node ∷ w.after) (free_at n t);
-            at = w.at;
-            sum = w.sum;
-            some = w.some;
-            fits = w.fits;
-          };
-        }
+  grow_as : (y x m : ℕ) → GrowAt n t b c y x m → RecutAt n t b c y x m
+  grow_as y x m a =
+      let w : Inside (free_at n t) (c - total (file_at n t b)) x m = a.cut in
+      record {
+        may = a.may;
+        end = a.end;
+        cut = record {
+          before = file_at n t b ++ w.before;
+          node = w.node;
+          after = w.after;
+          is = ap (λ (l : List Run). file_at n t b ++ l) w.is ∙ sym (append_assoc (file_at n t b) w.before (w.node ∷ w.after));
+          at = w.at;
+          sum = omega (arith, a.more, w.sum, total_append (file_at n t b) w.before);
+          some = w.some;
+          fits = w.fits;
+        };
+      }
 
-    pub shrink_goes : Recut n t y x m
-    shrink_goes = record { file = b; count = c; at = shrink_as }
+  -- a shrink or a grow, judged
+  module _ (p : ResizePlan) (s : ResizePlanned n t b c (Ok p)) (y x m : ℕ) (d : (p ≡ Shrink y x m) ⊎ (p ≡ Grow y x m)) where
+    recut_as : RecutAt n t b c y x m
+    recut_as = ⊎_elim
+        (λ e. shrink_as y x m (subst (λ (q : ResizePlan). ResizePlanned n t b c (Ok q)) e s))
+        (λ e. grow_as y x m (subst (λ (q : ResizePlan). ResizePlanned n t b c (Ok q)) e s))
+        d
 
-    pub shrink_done : (u : Bytes) → ((b c : ℕ) → RecutAt n t b c y x m → u ≡ resized n t b c) → ResizeSound n t b c (change_gives is.Done u)
-    shrink_done u p = done y x m shrink_as u p
+    pub recut_goes : Recut n t y x m
+    recut_goes = record { file = b; count = c; at = recut_as }
 
-  module _ (y x m : ℕ) (e : r ≡ resize-plan.Grow y x m) where
-    grow_as : RecutAt n t b c y x m
-    grow_as =
-        let a : GrowAt n t b c y x m = subst (ResizePlanned n t b c) e s in
-        let w : Inside (free_at n t) (c - total (file_at n t b)) x m = a.cut in
-        record {
-          may = a.may;
-          end = a.end;
-          cut = record {
-            before = file_at n t b ++ w.before;
-            node = w.node;
-            after = w.after;
-            is = ap (λ (l : List Run). file_at n t b ++ l) w.is ∙ sym (append_assoc (file_at n t b) w.before (w.node ∷ w.after));
-            at = w.at;
-            sum = omega (arith, a.more, w.sum, total_append (file_at n t b) w.before);
-            some = w.some;
-            fits = w.fits;
-          };
-        }
+    pub recut_done : (u : Bytes) → ((b c : ℕ) → RecutAt n t b c y x m → u ≡ resized n t b c) → ResizeSound n t b c (change_gives is.Done u)
+    recut_done u q =
+        subst⁻¹ (λ (z : Bytes). ResizeSound n t b c (change_gives is.Done z)) (q b c recut_as)
+        (tests_passed (λ a. change_gives a t) (resize_done n t b c) (resize_tests n t b c) (none_resize n t b c recut_as.may))
 
-    pub grow_goes : Recut n t y x m
-    grow_goes = record { file = b; count = c; at = grow_as }
+module _ (n : ℕ) (t : Bytes) (b : ℕ) where
+  pub delete_refused : (a : Answer) → Given (delete_tests n t b) a → DeleteSound n t b (change_gives a t)
+  delete_refused a s = test_refused (λ a. change_gives a t) (delete_done n t b) (delete_tests n t b) a s
 
-    pub grow_done : (u : Bytes) → ((b c : ℕ) → RecutAt n t b c y x m → u ≡ resized n t b c) → ResizeSound n t b c (change_gives is.Done u)
-    grow_done u p = done y x m grow_as u p
-
-module _ (n : ℕ) (t : Bytes) (b : ℕ) (r : DeletePlan) (s : DeletePlanned n t b r) where
-  pub delete_refused : (a : Answer) → r ≡ delete-plan.Refused a → DeleteSound n t b (change_gives a t)
-  delete_refused a e = test_refused (λ a. change_gives a t) (delete_done n t b) (delete_tests n t b) a (subst (DeletePlanned n t b) e s)
-
-  module _ (y : ℕ) (e : r ≡ delete-plan.Join y) where
-    pub delete_goes : DeleteAt n t b y
-    delete_goes = subst (DeletePlanned n t b) e s
-
-    pub delete_done_lem : (u : Bytes) → u ≡ deleted n t b → DeleteSound n t b (change_gives is.Done u)
-    delete_done_lem u p =
-        subst⁻¹ (λ (z : Bytes). DeleteSound n t b (change_gives is.Done z)) p
-        (tests_passed (λ a. change_gives a t) (delete_done n t b) (delete_tests n t b) (none_delete n t b delete_goes.may))
+  pub delete_done_lem : (y : ℕ) → DeleteAt n t b y → (u : Bytes) → u ≡ deleted n t b → DeleteSound n t b (change_gives is.Done u)
+  delete_done_lem y w u p =
+      subst⁻¹ (λ (z : Bytes). DeleteSound n t b (change_gives is.Done z)) p
+      (tests_passed (λ a. change_gives a t) (delete_done n t b) (delete_tests n t b) (none_delete n t b w.may))

@@ -1,22 +1,12 @@
 use Rattle.fat_walk.proofs.Found.{are_bytes}
-use Rattle.fat_step.proofs.Steps.{resize_refused, resize_kept, shrink_goes, shrink_done, grow_goes, grow_done}
-use borrow.Author.Rules.{rules}
+use Rattle.fat_step.proofs.Steps.{resize_kept, recut_goes, recut_done}
 use Rattle.fat_step.proofs.resize_told.Goals as goal
 
-pub resize_step-requires : goal.resize_step-requires
-resize_step-requires c = record { volume = search rules; recut = search (shrink_goes) }
-
-pub resize_step-requires-in-Grow : goal.resize_step-requires-in-Grow
-resize_step-requires-in-Grow c = record { volume = search rules; recut = search (grow_goes) }
-
-pub returns-in-Refused : goal.returns-in-Refused
-returns-in-Refused c = search (resize_refused)
+pub resize_step-requires-clause-recut : goal.resize_step-requires-clause-recut
+resize_step-requires-clause-recut c = recut_goes _ _ _ _ _ c.in_ok-judge_resize.ensures _ _ _ c.in-Shrink.is
 
 pub returns-in-Same : goal.returns-in-Same
-returns-in-Same c = search (resize_kept, are_bytes)
+returns-in-Same c = resize_kept _ _ c.requires.volume (search are_bytes) _ _ _ c.in_ok-judge_resize.ensures c.in-Same.is
 
 pub returns-in-Shrink : goal.returns-in-Shrink
-returns-in-Shrink c = search (shrink_done)
-
-pub returns-in-Grow : goal.returns-in-Grow
-returns-in-Grow c = search (grow_done)
+returns-in-Shrink c = recut_done _ _ _ _ _ c.in_ok-judge_resize.ensures _ _ _ c.in-Shrink.is _ c.resize_step.ensures
