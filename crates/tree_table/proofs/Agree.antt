@@ -1,19 +1,15 @@
 -- Two views that the rule can't tell apart: they may differ in the key and the lists of entry 0.
 use mathlib.Core.Path.{◌≡◌, refl, sym, ap, ap₂, ◌∙◌, subst}
-use mathlib.Core.List.{List, [], ◌∷◌, ◌++◌}
-use mathlib.Core.Logic.{◌⊎◌, inl, inr, ⊎_elim, ◌≢◌, ◌↔◌}
-use mathlib.Core.Bool.{Bool, true, false, ◌&&◌}
-use Prim.Native.Nat.{ℕ, zero, suc, ◌+◌, ◌%◌, ◌≤◌, ◌<◌}
+use mathlib.Core.List.{List, [], ◌∷◌}
+use mathlib.Core.Logic.{◌↔◌}
+use Prim.Native.Nat.{ℕ, ◌%◌, ◌≤◌, ◌<◌}
 use native.Mathlib.Omega.{arith}
-use lib.Dec.{eqb}
-use lib.ListN.{length, get_or}
-use Rattle.links.specs.Links.{◌∈◌, Links, Holds}
+use Rattle.links.specs.Links.{Links}
 use Rattle.links.specs.Change.{pick, upd}
 use Rattle.links.proofs.Laws.{by_eq, kept}
-use Rattle.links.proofs.Held.{upd_same, upd_other, holds_kept}
+use Rattle.links.proofs.Held.{holds_kept}
 use Rattle.tree_key.specs.Hash.{hash_of}
-use Rattle.tree_table.specs.View.{View, parent, place, key_at, view_of, Live}
-use Rattle.tree_table.proofs.Table.{not_zero}
+use Rattle.tree_table.specs.View.{View, parent, place, view_of, Live}
 use Rattle.tree_table.proofs.Linked.{Here, Sound, link}
 
 pub record Agree (v v' : View) : Type 0 where

@@ -1,8 +1,7 @@
 -- What the code of the steps has done, place by place.
 use mathlib.Core.Path.{◌≡◌, refl, sym, ap, ap₂, ◌∙◌, subst}
 use mathlib.Core.List.{List, [], ◌∷◌, ◌++◌}
-use mathlib.Core.Logic.{◌≢◌}
-use mathlib.Core.Bool.{Bool, true, false}
+use mathlib.Core.Bool.{true, false}
 use Prim.Native.Nat.{ℕ, zero, suc, ◌+◌, ◌-◌, ◌*◌, ◌/◌, ◌≤◌, ◌<◌}
 use native.Mathlib.Omega.{arith}
 use native.Mathlib.Nat.{mul-le-mul_right}
@@ -14,7 +13,7 @@ use Rattle.words.specs.Word.{word, put_word}
 use Rattle.words.proofs.Laws.{length_put_word, word_put_word_other}
 use Rattle.links.specs.Change.{pick}
 use Rattle.tree_table.specs.Field.{field, Write, write, wrote, start}
-use Rattle.tree_table.specs.Steps.{take_writes, cut_writes, head_writes, copy_writes, give_writes}
+use Rattle.tree_table.specs.Steps.{take_writes, copy_writes, give_writes}
 
 pub wrote_append : (w : ℕ) (ws vs : List Write) (t : List ℕ) → wrote w t (ws ++ vs) ≡ wrote w (wrote w t ws) vs
 wrote_append w [] vs t = refl

@@ -1,24 +1,23 @@
 -- The walks along a list: where it goes on, and where it has ended.
 use mathlib.Core.Path.{◌≡◌, refl, sym, ap, ap₂, ◌∙◌, subst}
 use mathlib.Core.List.{List, [], ◌∷◌, ◌++◌, append_assoc, append-nil}
-use mathlib.Core.Logic.{◌⊎◌, inl, inr, ⊎_elim, ◌≢◌}
+use mathlib.Core.Logic.{inl, inr, ⊎_elim, ◌≢◌}
 use mathlib.Core.Bool.{Bool, true, false}
 use Prim.Native.Nat.{ℕ, zero, suc, ◌+◌, ◌-◌, ◌*◌, ◌≤◌, ◌<◌}
 use native.Mathlib.Omega.{arith}
 use lib.Dec.{eqb}
-use borrow.Author.Tests.{eq-eqb, ne_eqb, eqb-true, eqb-false}
+use borrow.Author.Tests.{eq-eqb, ne_eqb, eqb-true}
 use native.Mathlib.Numerals.{add-one}
 use lib.ListN.{length, get_or, set, take, drop, length-set, take-append-drop}
 use lib.Seq.{get_or-take, get_or-drop, take-suc-set, drop-set-lt, drop-drop}
 use Rattle.words.specs.Word.{word}
 use Rattle.links.specs.Links.{◌∈◌, Links}
 use Rattle.links.specs.Change.{pick, walk, before}
-use Rattle.links.proofs.Laws.{by_eq, walked, one_list}
+use Rattle.links.proofs.Laws.{by_eq, walked}
 use Rattle.tree_key.specs.Key.{key_of, same_key}
 use Rattle.tree_table.specs.Field.{field}
 use Rattle.tree_table.specs.View.{key_at}
 use Rattle.tree_table.specs.Chain.{link_at, list_at, Ends, member, seek_in}
-use Rattle.tree_table.specs.declared.Hit.{Hit}
 
 -- a walk is no longer than its fuel
 length_walk : (next : ℕ → ℕ) (k x : ℕ) → length (walk next k x) ≤ k

@@ -1,21 +1,20 @@
 -- The steps as writes are the steps on views, whatever the width.
-use mathlib.Core.Path.{◌≡◌, refl, sym, ap, ap₂, ◌∙◌, subst}
+use mathlib.Core.Path.{◌≡◌, refl, sym, ap, ◌∙◌}
 use mathlib.Core.List.{List, [], ◌∷◌, ◌++◌}
-use mathlib.Core.Logic.{◌⊎◌, inl, inr, ⊎_elim, ◌≢◌, ◌↔◌}
+use mathlib.Core.Logic.{⊎_elim, ◌≢◌}
 use mathlib.Core.Bool.{Bool, true, false, ◌&&◌}
-use Prim.Native.Nat.{ℕ, zero, suc, ◌+◌, ◌-◌, ◌*◌, ◌/◌, ◌%◌, ◌≤◌, ◌<◌}
+use Prim.Native.Nat.{ℕ, zero, suc, ◌+◌, ◌-◌, ◌*◌, ◌/◌, ◌≤◌, ◌<◌}
 use native.Mathlib.Omega.{arith}
 use lib.Dec.{eqb}
 use borrow.Author.Tests.{eq-eqb, ne_eqb}
-use lib.ListN.{length, get_or}
-use Rattle.links.specs.Change.{pick, upd, cut_head, cut_next}
+use Rattle.links.specs.Change.{pick, upd}
 use Rattle.links.proofs.Laws.{by_eq}
-use Rattle.links.proofs.Held.{same_or, upd_same, upd_other}
+use Rattle.links.proofs.Held.{same_or, upd_other}
 use Rattle.tree_table.specs.Field.{Write, write}
-use Rattle.tree_table.specs.View.{View, parent, place, key_at, view_of}
-use Rattle.tree_table.specs.Steps.{take_writes, enter_writes, cut_writes, copy_writes, give_writes, bucket_before, child_before, taken}
+use Rattle.tree_table.specs.View.{View, place, key_at, view_of}
+use Rattle.tree_table.specs.Steps.{cut_writes, copy_writes, give_writes, bucket_before, child_before}
 use Rattle.tree_table.proofs.Field.{put_at, reads}
-use Rattle.tree_table.proofs.Table.{unlink, take, give, not_zero}
+use Rattle.tree_table.proofs.Table.{unlink, give, not_zero}
 use Rattle.tree_table.proofs.Linked.{link}
 use Rattle.tree_table.proofs.Agree.{Agree, keys5}
 

@@ -1,5 +1,5 @@
 -- A list through the words at one place of the entries, as the walks of the code meet it.
-use Rattle.std.specs.Prelude.{◌≡◌, List, [], ◌∷◌, Bool, true, false, ℕ, ◌+◌, ◌*◌, ◌≤◌, eqb, length}
+use Rattle.std.specs.Prelude.{List, [], ◌∷◌, Bool, true, false, ℕ, ◌+◌, ◌*◌, ◌≤◌, eqb, length}
 use Rattle.words.specs.Word.{word}
 use Rattle.links.specs.Links.{◌∈◌, Links}
 use Rattle.links.specs.Change.{pick, walk}

@@ -204,12 +204,9 @@ fn copy_entry(table: &mut [u8], w: usize, x: u32)
     requires { (x * w + w ≤ length table.old) × (4 ≤ w) × (0 < x) }
     ensures { table.new ≡ wrote w table.old (copy_writes (w / 4 - 1) 1 (field w table.old) x) }
 {
-    let n = w / 4 - 1;
-    let mut i: usize = 0;
-    while i < n {
+    for i in 0..w / 4 - 1 {
         let v = link_of(table, w, 4 * i, 0);
         put_link(table, w, 4 * i, x, v);
-        i += 1;
     }
 }
 

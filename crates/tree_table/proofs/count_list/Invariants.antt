@@ -1,5 +1,5 @@
 use mathlib.Core.Path.{◌≡◌}
-use Prim.Native.Nat.{◌+◌, ◌-◌}
+use Prim.Native.Nat.{◌+◌}
 use lib.ListN.{length}
 use Rattle.tree_table.specs.Chain.{list_at, Ends}
 use Rattle.tree_table.proofs.count_list.Given as goal

@@ -1,5 +1,4 @@
 use mathlib.Core.Path.{refl}
-use Prim.Native.Nat.{◌-◌, ◌/◌}
 use borrow.Author.Tests.{eq-eqb, ne_eqb}
 use Rattle.tree_table.proofs.cut_bucket.Goals as goal
 

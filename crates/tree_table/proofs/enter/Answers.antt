@@ -1,4 +1,3 @@
-use Prim.Native.Nat.{◌-◌, ◌/◌}
 use Rattle.tree_table.proofs.enter.Goals as goal
 
 pub returns : goal.returns

@@ -1,5 +1,4 @@
 use mathlib.Core.Path.{◌≡◌}
-use Prim.Native.Nat.{◌-◌}
 use lib.ListN.{length}
 use Rattle.links.specs.Links.{◌∈◌}
 use Rattle.links.specs.Change.{before}

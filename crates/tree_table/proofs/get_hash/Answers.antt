@@ -1,5 +1,4 @@
 use mathlib.Core.Path.{◌∙◌}
-use Prim.Native.Nat.{◌-◌, ◌/◌}
 use Rattle.tree_table.proofs.Cases.{hash_at}
 use Rattle.tree_table.proofs.get_hash.Goals as goal
 

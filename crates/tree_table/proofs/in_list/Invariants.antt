@@ -1,5 +1,4 @@
 use mathlib.Core.Path.{◌≡◌}
-use Prim.Native.Nat.{◌-◌}
 use lib.ListN.{length}
 use Rattle.tree_table.specs.Chain.{list_at, Ends, member}
 use Rattle.tree_table.proofs.in_list.Given as goal

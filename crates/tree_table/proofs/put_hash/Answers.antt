@@ -1,5 +1,4 @@
 use mathlib.Core.Path.{◌∙◌}
-use Prim.Native.Nat.{◌-◌, ◌/◌}
 use Rattle.tree_table.proofs.Cases.{hash_put}
 use Rattle.tree_table.proofs.put_hash.Goals as goal
 

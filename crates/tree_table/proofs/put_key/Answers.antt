@@ -1,5 +1,4 @@
 use Rattle.tree_table.proofs.Cases.{five_puts}
-use Prim.Native.Nat.{◌-◌, ◌/◌}
 use Rattle.tree_table.proofs.put_key.Goals as goal
 
 pub returns : goal.returns

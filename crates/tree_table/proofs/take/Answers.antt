@@ -1,5 +1,5 @@
 use mathlib.Core.Path.{sym, ◌∙◌, subst}
-use Prim.Native.Nat.{◌+◌, ◌-◌, ◌*◌, ◌/◌, ◌≤◌}
+use Prim.Native.Nat.{◌+◌, ◌*◌, ◌≤◌}
 use native.Mathlib.Omega.{arith}
 use lib.ListN.{length}
 use Rattle.tree_table.proofs.Cases.{took_new, took_removed, field_0}

@@ -1,4 +1,3 @@
-use Prim.Native.Nat.{◌-◌}
 use native.Mathlib.Omega.{arith}
 use borrow.Author.Rules.{rules}
 use Rattle.tree_table.proofs.Chain.{goes, fits_at, write_begin, write_fits, write_step, write_end}

@@ -1,4 +1,3 @@
-use Prim.Native.Nat.{◌-◌}
 use lib.ListN.{length}
 use Rattle.tree_table.specs.Chain.{list_at}
 use Rattle.tree_table.proofs.Chain.{Writing}
