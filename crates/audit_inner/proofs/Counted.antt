@@ -14,9 +14,3 @@ module _ (n : ℕ) (t : Bytes) (i : ℕ) (r : Sought) (c : ChainFrom n t i) (w :
   count_in b m k e =
       let z : ⊥ = omega (arith, inside_count n t (chain_at t n i) (n + 1) b m c.chain (says_within (chain_at t n i) (n + 1) r b m w e), c.chain.sum) in
       absurd z
-
-  pub count_out : (j m : ℕ) → r ≡ Past j m → n + 1 - m ≡ total (chain_at t n i)
-  count_out j m e = let p = says_past (chain_at t n i) (n + 1) r j m w e in omega (arith, p.sum)
-
-  pub count_fits : (j m : ℕ) → r ≡ Past j m → m ≤ n + 1
-  count_fits j m e = let p = says_past (chain_at t n i) (n + 1) r j m w e in omega (arith, p.sum)

@@ -85,8 +85,8 @@ lost_some m c was n k e =
     p.1)
     (mark_is c was)
 
-pub lost_never : (m : ℕ) → m ≡ 0 → LostSays m false
-lost_never m z = record { says = λ c was k e. lost_zero m c was z e }
+pub lost_never : (m : ℕ) → m ≡ 0 → LostSays m (not (eqb m 0))
+lost_never m z = record { says = λ c was k e. ap not (eq-eqb m 0 z) ∙ lost_zero m c was z e }
 
 pub lost_told : (m : ℕ) → (m ≡ 0 → ⊥) → LostSays m (ltb m top)
 lost_told m n = record { says = λ c was k e. lost_some m c was n k e }
@@ -166,12 +166,12 @@ module _ (n : ℕ) (chain : ℕ → ℕ) (l : ℕ) (f : Bytes) (y : ℕ) where
 
   -- a file that is not live, or has size 0
   module _ (e : full S y ≡ false) where
-    pub unfull_judged : (r : Judged) → r ≡ record { astray = false; shared = false; over = false } → FileJudged S y r
+    pub unfull_judged : (r : Judged) → (r.astray ≡ false) × ((r.shared ≡ false) × (r.over ≡ false)) → FileJudged S y r
     unfolding astray shared over
     unfull_judged r told = record {
-      astray = ap (λ (j : Judged). j.astray) told ∙ sym (ap (λ (x : Bool). x && not (starts S (S.block y))) e);
-      shared = ap (λ (j : Judged). j.shared) told ∙ sym (ap (λ (x : Bool). x && (starts S (S.block y) && named S y (S.block y))) e);
-      over = ap (λ (j : Judged). j.over) told ∙ sym (ap (λ (x : Bool). x && (starts S (S.block y) && ltb (S.chain (S.block y) * S.each) (S.size y))) e);
+      astray = told.0 ∙ sym (ap (λ (x : Bool). x && not (starts S (S.block y))) e);
+      shared = told.1.0 ∙ sym (ap (λ (x : Bool). x && (starts S (S.block y) && named S y (S.block y))) e);
+      over = told.1.1 ∙ sym (ap (λ (x : Bool). x && (starts S (S.block y) && ltb (S.chain (S.block y) * S.each) (S.size y))) e);
     }
 
     unnamed : (x : ℕ) → named S (suc y) x ≡ named S y x
@@ -277,14 +277,16 @@ module _ (n l : ℕ) (f : Bytes) (y i : ℕ) (work : List ℕ) (e : i ≡ y) whe
   at_inode : get_or work (n + i) 0 ≡ get_or work (n + y) 0
   at_inode = ap (λ (x : ℕ). get_or work (n + x) 0) e
 
-  pub file_dead : (r : Judged) → 0 < y → y < count_of f → (get_or work (n + i) 0 ≡ 0 → ⊥) → r ≡ record { astray = false; shared = false; over = false } → FileSays n l f y work work r
+  pub file_dead : (r : Judged) → 0 < y → y < count_of f → (get_or work (n + i) 0 ≡ 0 → ⊥)
+      → (r.astray ≡ false) × ((r.shared ≡ false) × (r.over ≡ false)) → FileSays n l f y work work r
   file_dead r h j z told = record {
     says = λ chain k w.
         let u : full (subject_of chain n l f) y ≡ false = dead_unfull n chain l f y work w.dead h j (λ q. z (at_inode ∙ q)) in
         record { judged = unfull_judged n chain l f y u r told; looked = unfull_looked n chain l f y u work w };
   }
 
-  pub file_empty : (r : Judged) (size : ℕ) → size ≡ record_size f y → size ≡ 0 → r ≡ record { astray = false; shared = false; over = false } → FileSays n l f y work work r
+  pub file_empty : (r : Judged) (size : ℕ) → size ≡ record_size f y → size ≡ 0
+      → (r.astray ≡ false) × ((r.shared ≡ false) × (r.over ≡ false)) → FileSays n l f y work work r
   file_empty r size q z told = record {
     says = λ chain k w.
         let u : full (subject_of chain n l f) y ≡ false = empty_unfull n chain l f y size q z in

@@ -118,9 +118,6 @@ files_end n l f work₀ list₀ y work list found count w word h F =
 -- what judging inode y asks for
 module _ (n l : ℕ) (f : Bytes) (work₀ list₀ : List ℕ) (y : ℕ) (work list : List ℕ) (found count : ℕ) (w : FilesGoing n l f work₀ list₀ y work list found)
     (e : count ≡ link_at f 48 0 0) (h : y < count) (F : Files f) where
-  pub inode_some : 0 < y
-  inode_some = w.from
-
   pub inode_below : y < count_of f
   inode_below = omega (arith, h, e, count_word f)
 

@@ -34,10 +34,9 @@ fn count_of(table: &[u8], n: usize, first: usize) -> usize
     requires { ChainFrom n table.now first }
     ensures { result ≡ total (chain_at table.now n first) }
 {
-    let sought = fat_walk::seek(table, n, first, n + 1);
-    match sought {
-        Sought::Within { node: _, part: _ } => 0,
-        Sought::Past { last: _, part } => n + 1 - part,
+    match fat_walk::seek(table, n, first, n + 1) {
+        Sought::Within { .. } => 0,
+        Sought::Past { part, .. } => n + 1 - part,
     }
 }
 
@@ -114,7 +113,7 @@ fn size_of(file_table: &[u8], y: u32) -> usize
 }
 
 // Which findings an inode has: its block is no file chain's first; a file of lower inode names the same chain; its size is over the chain's bytes.
-#[derive(Clone, Copy)]
+#[derive(Clone, Copy, Default)]
 pub struct Judged {
     pub astray: bool,
     pub shared: bool,
@@ -127,7 +126,7 @@ fn judge_chain(n: usize, block_len: usize, b: usize, size: usize, work: &mut [u3
     requires block_len_bound { block_len ≤ 65536 }
     ensures { ChainSays n block_len b size work.old work.new result }
 {
-    if n <= b {
+    if n <= b || work[b] == 0 {
         return Judged {
             astray: true,
             shared: false,
@@ -135,30 +134,12 @@ fn judge_chain(n: usize, block_len: usize, b: usize, size: usize, work: &mut [u3
         };
     }
     let m = work[b];
-    if m == 0 {
-        return Judged {
-            astray: true,
-            shared: false,
-            over: false,
-        };
-    }
     let blocks = m % NAMED;
     work[b] = blocks + NAMED;
     Judged {
         astray: false,
         shared: NAMED <= m,
         over: (blocks as usize) * block_len < size,
-    }
-}
-
-// An inode with no finding.
-fn unfound() -> Judged
-    ensures { result ≡ record { astray = false; shared = false; over = false } }
-{
-    Judged {
-        astray: false,
-        shared: false,
-        over: false,
     }
 }
 
@@ -170,11 +151,11 @@ fn judge_file(file_table: &[u8], n: usize, block_len: usize, y: u32, work: &mut 
     ensures { FileSays n block_len file_table.now y work.old work.new result }
 {
     if work[n + tree_table::index(y)] != 0 {
-        return unfound();
+        return Judged::default();
     }
     let size = size_of(file_table, y);
     if size == 0 {
-        return unfound();
+        return Judged::default();
     }
     let b = tree_table::link_of(file_table, FILE, BLOCK, y);
     judge_chain(n, block_len, tree_table::index(b), size, work)

@@ -20,7 +20,7 @@ use Rattle.audit_inner.specs.Volume.{count_of, removed_files, is_live}
 use Rattle.audit_inner.specs.Inner.Marks.{Files, Dead}
 use Rattle.audit_inner.proofs.Judging.{count_word}
 use Rattle.kiosk_inner.specs.Profile.{live_below, live_files, simple, name_of, OddName}
-use Rattle.kiosk_inner.specs.Inner.Judge.{Decides, OneIf, OddAt}
+use Rattle.kiosk_inner.specs.Inner.Judge.{Decides, OddAt}
 
 -- ---- a mark
 
@@ -31,20 +31,13 @@ mark_live : (t : Bool) (m : ℕ) → m ≡ cond t 0 gone → m ≡ 0 → t ≡ t
 mark_live true m e z = refl
 mark_live false m e z = let x : ⊥ = omega (arith, e, z) in absurd x
 
+mark_dead : (t : Bool) (m : ℕ) → m ≡ cond t 0 gone → (m ≡ 0 → ⊥) → t ≡ false
+mark_dead true m e z = absurd (z e)
+mark_dead false m e z = refl
+
 live_mark : (t : Bool) (m : ℕ) → m ≡ cond t 0 gone → t ≡ true → m ≡ 0
 live_mark true m e q = e
 live_mark false m e q = clash (sym q)
-
-mark_one : (t : Bool) (m r : ℕ) → m ≡ cond t 0 gone → OneIf m r → r ≡ cond t 1 0
-mark_one true m r e p = p.yes e
-mark_one false m r e p = p.no (λ z. omega (arith, e, z))
-
--- a mark of 0 counts for one, any other for none
-pub one_live : (m : ℕ) → m ≡ 0 → OneIf m 1
-one_live m e = record { yes = λ z. refl; no = λ h. absurd (h e); most = omega arith }
-
-pub one_dead : (m : ℕ) → (m ≡ 0 → ⊥) → OneIf m 0
-one_dead m h = record { yes = λ z. absurd (h z); no = λ k. refl; most = omega arith }
 
 -- ---- an inode of the walk
 
@@ -86,16 +79,24 @@ none_zero f = refl
 pub count_begin : (f : Bytes) → Files f → Counting f 0 1
 count_begin f F = record { inodes = record { from = omega arith; to = F.some }; is = sym (none_zero f); few = omega arith }
 
-pub count_on : (f : Bytes) (F : Files f) (n : ℕ) (work : List ℕ) (D : Dead n f work) (live y count r : ℕ) (w : Counting f live y) (e : count ≡ link_at f 48 0 0) (h : y < count) (j : ℕ) → j ≡ y
-    → OneIf (get_or work (n + j) 0) r
-    → Counting f (live + r) (y + 1)
-count_on f F n work D live y count r w e h j i p =
-    let q : r ≡ cond (is_live f y) 1 0 = mark_one (is_live f y) (get_or work (n + j) 0) r (inode_mark f F y count w.inodes e n work D h j i) p in
-    record {
-      inodes = inode_next f F y count w.inodes e h;
-      is = omega (arith, w.is, q) ∙ ap (live_below f) (sym (add-one y));
-      few = omega (arith, w.few, p.most);
-    }
+module _ (f : Bytes) (F : Files f) (n : ℕ) (work : List ℕ) (D : Dead n f work) (live y count : ℕ) (w : Counting f live y) (e : count ≡ link_at f 48 0 0) (h : y < count) (j : ℕ) (i : j ≡ y) where
+  counted : (t : Bool) → is_live f y ≡ t → live_below f (y + 1) ≡ live + cond t 1 0
+  counted t p =
+      ap (live_below f) (add-one y) ∙ ap (λ (b : Bool). live_below f y + cond {A = ℕ} b 1 0) p ∙ ap (λ (k : ℕ). k + cond {A = ℕ} t 1 0) (sym w.is)
+
+  pub count_one : get_or work (n + j) 0 ≡ 0 → Counting f (live + 1) (y + 1)
+  count_one z = record {
+    inodes = inode_next f F y count w.inodes e h;
+    is = sym (counted true (mark_live (is_live f y) (get_or work (n + j) 0) (inode_mark f F y count w.inodes e n work D h j i) z));
+    few = omega (arith, w.few);
+  }
+
+  pub count_none : (get_or work (n + j) 0 ≡ 0 → ⊥) → Counting f live (y + 1)
+  count_none z = record {
+    inodes = inode_next f F y count w.inodes e h;
+    is = omega (arith, counted false (mark_dead (is_live f y) (get_or work (n + j) 0) (inode_mark f F y count w.inodes e n work D h j i) z));
+    few = omega (arith, w.few);
+  }
 
 pub place_in : (f : Bytes) (F : Files f) (n : ℕ) (work : List ℕ) (D : Dead n f work) (live y count : ℕ) (w : Counting f live y) (e : count ≡ link_at f 48 0 0) (h : y < count) (j : ℕ)
     → j ≡ y → n + j < length work

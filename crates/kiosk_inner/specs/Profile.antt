@@ -1,6 +1,7 @@
 -- The kiosk's profile (RULES 6.18): six rules, each stated by what breaks it, in their order. n is the number of blocks, t the block table, l the block
 -- length, d the directories' table and f the files'.
 use Rattle.std.specs.Prelude.{◌≡◌, List, [], ◌∷◌, ◌≢◌, Bool, true, false, cond, ◌&&◌, ◌||◌, ℕ, zero, suc, ◌+◌, ◌*◌, ◌<◌, eqb, leb, length, take, drop}
+use Rattle.std.specs.List.{prefix_len, list_all}
 use Rattle.links.specs.Change.{walk}
 use Rattle.order.specs.First.{Row, row, First}
 use Rattle.fat_node.specs.Entry.{Bytes}
@@ -47,13 +48,11 @@ character c = (leb 48 c && leb c 57) || (leb 65 c && leb c 90)
 
 -- how many characters a name begins with
 abbrev pub leading : List ℕ → ℕ
-leading [] = 0
-leading (c ∷ name) = cond (character c) (suc (leading name)) 0
+leading name = prefix_len character name
 
 -- zeros alone
 abbrev pub zeros : List ℕ → Bool
-zeros [] = true
-zeros (c ∷ name) = eqb c 0 && zeros name
+zeros name = list_all (λ c. eqb c 0) name
 
 -- at least one character, and after the last of them zeros to the end
 unfoldable pub simple : List ℕ → Bool

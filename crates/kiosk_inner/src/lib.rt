@@ -1,7 +1,7 @@
 // The kiosk's profile judged on sound tables: it requires soundness and tests nothing.
 #![tactic(auto)]
 
-ghost use Rattle.std.specs.Prelude.{◌≡◌, true, [], ℕ, ◌+◌, ◌*◌, ◌/◌, ◌≤◌, ◌<◌, length, drop};
+ghost use Rattle.std.specs.Prelude.{◌≡◌, true, [], ℕ, ◌+◌, ◌*◌, ◌/◌, ◌≤◌, ◌<◌, length};
 ghost use Rattle.fat_table.specs.Sound.{IsNode, File};
 ghost use Rattle.fat_table.specs.Chain.{head_at};
 ghost use Rattle.fat_walk.specs.Volume.{Volume};
@@ -9,7 +9,7 @@ ghost use Rattle.audit_inner.specs.Findings.{findings};
 ghost use Rattle.audit_inner.specs.Volume.{count_of, is_live, subject};
 ghost use Rattle.audit_inner.specs.Inner.Marks.{Files, Ready, Clear, Dead};
 ghost use Rattle.kiosk_inner.specs.Profile.{OtherDirectory, live_files, Scattered, character, leading, zeros, simple, name_of, OddName, Broken};
-ghost use Rattle.kiosk_inner.specs.Inner.Judge.{Rooted, ReadyProfile, Decides, OneIf, GoesOn, OddAt, Counted, ProfileSays};
+ghost use Rattle.kiosk_inner.specs.Inner.Judge.{Rooted, ReadyProfile, Decides, GoesOn, OddAt, Counted, ProfileSays};
 
 // The widths of the two entry types, and where a name stands in an entry.
 const DIR: usize = tree_key::SaveExtDirEntry::WIDTH;
@@ -27,13 +27,6 @@ fn has_directory(dir_table: &[u8]) -> bool
     first != 0
 }
 
-// 1 for an inode without a mark, else 0.
-fn one_if_live(m: u32) -> usize
-    ensures { OneIf m result }
-{
-    usize::from(m == 0)
-}
-
 // The number of live files, by the marks of the removed ones.
 fn count_live(file_table: &[u8], n: usize, work: &[u32]) -> usize
     requires files { Files file_table.now }
@@ -44,7 +37,9 @@ fn count_live(file_table: &[u8], n: usize, work: &[u32]) -> usize
     let count = tree_table::link_of(file_table, FILE, tree_table::COUNT, 0);
     let mut live: usize = 0;
     for y in 1..count {
-        live += one_if_live(work[n + tree_table::index(y)]);
+        if work[n + tree_table::index(y)] == 0 {
+            live += 1;
+        }
     }
     live
 }
@@ -88,12 +83,11 @@ fn lead(name: &[u8]) -> usize
     name.iter().take_while(|&&c| is_character(c)).count()
 }
 
-// Whether zeros alone stand from place `from` on.
-fn is_padding(name: &[u8], from: usize) -> bool
-    requires { from ≤ length name.now }
-    ensures { result ≡ zeros (drop from name.now) }
+// Whether bytes are zeros alone.
+fn is_padding(bytes: &[u8]) -> bool
+    ensures { result ≡ zeros bytes.now }
 {
-    name[from..].iter().all(|&c| c == 0)
+    bytes.iter().all(|&c| c == 0)
 }
 
 // Whether a name is one or more characters and then zeros.
@@ -101,7 +95,7 @@ fn is_simple(name: &[u8]) -> bool
     ensures { result ≡ simple name.now }
 {
     let count = lead(name);
-    count != 0 && is_padding(name, count)
+    count != 0 && is_padding(&name[count..])
 }
 
 // Whether inode y is a live file with another name; its mark is m.
@@ -121,7 +115,12 @@ fn has_odd_name(file_table: &[u8], n: usize, work: &[u32]) -> bool
     ensures { Decides result (OddName file_table.now) }
 {
     let count = tree_table::link_of(file_table, FILE, tree_table::COUNT, 0);
-    (1..count).any(|y| is_odd(file_table, y, work[n + tree_table::index(y)]))
+    for y in 1..count {
+        if is_odd(file_table, y, work[n + tree_table::index(y)]) {
+            return true;
+        }
+    }
+    false
 }
 
 // The first rule that is broken, 0 where none is, once the findings are counted and the removed inodes marked.

@@ -1,6 +1,5 @@
 use Rattle.audit_inner.proofs.Sweeping.{blocks_begin, blocks_on, blocks_end}
 use native.Mathlib.Omega.{arith}
-use Prim.Native.Nat.{◌-◌}
 use borrow.Author.Rules.{rules}
 use Rattle.audit_inner.proofs.audit_blocks.Goals as goal
 
@@ -18,12 +17,6 @@ overflow_cast-b c = omega arith
 
 pub put-count-requires : goal.put-count-requires
 put-count-requires c = omega arith
-
-pub overflow_add-b : goal.overflow_add-b
-overflow_add-b c = omega arith
-
-pub loop-b-smaller : goal.loop-b-smaller
-loop-b-smaller c = omega arith
 
 pub loop-b-preserved : goal.loop-b-preserved
 loop-b-preserved c = search (blocks_on, rules)

@@ -1,6 +1,5 @@
-use Rattle.audit_inner.proofs.Sweeping.{files_begin, inode_some, inode_below, inode_inside, inode_room, files_fits, files_on, files_end}
+use Rattle.audit_inner.proofs.Sweeping.{files_begin, inode_below, inode_inside, inode_room, files_fits, files_on, files_end}
 use native.Mathlib.Omega.{arith}
-use Prim.Native.Nat.{◌-◌}
 use borrow.Author.Rules.{rules}
 use Rattle.audit_inner.proofs.audit_files.Goals as goal
 
@@ -11,16 +10,10 @@ pub loop-y-init : goal.loop-y-init
 loop-y-init c = files_begin _ _ _ _ _ (omega arith)
 
 pub judge_file-judged-requires : goal.judge_file-judged-requires
-judge_file-judged-requires c = search (inode_some, inode_below, inode_inside, inode_room)
+judge_file-judged-requires c = search (inode_below, inode_inside, inode_room)
 
 pub put_file-found-requires : goal.put_file-found-requires
 put_file-found-requires c = search (files_fits, rules)
-
-pub overflow_add-y : goal.overflow_add-y
-overflow_add-y c = omega arith
-
-pub loop-y-smaller : goal.loop-y-smaller
-loop-y-smaller c = omega arith
 
 pub loop-y-preserved : goal.loop-y-preserved
 loop-y-preserved c = search (files_on, rules)

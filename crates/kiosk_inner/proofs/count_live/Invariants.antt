@@ -1,9 +1,5 @@
 use Rattle.kiosk_inner.proofs.Files.{Counting}
-use Prim.Native.Nat.{◌-◌}
 use Rattle.kiosk_inner.proofs.count_live.Given as goal
 
 abbrev pub invariant-loop-y : goal.invariant-loop-y
 invariant-loop-y l = Counting l.file_table l.live l.y
-
-abbrev pub decreases-loop-y : goal.decreases-loop-y
-decreases-loop-y l = l.count - l.y

@@ -1,9 +1,5 @@
 use Rattle.kiosk_inner.proofs.Files.{Naming}
-use Prim.Native.Nat.{◌-◌}
 use Rattle.kiosk_inner.proofs.has_odd_name.Given as goal
 
 abbrev pub invariant-loop-y : goal.invariant-loop-y
 invariant-loop-y l = Naming l.file_table l.y
-
-abbrev pub decreases-loop-y : goal.decreases-loop-y
-decreases-loop-y l = l.count - l.y

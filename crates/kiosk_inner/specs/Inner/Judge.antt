@@ -32,12 +32,6 @@ pub record Decides (r : Bool) (P : Type 0) : Type 0 where
   pub yes : r ≡ true → P
   pub no : r ≡ false → P → ⊥
 
--- r is 1 for an inode with the mark 0, else 0
-pub record OneIf (m r : ℕ) : Type 0 where
-  pub yes : m ≡ 0 → r ≡ 1
-  pub no : (m ≡ 0 → ⊥) → r ≡ 0
-  pub most : r ≤ 1
-
 -- r says whether the node at block b is the first of a chain, other than the one at index head, that has another node
 pub record GoesOn (t : Bytes) (head b : ℕ) (r : Bool) : Type 0 where
   pub yes : r ≡ true → (prev_at t b ≡ 0) × (head ≡ b + 1 → ⊥) × (next_at t b ≡ 0 → ⊥)
