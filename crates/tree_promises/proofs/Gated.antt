@@ -12,15 +12,14 @@ use Rattle.order.specs.Gate.{refusal}
 use Rattle.order.specs.Given.{None}
 use Rattle.order.specs.Giving.{giving}
 use Rattle.order.specs.Beside.{beside, Promised}
-use Rattle.order.specs.Answer.{Answer}
-use Rattle.order.specs.Answer.{BrokenTree}
+use Rattle.order.specs.Answer.{Answer, Done, BrokenTree}
+use Rattle.order.specs.declared.Refusal.{Refusal}
+use Rattle.std.specs.Prelude.{Err}
 use Rattle.order.proofs.Gate.{gate_given, gate_none}
 use Rattle.order.proofs.Beside.{refused, passed}
 use Rattle.tree_sound.specs.Tables.{Tables, MisfitIn, OutsideIn, rooms_in, SoundIn}
 use Rattle.tree_test.specs.Gate.{entry_gate}
 use Rattle.tree_test.specs.Promise.{GateOf, TreeGateOf, PackedGateOf}
-use Rattle.tree_test.specs.declared.Gated.{Gated}
-use Rattle.tree_test.specs.declared.Gated.TheVariants.{Open, Refused}
 use Rattle.tree_packed.specs.Packed.{Packed, inode_at, record_at}
 use Rattle.tree_packed.specs.Opens.{Opens, InOrder}
 use Rattle.tree_promises.specs.Promise.{worked, TreePromise}
@@ -32,22 +31,22 @@ use Rattle.tree_promises.specs.Inner.Ready.{Ready, ReadyOpens}
 abbrev rows_of : {A : Type 0} → (Answer → List ℕ → A) → Tables → Type 0 → List ℕ → List (Row A)
 rows_of refuse s outside work = entry_gate refuse s outside (length work < rooms_in s) work
 
-abbrev Says : Tables → Type 0 → List ℕ → List ℕ → Gated → Type 0
+abbrev Says : Tables → Type 0 → List ℕ → List ℕ → Answer → Type 0
 Says s outside work work' g = GateOf (rows_of refusal s outside work) (SoundIn s) (rooms_in s) work work' g
 
-module _ {A : Type 0} (refuse : Answer → A) (s : Tables) (outside : Type 0) (work work' : List ℕ) (own : List (Row A)) (done : A) (g : Gated)
+module _ {A : Type 0} (refuse : Answer → A) (s : Tables) (outside : Type 0) (work work' : List ℕ) (own : List (Row A)) (done : A) (g : Answer)
     (says : Says s outside work work' g) where
   abbrev Whole : A → Type 0
   Whole o = Promised (rows_of (λ a w. beside (refuse a) w) s outside work) (worked s work) own done (beside o work')
 
-  shut : (a : Answer) (o : A) → g ≡ Refused a → o ≡ refuse a → Whole o
-  shut a o e q =
+  shut : (why : Refusal) (o : A) → g ≡ Err why → o ≡ refuse (Err why) → Whole o
+  shut why o e q =
       subst⁻¹ Whole q
-      (refused (rows_of (λ a w. beside (refuse a) w) s outside work) (worked s work) own done (beside (refuse a) work')
-      (gate_given (λ a w. beside (refuse a) w) (rooms_in s) work (MisfitIn s) outside (length work < rooms_in s) (row (SoundIn s → ⊥) BrokenTree ∷ []) a work'
+      (refused (rows_of (λ a w. beside (refuse a) w) s outside work) (worked s work) own done (beside (refuse (Err why)) work')
+      (gate_given (λ a w. beside (refuse a) w) (rooms_in s) work (MisfitIn s) outside (length work < rooms_in s) (row (SoundIn s → ⊥) BrokenTree ∷ []) (Err why) work'
       (subst (Says s outside work work') e says)))
 
-  through : (o : A) → g ≡ Open → First own done o → Whole o
+  through : (o : A) → g ≡ Done → First own done o → Whole o
   through o e p =
       let w : None (rows_of refusal s outside work) × SoundIn s × (work' ≡ worked s work) = subst (Says s outside work work') e says in
       subst⁻¹ (λ (l : List ℕ). Promised (rows_of (λ a w. beside (refuse a) w) s outside work) (worked s work) own done (beside o l)) w.2
@@ -62,7 +61,7 @@ some (suc n) f = omega arith
 few : (m n : ℕ) → (m < n → ⊥) → n ≤ m
 few m n f = let h : n < suc m = lt_of_not-le (λ (k : suc m ≤ n). f (omega arith)) in omega arith
 
-module _ (s : Tables) (outside : Type 0) (work work' : List ℕ) (g : Gated) (says : Says s outside work work' g) (e : g ≡ Open) where
+module _ (s : Tables) (outside : Type 0) (work work' : List ℕ) (g : Answer) (says : Says s outside work work' g) (e : g ≡ Done) where
   told : None (rows_of refusal s outside work) × SoundIn s × (work' ≡ worked s work)
   told = subst (Says s outside work work') e says
 
@@ -80,17 +79,17 @@ module _ (s : Tables) (outside : Type 0) (work work' : List ℕ) (g : Gated) (sa
 
 -- ---- a call that takes no open records
 
-pub tree_refused : {A : Type 0} (refuse : Answer → A) (s : Tables) (work work' : List ℕ) (own : List (Row A)) (done : A) (g : Gated) (a : Answer) (o : A)
-    → TreeGateOf s work work' g → g ≡ Refused a → o ≡ refuse a → TreePromise refuse s work own done (beside o work')
+pub tree_refused : {A : Type 0} (refuse : Answer → A) (s : Tables) (work work' : List ℕ) (own : List (Row A)) (done : A) (g : Answer) (why : Refusal) (o : A)
+    → TreeGateOf s work work' g → g ≡ Err why → o ≡ refuse (Err why) → TreePromise refuse s work own done (beside o work')
 unfolding TreePromise TreeGateOf
-tree_refused refuse s work work' own done g a o says e q = shut refuse s (OutsideIn s) work work' own done g says a o e q
+tree_refused refuse s work work' own done g why o says e q = shut refuse s (OutsideIn s) work work' own done g says why o e q
 
-pub tree_passed : {A : Type 0} (refuse : Answer → A) (s : Tables) (work work' : List ℕ) (own : List (Row A)) (done : A) (g : Gated) (o : A)
-    → TreeGateOf s work work' g → g ≡ Open → First own done o → TreePromise refuse s work own done (beside o work')
+pub tree_passed : {A : Type 0} (refuse : Answer → A) (s : Tables) (work work' : List ℕ) (own : List (Row A)) (done : A) (g : Answer) (o : A)
+    → TreeGateOf s work work' g → g ≡ Done → First own done o → TreePromise refuse s work own done (beside o work')
 unfolding TreePromise TreeGateOf
 tree_passed refuse s work work' own done g o says e p = through refuse s (OutsideIn s) work work' own done g says o e p
 
-pub tree_ready : (s : Tables) (work work' : List ℕ) (g : Gated) → TreeGateOf s work work' g → g ≡ Open → Ready s
+pub tree_ready : (s : Tables) (work work' : List ℕ) (g : Answer) → TreeGateOf s work work' g → g ≡ Done → Ready s
 unfolding TreeGateOf
 tree_ready s work work' g says e = ready s (OutsideIn s) work work' g says e (λ h. h)
 
@@ -108,19 +107,19 @@ packed_stable k l n = record {
   held = λ i h. lt_stable 0 (record_at l i) (λ z. n (λ P. z (P.held i h)));
 }
 
-pub packed_refused : (s : Tables) (o : Opens) (work work' : List ℕ) (tests : List (Row Answer)) (done : Outcome) (g : Gated) (a : Answer) (y : Outcome)
-    → PackedGateOf s o work work' g → g ≡ Refused a → y ≡ refuse s o a → PackedPromise s o work tests done (beside y work')
+pub packed_refused : (s : Tables) (o : Opens) (work work' : List ℕ) (tests : List (Row Answer)) (done : Outcome) (g : Answer) (why : Refusal) (y : Outcome)
+    → PackedGateOf s o work work' g → g ≡ Err why → y ≡ refuse s o (Err why) → PackedPromise s o work tests done (beside y work')
 unfolding PackedPromise PackedGateOf
-packed_refused s o work work' tests done g a y says e q =
-    shut (refuse s o) s (OutsideIn s ⊎ (InOrder o → ⊥)) work work' (giving (refuse s o) tests) done g says a y e q
+packed_refused s o work work' tests done g why y says e q =
+    shut (refuse s o) s (OutsideIn s ⊎ (InOrder o → ⊥)) work work' (giving (refuse s o) tests) done g says why y e q
 
-pub packed_passed : (s : Tables) (o : Opens) (work work' : List ℕ) (tests : List (Row Answer)) (done : Outcome) (g : Gated) (y : Outcome)
-    → PackedGateOf s o work work' g → g ≡ Open → Inside s o tests done y → PackedPromise s o work tests done (beside y work')
+pub packed_passed : (s : Tables) (o : Opens) (work work' : List ℕ) (tests : List (Row Answer)) (done : Outcome) (g : Answer) (y : Outcome)
+    → PackedGateOf s o work work' g → g ≡ Done → Inside s o tests done y → PackedPromise s o work tests done (beside y work')
 unfolding PackedPromise PackedGateOf
 packed_passed s o work work' tests done g y says e p =
     through (refuse s o) s (OutsideIn s ⊎ (InOrder o → ⊥)) work work' (giving (refuse s o) tests) done g says y e p
 
-pub packed_ready : (s : Tables) (o : Opens) (work work' : List ℕ) (g : Gated) → PackedGateOf s o work work' g → g ≡ Open → ReadyOpens s o
+pub packed_ready : (s : Tables) (o : Opens) (work work' : List ℕ) (g : Answer) → PackedGateOf s o work work' g → g ≡ Done → ReadyOpens s o
 unfolding PackedGateOf
 packed_ready s o work work' g says e = record {
   ready = ready s (OutsideIn s ⊎ (InOrder o → ⊥)) work work' g says e (λ h. inl h);
