@@ -48,11 +48,10 @@ module _ (name : List ℕ) where
 pub record Judging (name : List ℕ) (i : ℕ) : Type 0 where
   pub starts : get_or name 0 0 ≡ 0 → ⊥
   pub whole : padded i name ≡ true
-  pub low : i ≤ 15
 
 pub judging_begin : {name : List ℕ} → (get_or name 0 0 ≡ 0 → ⊥) → Judging name 0
 unfolding padded
-judging_begin n = record { starts = n; whole = refl; low = omega arith }
+judging_begin n = record { starts = n; whole = refl }
 
 module _ {name : List ℕ} {i : ℕ} (J : Judging name i) where
   module _ (l : i < 15) {r : Bool} (e : r ≡ torn (get_or name i 0) (get_or name (i + 1) 0)) where
@@ -63,18 +62,17 @@ module _ {name : List ℕ} {i : ℕ} (J : Judging name i) where
     judging_on f = record {
       starts = J.starts;
       whole = subst (λ k. padded k name ≡ true) (next name i) (padded_on name i J.whole (sym at_next ∙ f));
-      low = omega arith;
     }
 
     pub judging_torn : r ≡ true → false ≡ legal name
     unfolding legal
     judging_torn f = sym (right_false (not (eqb (get_or name 0 0) 0)) (stays name 15 (suc i) (omega arith) (torn_there name i (sym at_next ∙ f))))
 
-  pub judging_done : 15 ≤ i → true ≡ legal name
-  unfolding legal
-  judging_done h =
-      let q : i ≡ 15 = omega (arith, J.low) in
-      sym (both (ap not (ne_eqb (get_or name 0 0) 0 J.starts)) (subst (λ k. padded k name ≡ true) q J.whole))
+pub judging_done : {name : List ℕ} {i : ℕ} → Judging name i → i ≤ 15 → 15 ≤ i → true ≡ legal name
+unfolding legal
+judging_done {name} {i} J h l =
+    let q : i ≡ 15 = omega arith in
+    sym (both (ap not (ne_eqb (get_or name 0 0) 0 J.starts)) (subst (λ k. padded k name ≡ true) q J.whole))
 
 pub judging_empty : (name : List ℕ) → get_or name 0 0 ≡ 0 → false ≡ legal name
 unfolding legal

@@ -1,4 +1,3 @@
-use Prim.Native.Nat.{◌-◌}
 use Rattle.tree_legal.proofs.Names.{judging_begin, judging_on, judging_torn, judging_done, judging_empty}
 use Rattle.tree_legal.proofs.is_legal.Goals as goal
 
