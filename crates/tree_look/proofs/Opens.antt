@@ -1,27 +1,24 @@
 -- The rows of open and close, by the places of their code.
-use mathlib.Core.Path.{◌≡◌, refl, sym, ap, ◌∙◌, subst, subst⁻¹}
-use mathlib.Core.Bool.{Bool, true, false, not, false≢true}
-use mathlib.Core.List.{List, [], ◌∷◌, ◌++◌}
+use mathlib.Core.Path.{◌≡◌, refl, ap, ◌∙◌, subst, subst⁻¹}
+use mathlib.Core.Bool.{Bool, true}
+use mathlib.Core.List.{List, [], ◌∷◌}
 use mathlib.Core.Logic.{inl, inr}
-use Prim.Native.Nat.{ℕ, ◌+◌, ◌-◌, ◌*◌, ◌≤◌, ◌<◌}
+use Prim.Native.Nat.{ℕ, ◌+◌, ◌*◌, ◌≤◌, ◌<◌}
 use native.Mathlib.Omega.{arith}
-use borrow.Author.Tests.{not-true, not-false}
 use lib.ListN.{length, take, drop}
 use Rattle.order.specs.First.{Row, First}
 use Rattle.order.specs.Giving.{giving}
 use Rattle.order.specs.Given.{Given, None}
-use Rattle.order.specs.Answer.{Answer}
-use Rattle.order.specs.Answer.{Done, NotFound, TooManyOpens}
+use Rattle.std.specs.Prelude.{Err}
+use Rattle.order.specs.declared.Refusal.{Refusal}
+use Rattle.order.specs.Answer.{Answer, Done, NotFound, TooManyOpens}
 use Rattle.tree_table.specs.Field.{field}
 use Rattle.order.specs.Tells.{Tells}
-use Rattle.tree_test.proofs.Cases.{tells_not}
 use Rattle.tree_packed.specs.Packed.{rec}
 use Rattle.tree_packed.specs.Put.{IsFull}
 use Rattle.tree_packed.specs.Opens.{Opens, opens, record_of, with_record}
-use Rattle.tree_opens.specs.Step.{more, less, more_tests, less_tests, SteppedBy}
+use Rattle.tree_opens.specs.Step.{more, less, more_tests, less_tests}
 use Rattle.tree_opens.specs.declared.Want.{Want}
-use Rattle.tree_opens.specs.declared.Stepped.{Stepped}
-use Rattle.tree_opens.specs.declared.Stepped.TheVariants.{To, Refused}
 use Rattle.tree_sound.specs.Tables.{Tables, tables, dirs, files}
 use Rattle.tree_promises.specs.declared.Kind.TheVariants.{Directory, File}
 use Rattle.tree_promises.specs.Steps.{with_carried}
@@ -31,75 +28,69 @@ use Rattle.tree_promises.specs.Calls.{live_tests, part, shown_rows, shown_gives,
 use Rattle.tree_look.proofs.Given.{given_first, none_first}
 use Rattle.tree_look.proofs.Lists.{inside, all_fit}
 
-module _ (t : List ℕ) (w x k : ℕ) (l : List ℕ) (want : Want) (r : Bool) (T : Tells (LiveAt w t x) r) where
+module _ (t : List ℕ) (w x k : ℕ) (l : List ℕ) (want : Want) where
   abbrev o : Opens
   o = opens k l
 
-  pub open_none : not r ≡ true → OpenIn (alone w t) (opens k l) x want (opening_in NotFound (opens k l))
+  pub open_none : (LiveAt w t x → ⊥) → OpenIn (alone w t) (opens k l) x want (opening_in NotFound (opens k l))
   unfolding OpenIn
-  open_none e = inl (tells_not T (not-true r e), refl)
+  open_none gone = inl (gone, refl)
 
-  pub close_none : not r ≡ true → CloseIn (alone w t) (opens k l) x want (opening_in NotFound (opens k l))
+  pub close_none : (LiveAt w t x → ⊥) → CloseIn (alone w t) (opens k l) x want (opening_in NotFound (opens k l))
   unfolding CloseIn
-  close_none e = inl (tells_not T (not-true r e), refl)
+  close_none gone = inl (gone, refl)
 
-  module _ (e : not r ≡ false) where
-    module _ (b : Bool) (F : (b ≡ true → IsFull k l x) × (IsFull k l x → b ≡ true)) where
-      pub open_full : b ≡ true → OpenIn (alone w t) (opens k l) x want (opening_in TooManyOpens (opens k l))
-      unfolding OpenIn
-      open_full f = inr (λ k. k (T.yes (not-false r e)), inl (F.0 f, refl))
+  module _ (live : LiveAt w t x) where
+    pub open_full : IsFull k l x → OpenIn (alone w t) (opens k l) x want (opening_in TooManyOpens (opens k l))
+    unfolding OpenIn
+    open_full full = inr (λ gone. gone live, inl (full, refl))
 
-      module _ (no : b ≡ false) (n : ℕ) (count : n ≡ rec k l x) (s : Stepped) (p : SteppedBy (more_tests n want) (more n want) s) where
-        place : IsFull k l x → ⊥
-        place f = false≢true (sym no ∙ F.1 f)
-
-        pub open_refused : (a : Answer) → s ≡ Refused a → OpenIn (alone w t) (opens k l) x want (opening_in a (opens k l))
+    module _ {n : ℕ} (count : n ≡ rec k l x) where
+      module _ (place : IsFull k l x → ⊥) where
+        pub open_refused : (why : Refusal) → Given (more_tests n want) (Err why) → OpenIn (alone w t) (opens k l) x want (opening_in (Err why) (opens k l))
         unfolding OpenIn
-        open_refused a q =
+        open_refused why q =
             inr (
-              λ k. k (T.yes (not-false r e)),
+              λ gone. gone live,
               inr (
                 place,
-                given_first (λ a. opening_in a o) (opening_in Done (with_record o x (more (record_of o x) want))) (more_tests (record_of o x) want) a
-                    (subst (λ z. Given (more_tests z want) a) count (subst (SteppedBy (more_tests n want) (more n want)) q p)),
+                given_first (λ a. opening_in a o) (opening_in Done (with_record o x (more (record_of o x) want))) (more_tests (record_of o x) want) (Err why)
+                    (subst (λ z. Given (more_tests z want) (Err why)) count q),
               ),
             )
 
-        pub open_done : (m k' : ℕ) (l' : List ℕ) → s ≡ To m → opens k' l' ≡ with_record (opens k l) x m
+        pub open_done : {m k' : ℕ} {l' : List ℕ} → None (more_tests n want) × (m ≡ more n want) → opens k' l' ≡ with_record (opens k l) x m
             → OpenIn (alone w t) (opens k l) x want (opening_in Done (opens k' l'))
         unfolding OpenIn
-        open_done m k' l' q f =
-            let g : None (more_tests n want) × (m ≡ more n want) = subst (SteppedBy (more_tests n want) (more n want)) q p in
-            subst⁻¹ (λ (z : Opens). OpenIn (alone w t) o x want (opening_in Done z)) (f ∙ ap (with_record o x) (g.1 ∙ ap (λ z. more z want) count))
+        open_done q f =
+            subst⁻¹ (λ (z : Opens). OpenIn (alone w t) o x want (opening_in Done z)) (f ∙ ap (with_record o x) (q.1 ∙ ap (λ z. more z want) count))
             (inr (
-              λ k. k (T.yes (not-false r e)),
+              λ gone. gone live,
               inr (
                 place,
                 none_first (λ a. opening_in a o) (opening_in Done (with_record o x (more (record_of o x) want))) (more_tests (record_of o x) want)
-                    (subst (λ z. None (more_tests z want)) count g.0),
+                    (subst (λ z. None (more_tests z want)) count q.0),
               ),
             ))
 
-    module _ (n : ℕ) (count : n ≡ rec k l x) (s : Stepped) (p : SteppedBy (less_tests n want) (less n want) s) where
-      pub close_refused : (a : Answer) → s ≡ Refused a → CloseIn (alone w t) (opens k l) x want (opening_in a (opens k l))
+      pub close_refused : (why : Refusal) → Given (less_tests n want) (Err why) → CloseIn (alone w t) (opens k l) x want (opening_in (Err why) (opens k l))
       unfolding CloseIn
-      close_refused a q =
+      close_refused why q =
           inr (
-            λ k. k (T.yes (not-false r e)),
-            given_first (λ a. opening_in a o) (opening_in Done (with_record o x (less (record_of o x) want))) (less_tests (record_of o x) want) a
-                (subst (λ z. Given (less_tests z want) a) count (subst (SteppedBy (less_tests n want) (less n want)) q p)),
+            λ gone. gone live,
+            given_first (λ a. opening_in a o) (opening_in Done (with_record o x (less (record_of o x) want))) (less_tests (record_of o x) want) (Err why)
+                (subst (λ z. Given (less_tests z want) (Err why)) count q),
           )
 
-      pub close_done : (m k' : ℕ) (l' : List ℕ) → s ≡ To m → opens k' l' ≡ with_record (opens k l) x m
+      pub close_done : {m k' : ℕ} {l' : List ℕ} → None (less_tests n want) × (m ≡ less n want) → opens k' l' ≡ with_record (opens k l) x m
           → CloseIn (alone w t) (opens k l) x want (opening_in Done (opens k' l'))
       unfolding CloseIn
-      close_done m k' l' q f =
-          let g : None (less_tests n want) × (m ≡ less n want) = subst (SteppedBy (less_tests n want) (less n want)) q p in
-          subst⁻¹ (λ (z : Opens). CloseIn (alone w t) o x want (opening_in Done z)) (f ∙ ap (with_record o x) (g.1 ∙ ap (λ z. less z want) count))
+      close_done q f =
+          subst⁻¹ (λ (z : Opens). CloseIn (alone w t) o x want (opening_in Done z)) (f ∙ ap (with_record o x) (q.1 ∙ ap (λ z. less z want) count))
           (inr (
-            λ k. k (T.yes (not-false r e)),
+            λ gone. gone live,
             none_first (λ a. opening_in a o) (opening_in Done (with_record o x (less (record_of o x) want))) (less_tests (record_of o x) want)
-                (subst (λ z. None (less_tests z want)) count g.0),
+                (subst (λ z. None (less_tests z want)) count q.0),
           ))
 
 module _ {h t : List ℕ} {w : ℕ} (S : Single h t w) (x i : ℕ) {r : Bool} (T : Tells (LiveAt w t x) r) (yes : r ≡ true) (e : i ≡ x) where
