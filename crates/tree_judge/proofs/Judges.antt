@@ -1,15 +1,15 @@
 -- The tests before a step, by the places of their code.
 use mathlib.Core.Path.{◌≡◌, refl, sym, ap, ◌∙◌, subst}
-use mathlib.Core.Bool.{Bool, true, false, not}
+use mathlib.Core.Bool.{false, not}
 use mathlib.Core.List.{List, [], ◌∷◌, ◌++◌}
-use mathlib.Core.Logic.{◌⊎◌, inl, inr, ⊎_elim, ◌≢◌}
+use mathlib.Core.Logic.{inl, inr, ⊎_elim, ◌≢◌}
 use Prim.Native.Nat.{ℕ, zero, suc, ◌+◌, ◌-◌, ◌*◌, ◌/◌, ◌%◌, ◌≤◌, ◌<◌}
 use native.Mathlib.Omega.{arith}
 use native.Mathlib.Decide.{dec_lt}
 use lib.Dec.{eqb, leb}
 use lib.ListN.{length}
-use borrow.Author.Tests.{not-true, not-false, eq-eqb, ne_eqb, le-leb, leb-true}
-use Rattle.order.specs.First.{Row, row, First}
+use borrow.Author.Tests.{eq-eqb, ne_eqb, le-leb, leb-true}
+use Rattle.order.specs.First.{Row, row}
 use Rattle.order.specs.Given.{Given, None}
 use Rattle.order.specs.Answer.{Answer}
 use Rattle.order.specs.Answer.{NotFound, NotOpen, Busy, DeletingRoot, NotEmpty}
@@ -25,22 +25,19 @@ use Rattle.tree_sound.specs.Sizes.{buckets}
 use Rattle.tree_sound.specs.Tables.{Tables, tables}
 use Rattle.tree_promises.specs.declared.Kind.TheVariants.{Directory}
 use Rattle.tree_promises.specs.Has.{HasOther}
-use Rattle.order.specs.Giving.{giving}
 use Rattle.tree_promises.specs.Calls.{held_tests_of, alone_tests_of, delete_tests_of}
 use Rattle.tree_opens.specs.Record.{readers, writer}
 use Rattle.tree_promises.specs.Inner.Ready.{LiveAt, Single, alone, hashed}
-use Rattle.tree_judge.specs.Inner.Judge.{JudgedBy}
-use Rattle.tree_judge.specs.declared.Judged.{Judged}
-use Rattle.tree_judge.specs.declared.Judged.TheVariants.{Go, Refused}
 use Rattle.tree_look.proofs.Lists.{inside, all_fit, bucket_ends, bucket_list, bucket_is}
 use Rattle.order.specs.Tells.{Tells}
 use Rattle.tree_look.proofs.Lives.{in_hash}
-use Rattle.tree_test.proofs.Cases.{told_false, tells_not}
+use Rattle.tree_test.proofs.Cases.{told_false}
 use Rattle.tree_look.proofs.Lookups.{seek_missed, seek_met}
 
 -- ---- rows in two parts
 
-given_front : (rs qs : List (Row Answer)) (a : Answer) → Given rs a → Given (rs ++ qs) a
+-- what the first tests refuse stays refused
+pub given_front : (rs qs : List (Row Answer)) (a : Answer) → Given rs a → Given (rs ++ qs) a
 given_front [] qs a g = absurd g
 given_front (r ∷ rs) qs a (inl p) = inl p
 given_front (r ∷ rs) qs a (inr p) = inr (p.0, given_front rs qs a p.1)
@@ -52,13 +49,6 @@ given_behind (r ∷ rs) qs a n g = inr (n.0, given_behind rs qs a n.1 g)
 pub none_both : (rs qs : List (Row Answer)) → None rs → None qs → None (rs ++ qs)
 none_both [] qs n m = m
 none_both (r ∷ rs) qs n m = (n.0, none_both rs qs n.1 m)
-
--- what the first tests refuse stays refused
-pub refused_still : (rs qs : List (Row Answer)) (j : Judged) (a : Answer) → JudgedBy rs j → j ≡ Refused a → JudgedBy (rs ++ qs) j
-refused_still rs qs j a J e = subst (JudgedBy (rs ++ qs)) (sym e) (given_front rs qs a (subst (JudgedBy rs) e J))
-
-pub passed : (rs : List (Row Answer)) (j : Judged) → JudgedBy rs j → j ≡ Go → None rs
-passed rs j J e = subst (JudgedBy rs) e J
 
 -- ---- live
 
@@ -74,22 +64,18 @@ pub live_sure : (w : ℕ) (t : List ℕ) (x : ℕ) → ((LiveAt w t x → ⊥) �
 live_sure w t x n =
     (less_sure 0 x (λ k. n (λ l. k l.0)), less_sure x (field w t 0 1) (λ k. n (λ l. k l.1)), λ m. n (λ l. l.2 m))
 
-module _ (t : List ℕ) (w x : ℕ) (opens : ℕ) (r : Bool) (T : Tells (LiveAt w t x) r) where
-  pub held_none : not r ≡ true → Given (held_tests_of (alone w t) opens x) NotFound
-  held_none e = inl (tells_not T (not-true r e), refl)
+module _ (t : List ℕ) (w x : ℕ) (opens : ℕ) where
+  pub held_none : (LiveAt w t x → ⊥) → Given (held_tests_of (alone w t) opens x) NotFound
+  held_none gone = inl (gone, refl)
 
-  module _ (n : ℕ) (e : not r ≡ false) (count : n ≡ writer opens) where
+  module _ (live : LiveAt w t x) (n : ℕ) (count : n ≡ writer opens) where
     pub held_shut : n ≡ 0 → Given (held_tests_of (alone w t) opens x) NotOpen
-    held_shut g = inr (λ k. k (T.yes (not-false r e)), inl (sym count ∙ g, refl))
+    held_shut g = inr (λ k. k live, inl (sym count ∙ g, refl))
 
     pub held_go : (n ≡ 0 → ⊥) → None (held_tests_of (alone w t) opens x)
-    held_go g = (λ k. k (T.yes (not-false r e)), (λ z. g (count ∙ z), tt))
+    held_go g = (λ k. k live, (λ z. g (count ∙ z), tt))
 
-module _ (t : List ℕ) (w x : ℕ) (opens : ℕ) (j : Judged) (J : JudgedBy (held_tests_of (alone w t) opens x) j) (go : j ≡ Go) where
-  held : None (held_tests_of (alone w t) opens x)
-  held = passed (held_tests_of (alone w t) opens x) j J go
-
-  module _ (n : ℕ) (count : n ≡ readers opens) where
+  module _ (held : None (held_tests_of (alone w t) opens x)) (n : ℕ) (count : n ≡ readers opens) where
     pub alone_busy : 0 < n → Given (alone_tests_of (alone w t) opens x) Busy
     alone_busy g = given_behind (held_tests_of (alone w t) opens x) (row (0 < readers opens) Busy ∷ []) Busy held (inl (omega arith, refl))
 

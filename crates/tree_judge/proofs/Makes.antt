@@ -5,7 +5,7 @@ use mathlib.Core.List.{List, [], ◌∷◌}
 use mathlib.Core.Logic.{inl}
 use Prim.Native.Nat.{ℕ, ◌-◌}
 use Rattle.order.specs.First.{Row, row}
-use Rattle.order.specs.Given.{None}
+use Rattle.order.specs.Given.{Given, None}
 use Rattle.order.specs.Answer.{Answer}
 use Rattle.order.specs.Answer.{TooManyOpens}
 use Rattle.tree_table.specs.Chain.{link_at}
@@ -19,10 +19,7 @@ use Rattle.tree_sound.specs.Tables.{Tables}
 use Rattle.tree_promises.specs.Calls.{make_tests}
 use Rattle.tree_promises.specs.Packed.{make_tests_in}
 use Rattle.tree_promises.specs.Inner.Ready.{alone, hashed}
-use Rattle.tree_judge.specs.Inner.Judge.{JudgedBy}
-use Rattle.tree_judge.specs.declared.Judged.{Judged}
-use Rattle.tree_judge.specs.declared.Judged.TheVariants.{Go, Refused}
-use Rattle.tree_judge.proofs.Judges.{passed, refused_still, given_behind, none_both}
+use Rattle.tree_judge.proofs.Judges.{given_front, given_behind, none_both}
 
 -- ---- the place of the new record
 
@@ -38,20 +35,18 @@ next_fresh t w first count e z c = by_eq (field w t 0 0) 0 (λ b. count ≡ pick
 abbrev pub place_tests : Opens → ℕ → List (Row Answer)
 place_tests o x = row (NoPlace o x) TooManyOpens ∷ []
 
-module _ (s : Tables) (w : ℕ) (h t : List ℕ) (k : ℕ) (l : List ℕ) (p : ℕ) (name : List ℕ) (j : Judged) (J : JudgedBy (make_tests s (hashed w h t) p name) j) where
-  pub made_refused : (a : Answer) → j ≡ Refused a → JudgedBy (make_tests_in s (hashed w h t) (opens k l) p name) j
-  made_refused a e = refused_still (make_tests s (hashed w h t) p name) (place_tests (opens k l) (taken (hashed w h t))) j a J e
+module _ (s : Tables) (w : ℕ) (h t : List ℕ) (k : ℕ) (l : List ℕ) (p : ℕ) (name : List ℕ) where
+  pub made_refused : (a : Answer) → Given (make_tests s (hashed w h t) p name) a → Given (make_tests_in s (hashed w h t) (opens k l) p name) a
+  made_refused a g = given_front (make_tests s (hashed w h t) p name) (place_tests (opens k l) (taken (hashed w h t))) a g
 
-  module _ (go : j ≡ Go) (x : ℕ) (ex : x ≡ taken (alone w t)) (b : Bool) (F : (b ≡ true → IsFull k l x) × (IsFull k l x → b ≡ true)) where
-    before : None (make_tests s (hashed w h t) p name)
-    before = passed (make_tests s (hashed w h t) p name) j J go
-
-    pub made_full : b ≡ true → JudgedBy (make_tests_in s (hashed w h t) (opens k l) p name) (Refused TooManyOpens)
+  module _ (before : None (make_tests s (hashed w h t) p name)) (x : ℕ) (ex : x ≡ taken (alone w t)) (b : Bool)
+      (F : (b ≡ true → IsFull k l x) × (IsFull k l x → b ≡ true)) where
+    pub made_full : b ≡ true → Given (make_tests_in s (hashed w h t) (opens k l) p name) TooManyOpens
     made_full f =
         given_behind (make_tests s (hashed w h t) p name) (place_tests (opens k l) (taken (hashed w h t))) TooManyOpens before
         (inl (subst (λ z. IsFull k l z) ex (F.0 f), refl))
 
-    pub made_go : b ≡ false → JudgedBy (make_tests_in s (hashed w h t) (opens k l) p name) Go
+    pub made_go : b ≡ false → None (make_tests_in s (hashed w h t) (opens k l) p name)
     made_go f =
         none_both (make_tests s (hashed w h t) p name) (place_tests (opens k l) (taken (hashed w h t))) before
         (λ q. false≢true (sym f ∙ F.1 (subst (λ z. IsFull k l z) (sym ex) q)), tt)

@@ -1,11 +1,11 @@
 -- The tests of rename and make, by the places of their code, and what a judged call gives.
 use mathlib.Core.Path.{◌≡◌, refl, sym, ap, ◌∙◌, subst}
-use mathlib.Core.Bool.{Bool, true, false, not, false≢true}
+use mathlib.Core.Bool.{Bool, true, false, false≢true}
 use mathlib.Core.List.{List, [], ◌∷◌, ◌++◌}
 use mathlib.Core.Logic.{inl, inr, ⊎_elim, ◌≢◌}
 use Prim.Native.Nat.{ℕ, ◌<◌}
 use native.Mathlib.Omega.{arith}
-use borrow.Author.Tests.{not-true, not-false}
+
 use Rattle.order.specs.First.{Row, row, First}
 use Rattle.order.specs.Given.{Given, None}
 use Rattle.order.specs.Answer.{Answer}
@@ -28,13 +28,10 @@ use Rattle.order.specs.Giving.{giving}
 use Rattle.tree_promises.specs.Kinds.{kind_view}
 use Rattle.tree_promises.specs.Calls.{held_tests_of, root_tests, ring_tests, rename_tests_of, make_tests}
 use Rattle.tree_promises.specs.Inner.Ready.{Ready, Single}
-use Rattle.tree_judge.specs.Inner.Judge.{JudgedBy}
-use Rattle.tree_judge.specs.declared.Judged.{Judged}
-use Rattle.tree_judge.specs.declared.Judged.TheVariants.{Refused}
 use Rattle.tree_look.proofs.Lists.{all_fit, count_few, dir_single, ends_of, list_of}
 use Rattle.order.specs.Tells.{Tells}
 use Rattle.tree_test.proofs.Cases.{tells_not}
-use Rattle.tree_look.proofs.Given.{given_first, none_first}
+use Rattle.tree_look.proofs.Given.{none_first}
 
 -- what rename is asked behind the tests of the entry that is held
 abbrev pub after_held : (kind : Kind) (s : Tables) (x p : ℕ) (name : List ℕ) → List (Row Answer)
@@ -87,12 +84,9 @@ module _ (s : Tables) (R : Ready s) where
 
 -- ---- the tests of rename and make
 
--- what the code found of the new name
-pub bad_name : (name : List ℕ) {r : Bool} → r ≡ legal name → not r ≡ true → legal name ≡ false
-bad_name name {r} e h = sym e ∙ not-true r h
-
-pub good_name : (name : List ℕ) {r : Bool} → r ≡ legal name → not r ≡ false → legal name ≡ false → ⊥
-good_name name {r} e h z = false≢true (sym z ∙ sym e ∙ not-false r h)
+-- what the code found of a new name that is legal
+pub good_name : (name : List ℕ) → true ≡ legal name → legal name ≡ false → ⊥
+good_name name e z = false≢true (sym z ∙ sym e)
 
 module _ (s : Tables) (held_by x p : ℕ) (name : List ℕ) where
   module _ (held : None (held_tests_of (files s) held_by x)) where
@@ -157,10 +151,6 @@ module _ (s : Tables) (v : View) (p : ℕ) (name : List ℕ) (ok : legal name �
     make_go f F g = (ok, (λ n. n (T.yes e), (fresh f, (tells_not F g, tt))))
 
 -- ---- what the calls give
-
--- a call whose tests refuse
-pub call_refused : {A : Type 0} (g : Answer → A) (d : A) (tests : List (Row Answer)) (j : Judged) (a : Answer) → JudgedBy tests j → j ≡ Refused a → First (giving g tests) d (g a)
-call_refused g d tests j a J e = given_first g d tests a (subst (JudgedBy tests) e J)
 
 -- a call that went
 pub call_done : {A : Type 0} (g : Answer → A) (d o : A) (tests : List (Row Answer)) → None tests → o ≡ d → First (giving g tests) d o

@@ -1,16 +1,16 @@
-use borrow.Author.Rules.{rules}
-use Rattle.tree_judge.proofs.Makes.{made_refused, made_full, made_go}
-use Rattle.tree_look.proofs.Lives.{first_fits}
+use mathlib.Core.List.{[]}
+use Rattle.std.proofs.lemmas.Result.{err_from_is_err_and}
+use Rattle.tree_sound.specs.Tables.{tables}
+use Rattle.tree_judge.proofs.Makes.{made_refused, made_full}
 use Rattle.tree_judge.proofs.judge_made.Goals as goal
 
-pub returns-in_default : goal.returns-in_default
-returns-in_default c = search (made_refused)
-
-pub next_entry-x-requires : goal.next_entry-x-requires
-next_entry-x-requires c = search (rules, first_fits)
+pub returns-in_err-judge_make : goal.returns-in_err-judge_make
+returns-in_err-judge_make c =
+    let s = tables c.args.dir_hash.now c.args.dirs.now [] [] in
+    let p = err_from_is_err_and c.from_residual.result c.from_residual.ensures.1 in
+    rw (p.1, p.2) (made_refused s _ c.args.hash.now _ _ _ _ _ _ c.in_err-judge_make.ensures)
 
 pub returns-then-is_full : goal.returns-then-is_full
-returns-then-is_full c = search (made_full)
-
-pub returns : goal.returns
-returns c = search (made_go)
+returns-then-is_full c =
+    let s = tables c.args.dir_hash.now c.args.dirs.now [] [] in
+    made_full s _ c.args.hash.now _ _ _ _ _ c.in_ok-judge_make.ensures _ c.next_entry-x.ensures _ c.is_full.ensures c.if-is_full.true
