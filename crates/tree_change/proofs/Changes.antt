@@ -5,9 +5,8 @@ use mathlib.Core.Logic.{◌≢◌}
 use Prim.Native.Nat.{ℕ, ◌+◌, ◌*◌, ◌/◌, ◌≤◌, ◌<◌}
 use native.Mathlib.Omega.{arith}
 use lib.ListN.{length}
-use Rattle.order.specs.Given.{None}
-use Rattle.order.specs.Answer.{Answer}
-use Rattle.order.specs.Answer.{Done}
+use Rattle.order.specs.Given.{Given, None}
+use Rattle.order.specs.Answer.{Answer, Done}
 use Rattle.links.specs.Links.{◌∈◌, Holds}
 use Rattle.links.proofs.Laws.{walked, fewer}
 use Rattle.tree_table.specs.Field.{field, wrote}
@@ -25,12 +24,10 @@ use Rattle.tree_promises.specs.Calls.{alone_tests_of, delete_tests_of, rename_te
 use Rattle.tree_promises.specs.Packed.{gives, refuse, Inside, delete_tests, delete_done, rename_done}
 use Rattle.tree_promises.specs.Inner.Ready.{Ready, ReadyOpens, LiveAt, Single, alone}
 use Rattle.tree_step.specs.Inner.Seat.{InParent}
-use Rattle.tree_judge.specs.Inner.Judge.{JudgedBy}
-use Rattle.tree_judge.specs.declared.Judged.{Judged}
-use Rattle.tree_judge.specs.declared.Judged.TheVariants.{Go, Refused}
 use Rattle.tree_look.proofs.Lists.{inside, all_fit, child_ends, child_list, dir_single, file_single}
-use Rattle.tree_judge.proofs.Judges.{passed, live_sure}
-use Rattle.tree_judge.proofs.Rows.{call_refused, call_done}
+use Rattle.tree_look.proofs.Given.{given_first}
+use Rattle.tree_judge.proofs.Judges.{live_sure}
+use Rattle.tree_judge.proofs.Rows.{call_done}
 
 -- ---- where a live entry stands in its parent's list
 
@@ -202,60 +199,60 @@ module _ (s : Tables) (R : Ready s) (r x : ℕ) where
             subst (λ z. 0 < z / 4) (sym eh) R.dir_buckets,
           )
 
--- ---- the ends of delete, for `search`: what the tests that passed, the steps and the open records give together. r is the record that was found
+-- ---- the ends of delete: what the tests that passed, the steps and the open records give together. r is the record that was found
 
-module _ (dh d h f l : List ℕ) (k r x : ℕ) (j : Judged) (er : r ≡ record_of (opens k l) x) where
+module _ (dh d h f l : List ℕ) (k r x : ℕ) (er : r ≡ record_of (opens k l) x) where
   abbrev here : Tables
   here = tables dh d h f
 
   abbrev o : Opens
   o = opens k l
 
-  pub delete_file_no : (a : Answer) → JudgedBy (alone_tests_of (alone 48 f) r x) j → j ≡ Refused a
+  pub delete_file_no : (a : Answer) → Given (alone_tests_of (alone 48 f) r x) a
       → Inside (tables dh d h f) (opens k l) (delete_tests File (tables dh d h f) (opens k l) x) (delete_done File (tables dh d h f) (opens k l) x) (gives a 0 (tables dh d h f) (opens k l))
-  delete_file_no a J e =
-      call_refused (refuse here o) (delete_done File here o x) (delete_tests File here o x) j a (subst (λ z. JudgedBy (alone_tests_of (files here) z x) j) er J) e
+  delete_file_no a g =
+      given_first (refuse here o) (delete_done File here o x) (delete_tests File here o x) a (subst (λ z. Given (alone_tests_of (files here) z x) a) er g)
 
-  pub delete_dir_no : (a : Answer) → JudgedBy (delete_tests_of Directory (tables dh d [] []) r x) j → j ≡ Refused a
+  pub delete_dir_no : (a : Answer) → Given (delete_tests_of Directory (tables dh d [] []) r x) a
       → Inside (tables dh d h f) (opens k l) (delete_tests Directory (tables dh d h f) (opens k l) x) (delete_done Directory (tables dh d h f) (opens k l) x) (gives a 0 (tables dh d h f) (opens k l))
-  delete_dir_no a J e =
-      call_refused (refuse here o) (delete_done Directory here o x) (delete_tests Directory here o x) j a (subst (λ z. JudgedBy (delete_tests_of Directory here z x) j) er J) e
+  delete_dir_no a g =
+      given_first (refuse here o) (delete_done Directory here o x) (delete_tests Directory here o x) a (subst (λ z. Given (delete_tests_of Directory here z x) a) er g)
 
-  module _ (go : j ≡ Go) (k' : ℕ) (l' : List ℕ) where
-    pub delete_file_done : (d' h' f1 f2 : List ℕ) → JudgedBy (alone_tests_of (alone 48 f) r x) j
+  module _ (k' : ℕ) (l' : List ℕ) where
+    pub delete_file_done : (d' h' f1 f2 : List ℕ) → None (alone_tests_of (alone 48 f) r x)
         → (d' ≡ (unlinked_from File (tables [] d h f) x).dir_table) × (h' ≡ (unlinked_from File (tables [] d h f) x).file_hash) × (f1 ≡ (unlinked_from File (tables [] d h f) x).file_table)
         → f2 ≡ wrote 48 f1 (give_writes 48 (field 48 f1) x) → opens k' l' ≡ with_record (opens k l) x 0
         → Inside (tables dh d h f) (opens k l) (delete_tests File (tables dh d h f) (opens k l) x) (delete_done File (tables dh d h f) (opens k l) x) (gives Done 0 (tables dh d' h' f2) (opens k' l'))
-    delete_file_done d' h' f1 f2 J u e eo =
+    delete_file_done d' h' f1 f2 go u e eo =
         call_done (refuse here o) (delete_done File here o x) (gives Done 0 (tables dh d' h' f2) (opens k' l')) (delete_tests File here o x)
-        (passed (delete_tests File here o x) j (subst (λ z. JudgedBy (alone_tests_of (files here) z x) j) er J) go)
+        (subst (λ z. None (alone_tests_of (files here) z x)) er go)
         (deleted_file dh d h f d' h' f1 f2 o (opens k' l') x u.0 u.1 u.2 e eo)
 
-    pub delete_dir_done : (h' d1 d2 : List ℕ) → JudgedBy (delete_tests_of Directory (tables dh d [] []) r x) j
+    pub delete_dir_done : (h' d1 d2 : List ℕ) → None (delete_tests_of Directory (tables dh d [] []) r x)
         → (h' ≡ (unlinked_from Directory (tables dh d [] []) x).dir_hash) × (d1 ≡ (unlinked_from Directory (tables dh d [] []) x).dir_table)
         → d2 ≡ wrote 40 d1 (give_writes 40 (field 40 d1) x) → opens k' l' ≡ with_record (opens k l) x 0
         → Inside (tables dh d h f) (opens k l) (delete_tests Directory (tables dh d h f) (opens k l) x) (delete_done Directory (tables dh d h f) (opens k l) x) (gives Done 0 (tables h' d2 h f) (opens k' l'))
-    delete_dir_done h' d1 d2 J u e eo =
+    delete_dir_done h' d1 d2 go u e eo =
         call_done (refuse here o) (delete_done Directory here o x) (gives Done 0 (tables h' d2 h f) (opens k' l')) (delete_tests Directory here o x)
-        (passed (delete_tests Directory here o x) j (subst (λ z. JudgedBy (delete_tests_of Directory here z x) j) er J) go)
+        (subst (λ z. None (delete_tests_of Directory here z x)) er go)
         (deleted_dir dh d h f h' d1 d2 o (opens k' l') x u.0 u.1 e eo)
 
--- ---- what the steps of delete and rename ask for, by the tests that passed, for `search`
+-- ---- what the steps of delete and rename ask for, by the tests that passed
 
-module _ (dh d h f l : List ℕ) (k r x : ℕ) (j : Judged) (R : ReadyOpens (tables dh d h f) (opens k l)) (go : j ≡ Go) where
-  module _ (J : JudgedBy (alone_tests_of (alone 48 f) r x) j) where
+module _ (dh d h f l : List ℕ) (k r x : ℕ) (R : ReadyOpens (tables dh d h f) (opens k l)) where
+  module _ (go : None (alone_tests_of (alone 48 f) r x)) where
     pub unlink_file_may : Single h f 48 × LiveAt 48 f x × InParent d 28 f 48 x
-    unlink_file_may = delete_file_asks (tables dh d h f) R.ready r x (passed (alone_tests_of (alone 48 f) r x) j J go)
+    unlink_file_may = delete_file_asks (tables dh d h f) R.ready r x go
 
     pub give_file_may : {d' h' f1 : List ℕ}
         → (d' ≡ (unlinked_from File (tables [] d h f) x).dir_table) × (h' ≡ (unlinked_from File (tables [] d h f) x).file_hash) × (f1 ≡ (unlinked_from File (tables [] d h f) x).file_table)
         → (x * 48 + 48 ≤ length f1) × (4 ≤ 48) × (0 < x)
-    give_file_may u = give_file_asks (tables dh d h f) R.ready r x (passed (alone_tests_of (alone 48 f) r x) j J go) u.2
+    give_file_may u = give_file_asks (tables dh d h f) R.ready r x go u.2
 
-  module _ (J : JudgedBy (delete_tests_of Directory (tables dh d [] []) r x) j) where
+  module _ (go : None (delete_tests_of Directory (tables dh d [] []) r x)) where
     pub unlink_dir_may : Single dh d 40 × LiveAt 40 d x × InParent d 24 d 40 x
-    unlink_dir_may = delete_dir_asks (tables dh d h f) R.ready r x (passed (delete_tests_of Directory (tables dh d h f) r x) j J go)
+    unlink_dir_may = delete_dir_asks (tables dh d h f) R.ready r x go
 
     pub give_dir_may : {h' d1 : List ℕ} → (h' ≡ (unlinked_from Directory (tables dh d [] []) x).dir_hash) × (d1 ≡ (unlinked_from Directory (tables dh d [] []) x).dir_table)
         → (x * 40 + 40 ≤ length d1) × (4 ≤ 40) × (0 < x)
-    give_dir_may u = give_dir_asks (tables dh d h f) R.ready r x (passed (delete_tests_of Directory (tables dh d h f) r x) j J go) u.1
+    give_dir_may u = give_dir_asks (tables dh d h f) R.ready r x go u.1

@@ -8,7 +8,7 @@ use native.Mathlib.Nat.{div-mul-le_self}
 use lib.Dec.{eqb}
 use lib.ListN.{length}
 use Rattle.order.specs.First.{Row}
-use Rattle.order.specs.Given.{None}
+use Rattle.order.specs.Given.{Given, None}
 use Rattle.order.specs.Answer.{Answer}
 use Rattle.order.specs.Answer.{Done}
 use Rattle.links.specs.Links.{◌∈◌, Links}
@@ -28,12 +28,10 @@ use Rattle.tree_promises.specs.Packed.{gives, refuse, Inside, make_tests_in, mak
 use Rattle.tree_promises.specs.Inner.Ready.{Ready, ReadyOpens, Single, alone, hashed}
 use Rattle.tree_make.specs.Inner.Take.{Takes}
 use Rattle.tree_look.proofs.Lists.{inside, all_fit, dir_single, file_single}
+use Rattle.tree_look.proofs.Given.{given_first}
 use Rattle.tree_look.proofs.Lives.{first_fits}
-use Rattle.tree_judge.specs.Inner.Judge.{JudgedBy}
-use Rattle.tree_judge.specs.declared.Judged.{Judged}
-use Rattle.tree_judge.specs.declared.Judged.TheVariants.{Go, Refused}
-use Rattle.tree_judge.proofs.Judges.{live_sure, passed}
-use Rattle.tree_judge.proofs.Rows.{call_done, call_refused}
+use Rattle.tree_judge.proofs.Judges.{live_sure}
+use Rattle.tree_judge.proofs.Rows.{call_done}
 use Rattle.tree_judge.proofs.Makes.{place_tests}
 
 -- a list that does not start at 0 holds its first entry
@@ -157,51 +155,49 @@ none_front : (rs qs : List (Row Answer)) → None (rs ++ qs) → None rs
 none_front [] qs n = tt
 none_front (r ∷ rs) qs n = (n.0, none_front rs qs n.1)
 
--- ---- the ends of make, for `search`
+-- ---- the ends of make
 
-module _ (dh d h f l : List ℕ) (k p : ℕ) (name : List ℕ) (j : Judged) where
+module _ (dh d h f l : List ℕ) (k p : ℕ) (name : List ℕ) where
   abbrev here : Tables
   here = tables dh d h f
 
   abbrev o : Opens
   o = opens k l
 
-  module _ (J : JudgedBy (make_tests_in (tables dh d [] []) (hashed 48 h f) (opens k l) p name) j) where
-    pub make_file_no : (a : Answer) (carried : List ℕ) → j ≡ Refused a
-        → Inside (tables dh d h f) (opens k l) (make_tests_in (tables dh d h f) (files (tables dh d h f)) (opens k l) p name) (make_done File (tables dh d h f) (opens k l) p name carried) (gives a 0 (tables dh d h f) (opens k l))
-    make_file_no a carried e = call_refused (refuse here o) (make_done File here o p name carried) (make_tests_in here (files here) o p name) j a J e
+  pub make_file_no : (a : Answer) (carried : List ℕ) → Given (make_tests_in (tables dh d [] []) (hashed 48 h f) (opens k l) p name) a
+      → Inside (tables dh d h f) (opens k l) (make_tests_in (tables dh d h f) (files (tables dh d h f)) (opens k l) p name) (make_done File (tables dh d h f) (opens k l) p name carried) (gives a 0 (tables dh d h f) (opens k l))
+  make_file_no a carried g = given_first (refuse here o) (make_done File here o p name carried) (make_tests_in here (files here) o p name) a g
 
-    pub new_file_may : ReadyOpens (tables dh d h f) (opens k l) → j ≡ Go → Takes 48 f × (p * 40 + 40 ≤ length d) × (0 < length h / 4)
-    new_file_may R go =
-        new_file_asks here R.ready p name
-        (none_front (make_tests here (files here) p name) (place_tests o (taken (files here))) (passed (make_tests_in here (files here) o p name) j J go))
+  pub new_file_may : ReadyOpens (tables dh d h f) (opens k l) → None (make_tests_in (tables dh d [] []) (hashed 48 h f) (opens k l) p name) → Takes 48 f × (p * 40 + 40 ≤ length d) × (0 < length h / 4)
+  new_file_may R go =
+      new_file_asks here R.ready p name
+      (none_front (make_tests here (files here) p name) (place_tests o (taken (files here))) go)
 
-    pub make_file_done : (d' h' f' : List ℕ) (x : ℕ) (carried : List ℕ) → j ≡ Go
-        → (x ≡ taken (alone 48 f)) × (d' ≡ (made File (tables [] d h f) p name carried).dir_table)
-        × (h' ≡ (made File (tables [] d h f) p name carried).file_hash) × (f' ≡ (made File (tables [] d h f) p name carried).file_table)
-        → (k' : ℕ) (l' : List ℕ) → opens k' l' ≡ with_record (opens k l) x writer_alone
-        → Inside (tables dh d h f) (opens k l) (make_tests_in (tables dh d h f) (files (tables dh d h f)) (opens k l) p name) (make_done File (tables dh d h f) (opens k l) p name carried) (gives Done x (tables dh d' h' f') (opens k' l'))
-    make_file_done d' h' f' x carried go new k' l' eo =
-        call_done (refuse here o) (make_done File here o p name carried) (gives Done x (tables dh d' h' f') (opens k' l'))
-        (make_tests_in here (files here) o p name) (passed (make_tests_in here (files here) o p name) j J go)
-        (gave_file dh d h f d' h' f' o (opens k' l') x p name carried new.0 new.1 new.2 new.3 eo)
+  pub make_file_done : (d' h' f' : List ℕ) (x : ℕ) (carried : List ℕ) → None (make_tests_in (tables dh d [] []) (hashed 48 h f) (opens k l) p name)
+      → (x ≡ taken (alone 48 f)) × (d' ≡ (made File (tables [] d h f) p name carried).dir_table)
+      × (h' ≡ (made File (tables [] d h f) p name carried).file_hash) × (f' ≡ (made File (tables [] d h f) p name carried).file_table)
+      → (k' : ℕ) (l' : List ℕ) → opens k' l' ≡ with_record (opens k l) x writer_alone
+      → Inside (tables dh d h f) (opens k l) (make_tests_in (tables dh d h f) (files (tables dh d h f)) (opens k l) p name) (make_done File (tables dh d h f) (opens k l) p name carried) (gives Done x (tables dh d' h' f') (opens k' l'))
+  make_file_done d' h' f' x carried go new k' l' eo =
+      call_done (refuse here o) (make_done File here o p name carried) (gives Done x (tables dh d' h' f') (opens k' l'))
+      (make_tests_in here (files here) o p name) go
+      (gave_file dh d h f d' h' f' o (opens k' l') x p name carried new.0 new.1 new.2 new.3 eo)
 
-  module _ (J : JudgedBy (make_tests_in (tables dh d [] []) (hashed 40 dh d) (opens k l) p name) j) where
-    pub make_dir_no : (a : Answer) (padding : List ℕ) → j ≡ Refused a
-        → Inside (tables dh d h f) (opens k l) (make_tests_in (tables dh d h f) (dirs (tables dh d h f)) (opens k l) p name) (make_done Directory (tables dh d h f) (opens k l) p name padding) (gives a 0 (tables dh d h f) (opens k l))
-    make_dir_no a padding e = call_refused (refuse here o) (make_done Directory here o p name padding) (make_tests_in here (dirs here) o p name) j a J e
+  pub make_dir_no : (a : Answer) (padding : List ℕ) → Given (make_tests_in (tables dh d [] []) (hashed 40 dh d) (opens k l) p name) a
+      → Inside (tables dh d h f) (opens k l) (make_tests_in (tables dh d h f) (dirs (tables dh d h f)) (opens k l) p name) (make_done Directory (tables dh d h f) (opens k l) p name padding) (gives a 0 (tables dh d h f) (opens k l))
+  make_dir_no a padding g = given_first (refuse here o) (make_done Directory here o p name padding) (make_tests_in here (dirs here) o p name) a g
 
-    pub new_dir_may : ReadyOpens (tables dh d h f) (opens k l) → j ≡ Go → Takes 40 d × (p * 40 + 40 ≤ length d) × (0 < length dh / 4)
-    new_dir_may R go =
-        new_dir_asks here R.ready p name
-        (none_front (make_tests here (dirs here) p name) (place_tests o (taken (dirs here))) (passed (make_tests_in here (dirs here) o p name) j J go))
+  pub new_dir_may : ReadyOpens (tables dh d h f) (opens k l) → None (make_tests_in (tables dh d [] []) (hashed 40 dh d) (opens k l) p name) → Takes 40 d × (p * 40 + 40 ≤ length d) × (0 < length dh / 4)
+  new_dir_may R go =
+      new_dir_asks here R.ready p name
+      (none_front (make_tests here (dirs here) p name) (place_tests o (taken (dirs here))) go)
 
-    pub make_dir_done : (h' d' : List ℕ) (x : ℕ) (padding : List ℕ) → j ≡ Go
-        → (x ≡ taken (alone 40 d)) × (h' ≡ (made Directory (tables dh d [] []) p name padding).dir_hash)
-        × (d' ≡ (made Directory (tables dh d [] []) p name padding).dir_table)
-        → (k' : ℕ) (l' : List ℕ) → opens k' l' ≡ with_record (opens k l) x writer_alone
-        → Inside (tables dh d h f) (opens k l) (make_tests_in (tables dh d h f) (dirs (tables dh d h f)) (opens k l) p name) (make_done Directory (tables dh d h f) (opens k l) p name padding) (gives Done x (tables h' d' h f) (opens k' l'))
-    make_dir_done h' d' x padding go new k' l' eo =
-        call_done (refuse here o) (make_done Directory here o p name padding) (gives Done x (tables h' d' h f) (opens k' l'))
-        (make_tests_in here (dirs here) o p name) (passed (make_tests_in here (dirs here) o p name) j J go)
-        (gave_dir dh d h f h' d' o (opens k' l') x p name padding new.0 new.1 new.2 eo)
+  pub make_dir_done : (h' d' : List ℕ) (x : ℕ) (padding : List ℕ) → None (make_tests_in (tables dh d [] []) (hashed 40 dh d) (opens k l) p name)
+      → (x ≡ taken (alone 40 d)) × (h' ≡ (made Directory (tables dh d [] []) p name padding).dir_hash)
+      × (d' ≡ (made Directory (tables dh d [] []) p name padding).dir_table)
+      → (k' : ℕ) (l' : List ℕ) → opens k' l' ≡ with_record (opens k l) x writer_alone
+      → Inside (tables dh d h f) (opens k l) (make_tests_in (tables dh d h f) (dirs (tables dh d h f)) (opens k l) p name) (make_done Directory (tables dh d h f) (opens k l) p name padding) (gives Done x (tables h' d' h f) (opens k' l'))
+  make_dir_done h' d' x padding go new k' l' eo =
+      call_done (refuse here o) (make_done Directory here o p name padding) (gives Done x (tables h' d' h f) (opens k' l'))
+      (make_tests_in here (dirs here) o p name) go
+      (gave_dir dh d h f h' d' o (opens k' l') x p name padding new.0 new.1 new.2 eo)
