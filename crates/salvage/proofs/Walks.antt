@@ -8,16 +8,15 @@ use native.Mathlib.Omega.{arith}
 use lib.ListN.{length, get_or, set, replicate, length-set, length-append}
 use lib.Seq.{get_or-set_same, get_or-set_other}
 use lib.Dec.{eqb, ltb}
-use borrow.Author.Tests.{eq-eqb, ne_eqb, lt-ltb, le-ltb, not-false}
+use borrow.Author.Tests.{eq-eqb, ne_eqb, lt-ltb, le-ltb}
+use Rattle.std.specs.Prelude.{Result, Ok, Err, is_ok}
 use Rattle.order.specs.Answer.{fault, unbroken}
 use Rattle.order.specs.declared.Fault.{Fault}
 use Rattle.fat_node.specs.Entry.{Bytes}
 use Rattle.fat_node.specs.Node.{Run, run, NodeAt, next_at}
 use Rattle.fat_node.specs.Fault.{node_fault}
-use Rattle.fat_node.specs.Inner.Reads.{Reads}
+use Rattle.fat_node.specs.Inner.Reads.{Unread, Reads}
 use Rattle.fat_node.specs.declared.Node.{Node}
-use Rattle.fat_node.specs.declared.NodeRead.{NodeRead}
-use Rattle.fat_node.specs.declared.NodeRead.TheVariants as read
 use Rattle.fat_node.proofs.Faults.{when_yes, when_no}
 use Rattle.fat_node.proofs.Nodes.{le_or_lt}
 use Rattle.fat_node.proofs.Cases.{untrue}
@@ -28,9 +27,7 @@ use Rattle.fat_table.proofs.Chains.{zero_or_not}
 use Rattle.fat_table.proofs.Sounds.{node_size}
 use Rattle.fat_table.proofs.Unchanged.{total_append}
 use Rattle.salvage.specs.Follow.{readable, unread, shared, salvage, missed, follow, salvaged}
-use Rattle.salvage.specs.Inner.Walks.{Standing, Looked, LookSays, Tells, Below, Taken, Clash, TakeSays, WalkSays}
-use Rattle.salvage.specs.declared.Look.TheVariants as look
-use Rattle.salvage.specs.declared.Look.{Look}
+use Rattle.salvage.specs.Inner.Walks.{Looked, LookSays, Tells, Below, Taken, Clash, TakeSays, WalkSays}
 use Rattle.salvage.proofs.Reading.{readable_node, node_readable}
 use Rattle.salvage.proofs.Bounds.{Apart, apart_on, apart_none, total_apart, length_total, shared_none, none_shared}
 use Rattle.salvage.proofs.Follows.{follow_whole, follow_none, follow_missed, follow_overlap, follow_on}
@@ -60,46 +57,37 @@ unread_in : (n : ℕ) (t : Bytes) (p b : ℕ) → b < n → unread n t p b ≡ n
 unfolding unread
 unread_in n t p b h = when_yes (ltb b n) (node_fault n t b) (fault p 7) (lt-ltb b n h)
 
-pub look_out : (n : ℕ) (t : Bytes) (p b : ℕ) → n ≤ b → LookSays n t p b (look.Stop (fault p 7))
+pub look_out : (n : ℕ) (t : Bytes) (p b : ℕ) → n ≤ b → LookSays n t p b (Err (fault p 7))
 look_out n t p b h = λ k seen.
     follow_none k n t seen p b (unreadable n t b (λ s w. omega (arith, h, w.some, w.within))) ∙ ap (salvage seen) (unread_out n t p b h)
 
-pub look_broken : (n : ℕ) (t : Bytes) (p b : ℕ) (r : NodeRead) (f : Fault) → b < n → Reads t n b r → r ≡ read.Broken f → LookSays n t p b (look.Stop f)
-look_broken n t p b r f h w e = λ k seen.
-    let u = subst (Reads t n b) e w in
-    follow_none k n t seen p b (unreadable n t b u.none) ∙ ap (salvage seen) (unread_in n t p b h ∙ sym u.first)
+pub look_broken : (n : ℕ) (t : Bytes) (p b : ℕ) (f : Fault) → b < n → Unread t n b f → LookSays n t p b (Err f)
+look_broken n t p b f h u = λ k seen. follow_none k n t seen p b (unreadable n t b u.none) ∙ ap (salvage seen) (unread_in n t p b h ∙ sym u.first)
 
-pub standing : (n : ℕ) (t : Bytes) (b : ℕ) (r : NodeRead) (x : Node) → n ≤ 1000000 → b < n → Reads t n b r → r ≡ read.Found x → Standing n t b x
-standing n t b r x small h w e =
-    let f = subst (Reads t n b) e w in
-    record { small = small; below = h; node = f.0; prev = f.1; next = f.2 }
+module _ (n : ℕ) (t : Bytes) (p b : ℕ) (x : Node) (w : Reads t n b (Ok x)) where
+  pub look_node : x.prev ≡ p → LookSays n t p b (Ok x)
+  look_node h = record { node = w.0; prev = sym w.1 ∙ h; on = w.2 }
 
-module _ (n : ℕ) (t : Bytes) (p b : ℕ) (x : Node) (w : Standing n t b x) where
-  pub look_node : x.prev ≡ p → LookSays n t p b (look.Node x.size x.next)
-  look_node h = record { node = w.node; prev = sym w.prev ∙ h; on = w.next }
-
-  pub look_missed : (x.prev ≡ p → ⊥) → (why : Fault) → why ≡ missed p b → LookSays n t p b (look.Stop why)
-  look_missed h why q = λ k seen.
-      follow_missed k n t seen p b (node_readable n t b x.size w.small w.node) (λ z. h (w.prev ∙ z)) ∙ ap (salvage seen) (sym q)
+  pub look_missed : n ≤ 1000000 → (x.prev ≡ p → ⊥) → (why : Fault) → why ≡ missed p b → LookSays n t p b (Err why)
+  look_missed small h why q = λ k seen.
+      follow_missed k n t seen p b (node_readable n t b x.size small w.0) (λ z. h (w.1 ∙ z)) ∙ ap (salvage seen) (sym q)
 
 -- ---- whether a node can be read
 
 pub says_out : (n : ℕ) (t : Bytes) (b : ℕ) → n ≤ b → Tells n t b false
 says_out n t b h = record { yes = λ e. untrue e; no = λ e s w. omega (arith, h, w.some, w.within) }
 
-pub says_broken : (n : ℕ) (t : Bytes) (b : ℕ) (r : NodeRead) (f : Fault) → Reads t n b r → r ≡ read.Broken f → Tells n t b false
-says_broken n t b r f w e = record { yes = λ q. untrue q; no = λ q. (subst (Reads t n b) e w).none }
-
-pub says_node : (n : ℕ) (t : Bytes) (b : ℕ) (r : NodeRead) (x : Node) → Reads t n b r → r ≡ read.Found x → b < n → Tells n t b true
-says_node n t b r x w e h = record { yes = λ q. (h, (x.size, (subst (Reads t n b) e w).0)); no = λ q. untrue (sym q) }
+pub says_read : (n : ℕ) (t : Bytes) (b : ℕ) (r : Result Node Fault) → b < n → Reads t n b r → Tells n t b (is_ok r)
+says_read n t b (Ok x) h w = record { yes = λ q. (h, (x.size, w.0)); no = λ q. untrue (sym q) }
+says_read n t b (Err f) h w = record { yes = λ q. untrue q; no = λ q. w.none }
 
 -- where one can be read
-module _ (n : ℕ) (t : Bytes) (b : ℕ) (r : Bool) (w : Tells n t b r) (e : not r ≡ false) where
+module _ (n : ℕ) (t : Bytes) (b : ℕ) (r : Bool) (w : Tells n t b r) (e : r ≡ true) where
   pub read_below : b < n
-  read_below = (w.yes (not-false r e)).0
+  read_below = (w.yes e).0
 
   pub read_some : (s : ℕ) × NodeAt t n b s
-  read_some = (w.yes (not-false r e)).1
+  read_some = (w.yes e).1
 
 -- ---- marks
 
@@ -222,13 +210,10 @@ module _ (n : ℕ) (t : Bytes) (first m : ℕ) (work : List ℕ) (i p count : �
     at : salvaged n t first ≡ follow (suc w.fuel) n t w.seen p (suc b)
     at = w.is ∙ ap (follow (suc w.fuel) n t w.seen p) eb
 
-    pub walk_stop : (l : Look) (why : Fault) → LookSays n t p b l → l ≡ look.Stop why → WalkSays n t first m count why work
-    walk_stop l why s e = says why work walk_least w.long (at ∙ subst (LookSays n t p b) e s w.fuel w.seen)
+    pub walk_stop : (why : Fault) → LookSays n t p b (Err why) → WalkSays n t first m count why work
+    walk_stop why s = says why work walk_least w.long (at ∙ s w.fuel w.seen)
 
-    module _ (l : Look) (s q : ℕ) (o : LookSays n t p b l) (e : l ≡ look.Node s q) where
-      looked : Looked n t p b s q
-      looked = subst (LookSays n t p b) e o
-
+    module _ (s q : ℕ) (looked : Looked n t p b s q) where
       pub walk_room : b + s ≤ length work
       walk_room = omega (arith, looked.node.within, w.long)
 
