@@ -179,8 +179,8 @@ linked_on {t} {n} {b} {w} {w'} {k} {m} st f = subst (λ (y : ℕ). State t y (b 
 pub sound_long : {t : List ℕ} {n m : ℕ} → m ≡ n → Sound t n → Sound t m
 sound_long {t} e s = subst⁻¹ (Sound t) e s
 
-pub ends_differ_n : {t : List ℕ} {n b : ℕ} {w : List ℕ} {k m : ℕ} → b ≡ n → State t n b w k → Backs t n n m → (k ≡ m → ⊥) → Sound t n → ⊥
-ends_differ_n {t} {n} {b} {w} {k} {m} e st bs f s = f (counts_agree (subst (λ (y : ℕ). State t n y w k) e st) bs s)
+pub ends_count_n : {t : List ℕ} {n b : ℕ} {w : List ℕ} {k m : ℕ} → b ≡ n → State t n b w k → Backs t n n m → Sound t n → k ≡ m
+ends_count_n {t} {n} {b} {w} {k} {m} e st bs s = counts_agree (subst (λ (y : ℕ). State t n y w k) e st) bs s
 
 pub ends_agree_n : {t : List ℕ} {n b : ℕ} {w : List ℕ} {k m : ℕ} → b ≡ n → State t n b w k → Backs t n n m → k ≡ m → (k : ℕ) × (State t n n w k × Backs t n n k)
 ends_agree_n {t} {n} {b} {w} {k} {m} e st bs q = (k, (subst (λ (y : ℕ). State t n y w k) e st, subst⁻¹ (Backs t n n) q bs))

@@ -13,7 +13,7 @@ use Rattle.fat_table.specs.Sound.{Starts, IsNode, Covered, Path, Sound, Along}
 use Rattle.fat_table.specs.Sound.Path.{here, on}
 use Rattle.fat_ends.specs.Inner.Ends.{span, Packed, Tail, Frag, State, Backs, TiedEnds, Joinable, Joined}
 use Rattle.fat_ends.specs.Inner.Ends.Packed.{small, one, more}
-use Rattle.fat_ends.proofs.Laws.{none_or_some, one_size, covered}
+use Rattle.fat_ends.proofs.Laws.{none_or_some, one_size}
 use Rattle.fat_ends.proofs.Fragments.{part_of_total, two_of_total, le_total, same_total, path_append, gap, frag_i, frag_j, b_z, h_z, joined_state}
 
 -- ---- what the code reads

@@ -1,5 +1,5 @@
 -- The work list behind the test: only places where nodes start are not 0, and hopping from node to node meets them all.
-use mathlib.Core.Path.{◌≡◌, refl, sym, ap, subst, ◌∙◌}
+use mathlib.Core.Path.{◌≡◌, refl, sym, ap, ◌∙◌}
 use mathlib.Core.List.{List, [], ◌∷◌, ◌++◌}
 use mathlib.Core.Logic.{◌⊎◌, inl, inr, ⊎_elim}
 use Prim.Native.Nat.{ℕ, ◌+◌, ◌-◌, ◌<◌, ◌≤◌}
@@ -10,7 +10,7 @@ use lib.Seq.{get_or-set_same, get_or-append-add, get_or-take, ext_get_or, length
 use borrow.Rule.Slice.PartMut.{mid_of, post_of, put_mid, same_len_mid, Post-is}
 use Rattle.fat_node.specs.Node.{NodeAt}
 use Rattle.fat_node.proofs.Nodes.{le_or_lt}
-use Rattle.fat_table.specs.Sound.{Starts, IsNode}
+use Rattle.fat_table.specs.Sound.{Starts}
 use Rattle.fat_ends.specs.Inner.Ends.{AtNodes}
 use Rattle.fat_ends.proofs.Laws.{none_or_some, set_cases, zeros_at}
 use Rattle.links.proofs.Held.{same_or}

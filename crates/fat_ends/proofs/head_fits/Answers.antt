@@ -1,24 +1,18 @@
 -- `fat_ends::head_fits` meets its contract.
+use Rattle.std.proofs.Common.{sym, ap, ◌∙◌, ◌-◌, not, arith}
+use borrow.Author.Tests.{ne_eqb}
 use Rattle.fat_node.proofs.Cases.{untrue}
 use Rattle.fat_ends.proofs.Laws.{inside}
-use Rattle.fat_node.specs.Node.{prev_at}
-use borrow.Author.Tests.{eqb-true, eq-eqb}
-use lib.ListN.{get_or}
-use native.Mathlib.Omega.{arith}
-use Prim.Native.Nat.{ℕ, ◌-◌}
-use mathlib.Core.Path.{◌≡◌, ap}
 use Rattle.fat_ends.proofs.head_fits.Goals as goal
+use Rattle.fat_ends.proofs.head_fits.Goals.{then-h-work, else-h-work}
 
-pub returns-then-h-work : goal.returns-then-h-work
-returns-then-h-work c = ((λ e. untrue e), λ h. absurd (omega (arith, inside c.args.work.now (c.args.h - 1) (h (c.args.h - 1) (omega arith)).0)))
-
-pub returns-then-work-h-eq0 : goal.returns-then-work-h-eq0
-returns-then-work-h-eq0 c = ((λ e. untrue e), λ h. absurd (omega (arith, h (c.args.h - 1) (omega arith))))
-
-pub returns : goal.returns
-returns c = (
-  (λ e j g.
-      let q : j ≡ c.args.h - 1 = omega arith in
-      omega (arith, eqb-true c.prev_of.result 0 e, ap (λ (y : ℕ). get_or c.args.work.now y 0) q, ap (prev_at c.args.table.now) q)),
-  λ h. eq-eqb c.prev_of.result 0 (omega (arith, h (c.args.h - 1) (omega arith))),
+pub returns-else-work-h-ne0 : goal.returns-else-work-h-ne0
+returns-else-work-h-ne0 c = (
+  λ e. untrue (sym c.if-work-h-ne0.false ∙ e),
+  λ f.
+      let g = f (c.args.h - 1) (omega arith) in
+      elim c.if-h-work.branch [
+        | then-h-work w ↦ w.value-is ∙ ap not (ne_eqb _ 0 (λ e. omega (arith, g.0, e)))
+        | else-h-work w ↦ absurd (omega (arith, inside c.args.work.now (c.args.h - 1) g.0))
+      ],
 )
