@@ -1,5 +1,6 @@
 -- The two gates told apart: what each says of the sizes where it is asked with no place of a work list, and of soundness where the sizes have passed.
 use mathlib.Core.Path.{◌≡◌, refl, sym, ap, subst, subst⁻¹, ◌∙◌}
+use Rattle.std.specs.Prelude.{Result, Ok, Err}
 use mathlib.Core.List.{List, [], ◌∷◌, ◌++◌}
 use mathlib.Core.Logic.{◌⊎◌, inl, inr, ⊎_elim, ◌≢◌}
 use Prim.Native.Nat.{ℕ, ◌+◌, ◌*◌, ◌/◌, ◌≤◌, ◌<◌}
@@ -10,26 +11,20 @@ use Rattle.order.specs.First.{Row, row}
 use Rattle.order.specs.Gate.{later, gate, cleared, Refusal, refusal}
 use Rattle.order.specs.Given.{Given, None}
 use Rattle.order.proofs.Gate.{later_says, later_past, past_later}
-use Rattle.order.specs.Answer.{number_of}
-use Rattle.order.specs.Answer.{Answer}
-use Rattle.order.specs.Answer.{SizeMismatch, InvalidValue, WorkTooShort, BrokenTree}
+use Rattle.order.specs.Answer.{Answer, answer_of, number_of, SizeMismatch, InvalidValue, WorkTooShort, BrokenTree}
+use Rattle.order.specs.declared.Refusal as why
 use Rattle.fat_node.specs.Entry.{Bytes}
 use Rattle.fat_node.specs.Sizes.{blocks}
+use Rattle.fat_node.specs.declared.Counts.{Counts}
 use Rattle.fat_node.proofs.Sizes.{inside}
 use Rattle.fat_node.proofs.Nodes.{le_or_lt}
 use Rattle.fat_test.specs.Gate.{unsound}
 use Rattle.fat_test.specs.Inner.Gated as fat
-use Rattle.fat_test.specs.declared.Gated as fat-gated
-use Rattle.fat_test.specs.declared.Gated.TheVariants as fat-is
 use Rattle.tree_sound.specs.Sizes.{dir_room}
 use Rattle.tree_sound.specs.Tables.{Tables, MisfitIn, OutsideIn, rooms_in, SoundIn}
 use Rattle.tree_test.specs.Promise.{TreeGateOf}
-use Rattle.tree_test.specs.declared.Gated as tree-gated
-use Rattle.tree_test.specs.declared.Gated.TheVariants as tree_is
 use Rattle.volume_gate.specs.Gate.{places, Uneven, Unfit, broken_rows, volume_gate, Opened, VolumeGateOf}
-use Rattle.volume_gate.specs.Inner.Sizes.{Sizes, Fit, Sounds, SoundOf}
-use Rattle.volume_gate.specs.declared.Gated.{Gated}
-use Rattle.volume_gate.specs.declared.Gated.TheVariants.{Open, Refused}
+use Rattle.volume_gate.specs.Inner.Sizes.{Sizes, Fit, size_rows, SizedOf, Sounds, SoundOf}
 
 -- ---- rows that say the answer alone
 
@@ -79,74 +74,51 @@ below_one : (n : ℕ) → (n < 1) ⊎ (1 ≤ n)
 below_one n = ⊎_elim (λ h. inr h) (λ h. inl h) (le_or_lt 1 n)
 
 -- the same of the block table's gate, and of the entry tables'
-module _ (t : Bytes) (d l : ℕ) (work work' : List ℕ) (g : fat-gated.Gated) (says : fat.GateOf t d l work work' g) (none : length work ≡ 0) where
+module _ (t : Bytes) (d l : ℕ) (work work' : List ℕ) (none : length work ≡ 0) where
   block_short : (Unfit t l → ⊥) → length work < blocks t
   block_short u = omega (arith, none, (inside t (λ o. u (inl o))).0)
 
-  pub block_refused : (a : Answer) (r : ℕ) → g ≡ fat-is.Refused a → r ≡ number_of a → Sizes (Uneven t d l) (Unfit t l) r
-  block_refused a r e q =
-      refused_sizes (Uneven t d l) (Unfit t l) (length work < blocks t) (unsound t) (blocks t) work block_short a work' r (subst (fat.GateOf t d l work work') e says) q
+  pub block_told : (g : Result Counts why.Refusal) → fat.GateOf t d l work work' g → (r : ℕ) → r ≡ number_of (answer_of g) → Sizes (Uneven t d l) (Unfit t l) r
+  block_told (Ok c) says r e = open_sizes (Uneven t d l) (Unfit t l) (length work < blocks t) (unsound t) (blocks t) work block_short says.none
+  block_told (Err a) says r e = refused_sizes (Uneven t d l) (Unfit t l) (length work < blocks t) (unsound t) (blocks t) work block_short (Err a) work' r says e
 
-  pub block_open : (free files r : ℕ) → g ≡ fat-is.Open free files → Sizes (Uneven t d l) (Unfit t l) r
-  block_open free files r e =
-      let o : fat.Opened t d l work work' free files = subst (fat.GateOf t d l work work') e says in
-      open_sizes (Uneven t d l) (Unfit t l) (length work < blocks t) (unsound t) (blocks t) work block_short o.none
-
-module _ (s : Tables) (work work' : List ℕ) (g : tree-gated.Gated) (says : TreeGateOf s work work' g) (none : length work ≡ 0) where
+module _ (s : Tables) (work work' : List ℕ) (none : length work ≡ 0) where
   tree_short : (OutsideIn s → ⊥) → length work < rooms_in s
   tree_short u = ⊎_elim (λ h. absurd (u (inr (inl (inl h))))) (λ h. omega (arith, none, h)) (below_one (dir_room s.dir_table))
 
-  pub tree_refused : (a : Answer) (r : ℕ) → g ≡ tree_is.Refused a → r ≡ number_of a → Sizes (MisfitIn s) (OutsideIn s) r
+  pub tree_told : (g : Answer) → TreeGateOf s work work' g → (r : ℕ) → r ≡ number_of (answer_of g) → Sizes (MisfitIn s) (OutsideIn s) r
   unfolding TreeGateOf
-  tree_refused a r e q =
-      refused_sizes (MisfitIn s) (OutsideIn s) (length work < rooms_in s) (row (SoundIn s → ⊥) BrokenTree ∷ []) (rooms_in s) work tree_short a work' r (subst (TreeGateOf s work work') e says) q
+  tree_told (Ok x) says r e =
+      open_sizes (MisfitIn s) (OutsideIn s) (length work < rooms_in s) (row (SoundIn s → ⊥) BrokenTree ∷ []) (rooms_in s) work tree_short says.0
+  tree_told (Err a) says r e =
+      refused_sizes (MisfitIn s) (OutsideIn s) (length work < rooms_in s) (row (SoundIn s → ⊥) BrokenTree ∷ []) (rooms_in s) work tree_short (Err a) work' r says e
 
-  pub tree_open : (r : ℕ) → g ≡ tree_is.Open → Sizes (MisfitIn s) (OutsideIn s) r
-  unfolding TreeGateOf
-  tree_open r e =
-      let o = subst (TreeGateOf s work work') e says in
-      open_sizes (MisfitIn s) (OutsideIn s) (length work < rooms_in s) (row (SoundIn s → ⊥) BrokenTree ∷ []) (rooms_in s) work tree_short o.0
+-- both layers: all of row 1 comes before any of row 2
+module _ (t : Bytes) (d l : ℕ) (s : Tables) (b r : ℕ) (x : Sizes (Uneven t d l) (Unfit t l) b) (y : Sizes (MisfitIn s) (OutsideIn s) r) where
+  pub blocks_misfit : b ≡ 1 → SizedOf t d l s SizeMismatch
+  blocks_misfit e = inl (inl (x.one e), refl)
 
--- both layers
-pub both_sizes : (M I M' I' : Type 0) (b t r : ℕ) → Sizes M I b → Sizes M' I' t
-    → (r ≡ 1 → (b ≡ 1) ⊎ (t ≡ 1)) × (r ≡ 2 → (b ≡ 2) ⊎ (t ≡ 2)) × ((r ≡ 1 → ⊥) → (b ≡ 1 → ⊥) × (t ≡ 1 → ⊥)) × ((r ≡ 1 → ⊥) → (r ≡ 2 → ⊥) → (b ≡ 2 → ⊥) × (t ≡ 2 → ⊥))
-    → Sizes (M ⊎ M') (I ⊎ I') r
-both_sizes M I M' I' b t r x y f = record {
-  one = λ e. ⊎_elim (λ q. inl (x.one q)) (λ q. inr (y.one q)) (f.0 e);
-  fits = λ n. ⊎_elim (x.fits (f.2 n).0) (y.fits (f.2 n).1);
-  two = λ e. ⊎_elim (λ q. inl (x.two q)) (λ q. inr (y.two q)) (f.1 e);
-  valid = λ n m. ⊎_elim (x.valid (f.2 n).0 (f.3 n m).0) (y.valid (f.2 n).1 (f.3 n m).1);
-}
+  pub tree_misfit : r ≡ 1 → SizedOf t d l s SizeMismatch
+  tree_misfit e = inl (inr (y.one e), refl)
 
--- ---- the first row of two
+  module _ (m : b ≢ 1) (n : r ≢ 1) where
+    fits : Uneven t d l ⊎ MisfitIn s → ⊥
+    fits h = ⊎_elim (x.fits m) (y.fits n) h
 
-abbrev Firstly : ℕ → ℕ → ℕ → Type 0
-Firstly b t r =
-    (r ≡ 1 → (b ≡ 1) ⊎ (t ≡ 1)) × (r ≡ 2 → (b ≡ 2) ⊎ (t ≡ 2)) × ((r ≡ 1 → ⊥) → (b ≡ 1 → ⊥) × (t ≡ 1 → ⊥))
-    × ((r ≡ 1 → ⊥) → (r ≡ 2 → ⊥) → (b ≡ 2 → ⊥) × (t ≡ 2 → ⊥))
+    pub blocks_invalid : b ≡ 2 → SizedOf t d l s InvalidValue
+    blocks_invalid e = inr (fits, inl (inl (x.two e), refl))
 
-no : {A : Type 0} → ⊥ → A
-no z = absurd z
+    pub tree_invalid : r ≡ 2 → SizedOf t d l s InvalidValue
+    tree_invalid e = inr (fits, inl (inr (y.two e), refl))
 
-module _ (b t : ℕ) where
-  pub row_one_blocks : b ≡ 1 → Firstly b t 1
-  row_one_blocks e = ((λ _. inl e), (λ z. no (omega (arith, z))), (λ n. no (n refl)), λ n. no (n refl))
-
-  pub row_one_tree : t ≡ 1 → Firstly b t 1
-  row_one_tree e = ((λ _. inr e), (λ z. no (omega (arith, z))), (λ n. no (n refl)), λ n. no (n refl))
-
-  module _ (x : b ≡ 1 → ⊥) (y : t ≡ 1 → ⊥) where
-    pub row_two_blocks : b ≡ 2 → Firstly b t 2
-    row_two_blocks e = ((λ z. no (omega (arith, z))), (λ _. inl e), (λ _. (x, y)), λ _ n. no (n refl))
-
-    pub row_tree : (b ≡ 2 → ⊥) → Firstly b t t
-    row_tree z = ((λ q. inr q), (λ q. inr q), (λ _. (x, y)), λ _ m. (z, m))
+    pub sizes_fit : b ≢ 2 → r ≢ 2 → Fit t d l s
+    sizes_fit i j = record { even = x.fits m; fit = x.valid m i; tables = y.fits n; inside = y.valid n j }
 
 -- ---- a list that was lent no place of
 
 untouched : (w v : List ℕ) → length v ≡ 0 → v ++ w ≡ w
 untouched w [] e = refl
-untouched w (x ∷ v) e = no (omega (arith, e))
+untouched w (x ∷ v) e = absurd (omega (arith, e))
 
 pub twice_untouched : (w v u : List ℕ) → length v ≡ 0 → length u ≡ 0 → u ++ (v ++ w) ≡ w
 twice_untouched w v u e q = untouched (v ++ w) u q ∙ untouched w v e
@@ -159,82 +131,72 @@ take_long n t s w e h = omega (arith, e, length-take-le (n + rooms_in s) w h)
 
 -- ---- once the sizes have passed, the gates tell of soundness
 
-module _ (t : Bytes) (d l : ℕ) (s : Tables) (f : Fit t d l s) where
-  module _ (work work' : List ℕ) (room : places t s ≤ length work) (g : fat-gated.Gated) (says : fat.GateOf t d l work work' g) where
-    pub blocks_broken : (a : Answer) → g ≡ fat-is.Refused a → Given (broken_rows t s) a
-    blocks_broken a e = go (subst (fat.GateOf t d l work work') e says)
-      where
-        go : fat.GateOf t d l work work' (fat-is.Refused a) → Given (broken_rows t s) a
-        go (inl p) = absurd (f.even p.0)
-        go (inr (m, inl p)) = absurd (f.fit p.0)
-        go (inr (m, inr (i, inl p))) = let z : ⊥ = omega (arith, p.0, room) in absurd z
-        go (inr (m, inr (i, inr (h, p)))) = given_left (unsound t) (row (SoundIn s → ⊥) BrokenTree ∷ []) a (later_answer (blocks t) work (unsound t) a work' p)
+module _ (t : Bytes) (d l : ℕ) (s : Tables) (f : Fit t d l s) (work work' : List ℕ) (room : places t s ≤ length work) where
+  pub blocks_broken : (a : why.Refusal) → fat.GateOf t d l work work' (Err a) → SoundOf t s (Err a)
+  blocks_broken a (inl p) = absurd (f.even p.0)
+  blocks_broken a (inr (m, inl p)) = absurd (f.fit p.0)
+  blocks_broken a (inr (m, inr (i, inl p))) = let z : ⊥ = omega (arith, p.0, room) in absurd z
+  blocks_broken a (inr (m, inr (i, inr (h, p)))) =
+      given_left (unsound t) (row (SoundIn s → ⊥) BrokenTree ∷ []) (Err a) (later_answer (blocks t) work (unsound t) (Err a) work' p)
 
-    module _ (free files : ℕ) (e : g ≡ fat-is.Open free files) where
-      opened : fat.Opened t d l work work' free files
-      opened = subst (fat.GateOf t d l work work') e says
+  module _ (c : Counts) (opened : fat.GateOf t d l work work' (Ok c)) (work₁ work₂ : List ℕ) (long : length work₁ ≡ length work) where
+    sound_rows : None (unsound t)
+    sound_rows = past_later refusal (blocks t) work (unsound t) opened.none.1.1.1
 
-      sound_rows : None (unsound t)
-      sound_rows = past_later refusal (blocks t) work (unsound t) opened.none.1.1.1
-
-      module _ (work₁ work₂ : List ℕ) (long : length work₁ ≡ length work) (h : tree-gated.Gated) (tells : TreeGateOf s work₁ work₂ h) where
-        pub tree_broken : (a : Answer) → h ≡ tree_is.Refused a → Given (broken_rows t s) a
-        unfolding TreeGateOf
-        tree_broken a q = go (subst (TreeGateOf s work₁ work₂) q tells)
-          where
-            go : TreeGateOf s work₁ work₂ (tree_is.Refused a) → Given (broken_rows t s) a
-            go (inl p) = absurd (f.tables p.0)
-            go (inr (_, inl p)) = absurd (f.inside p.0)
-            go (inr (_, inr (_, inl p))) = let z : ⊥ = omega (arith, p.0, room, long) in absurd z
-            go (inr (_, inr (_, inr (_, p)))) =
-                given_right (unsound t) (row (SoundIn s → ⊥) BrokenTree ∷ []) a sound_rows (later_answer (rooms_in s) work₁ (row (SoundIn s → ⊥) BrokenTree ∷ []) a work₂ p)
-
-        pub both_sound : h ≡ tree_is.Open → Sounds t s
-        unfolding TreeGateOf
-        both_sound q =
-            let w = subst (TreeGateOf s work₁ work₂) q tells in
-            record { none = none_both (unsound t) (row (SoundIn s → ⊥) BrokenTree ∷ []) sound_rows ((λ z. z w.1), tt); blocks = opened.sound; tree = w.1 }
+    pub tree_sound : (h : Answer) → TreeGateOf s work₁ work₂ h → SoundOf t s h
+    unfolding TreeGateOf
+    tree_sound (Ok x) w =
+        record { none = none_both (unsound t) (row (SoundIn s → ⊥) BrokenTree ∷ []) sound_rows ((λ z. z w.1), tt); blocks = opened.sound; tree = w.1 }
+    tree_sound (Err a) (inl p) = absurd (f.tables p.0)
+    tree_sound (Err a) (inr (_, inl p)) = absurd (f.inside p.0)
+    tree_sound (Err a) (inr (_, inr (_, inl p))) = let z : ⊥ = omega (arith, p.0, room, long) in absurd z
+    tree_sound (Err a) (inr (_, inr (_, inr (_, p)))) =
+        given_right (unsound t) (row (SoundIn s → ⊥) BrokenTree ∷ []) (Err a) sound_rows
+        (later_answer (rooms_in s) work₁ (row (SoundIn s → ⊥) BrokenTree ∷ []) (Err a) work₂ p)
 
 -- ---- the gate
 
-module _ (t : Bytes) (d l : ℕ) (s : Tables) (work work₁ : List ℕ) (r : ℕ) (z : Sizes (Uneven t d l ⊎ MisfitIn s) (Unfit t l ⊎ OutsideIn s) r) (same : work₁ ≡ work) where
+module _ (t : Bytes) (d l : ℕ) (s : Tables) (work work₁ : List ℕ) (same : work₁ ≡ work) where
   -- what the gate says where the work list was not touched
-  stays : (g : Gated) → VolumeGateOf t d l s work work g → VolumeGateOf t d l s work work₁ g
+  stays : (g : Answer) → VolumeGateOf t d l s work work g → VolumeGateOf t d l s work work₁ g
   stays g p = subst⁻¹ (λ (w : List ℕ). VolumeGateOf t d l s work w g) same p
 
-  pub gate_misfit : r ≡ 1 → VolumeGateOf t d l s work work₁ (Refused SizeMismatch)
+  pub gate_sized : (a : why.Refusal) → Given (size_rows t d l s) (Err a) → VolumeGateOf t d l s work work₁ (Err a)
   unfolding VolumeGateOf
-  gate_misfit e = stays (Refused SizeMismatch) (inl (z.one e, refl))
+  gate_sized a p = stays (Err a) (go p)
+    where
+      go : Given (size_rows t d l s) (Err a) → VolumeGateOf t d l s work work (Err a)
+      go (inl p) = inl (p.0, ap (λ (x : Answer). refusal x work) p.1)
+      go (inr (m, inl p)) = inr (m, inl (p.0, ap (λ (x : Answer). refusal x work) p.1))
+      go (inr (m, inr (i, p))) = absurd p
 
-  module _ (m : r ≢ 1) where
-    pub gate_invalid : r ≡ 2 → VolumeGateOf t d l s work work₁ (Refused InvalidValue)
+  module _ (f : Fit t d l s) where
+    even : Uneven t d l ⊎ MisfitIn s → ⊥
+    even h = ⊎_elim f.even f.tables h
+
+    valid : Unfit t l ⊎ OutsideIn s → ⊥
+    valid h = ⊎_elim f.fit f.inside h
+
+    pub gate_short : (n : ℕ) → n ≡ blocks t → length work₁ < n + rooms_in s → VolumeGateOf t d l s work work₁ WorkTooShort
     unfolding VolumeGateOf
-    gate_invalid e = stays (Refused InvalidValue) (inr (z.fits m, inl (z.two e, refl)))
+    gate_short n q h = stays WorkTooShort (inr (even, inr (valid, inl (omega (arith, h, q, ap (λ (w : List ℕ). length w) same), refl))))
 
-    module _ (i : r ≢ 2) where
-      pub gate_fits : Fit t d l s
-      gate_fits = record { even = λ x. z.fits m (inl x); fit = λ x. z.valid m i (inl x); tables = λ x. z.fits m (inr x); inside = λ x. z.valid m i (inr x) }
+    told : (g : Answer) → SoundOf t s g → (length work < places t s → ⊥) → VolumeGateOf t d l s work (cleared (places t s) work) g
+    unfolding VolumeGateOf
+    told (Ok x) w long = record {
+      none = (even, (valid, (long, later_past refusal (places t s) work (broken_rows t s) w.none)));
+      blocks = w.blocks;
+      tree = w.tree;
+      clear = refl;
+    }
+    told (Err a) w long = inr (even, inr (valid, inr (long, later_says refusal (places t s) work (broken_rows t s) (Err a) w)))
 
-      pub gate_short : (n : ℕ) → n ≡ blocks t → length work₁ < n + rooms_in s → VolumeGateOf t d l s work work₁ (Refused WorkTooShort)
-      unfolding VolumeGateOf
-      gate_short n q h = stays (Refused WorkTooShort) (inr (z.fits m, inr (z.valid m i, inl (omega (arith, h, q, ap (λ (w : List ℕ). length w) same), refl))))
-
-      told : (g : Gated) → SoundOf t s g → (length work < places t s → ⊥) → VolumeGateOf t d l s work (cleared (places t s) work) g
-      unfolding VolumeGateOf
-      told Open w long = record {
-        none = (z.fits m, (z.valid m i, (long, later_past refusal (places t s) work (broken_rows t s) w.none)));
-        blocks = w.blocks;
-        tree = w.tree;
-        clear = refl;
-      }
-      told (Refused a) w long = inr (z.fits m, inr (z.valid m i, inr (long, later_says refusal (places t s) work (broken_rows t s) a w)))
-
-      pub gate_told : (n : ℕ) (v : List ℕ) (g : Gated) → n ≡ blocks t → n + rooms_in s ≤ length work₁ → v ≡ replicate (length (take (n + rooms_in s) work₁)) 0 → SoundOf t s g
-          → VolumeGateOf t d l s work (v ++ drop (n + rooms_in s) work₁) g
-      gate_told n v g q h e p =
-          let k : ℕ = n + rooms_in s in
-          let c : v ++ drop k work₁ ≡ cleared (places t s) work =
-          ap (λ (x : List ℕ). x ++ drop k work₁) (e ∙ ap (λ (j : ℕ). replicate j 0) (length-take-le k work₁ h))
-          ∙ ap (λ (w : List ℕ). cleared k w) same
-          ∙ ap (λ (j : ℕ). cleared (j + rooms_in s) work) q in
-          subst⁻¹ (λ (w : List ℕ). VolumeGateOf t d l s work w g) c (told g p (λ x. omega (arith, x, h, q, ap (λ (w : List ℕ). length w) same)))
+    pub gate_told : (n : ℕ) (v : List ℕ) (g : Answer) → n ≡ blocks t → n + rooms_in s ≤ length work₁ → v ≡ replicate (length (take (n + rooms_in s) work₁)) 0 → SoundOf t s g
+        → VolumeGateOf t d l s work (v ++ drop (n + rooms_in s) work₁) g
+    gate_told n v g q h e p =
+        let k : ℕ = n + rooms_in s in
+        let c : v ++ drop k work₁ ≡ cleared (places t s) work =
+        ap (λ (x : List ℕ). x ++ drop k work₁) (e ∙ ap (λ (j : ℕ). replicate j 0) (length-take-le k work₁ h))
+        ∙ ap (λ (w : List ℕ). cleared k w) same
+        ∙ ap (λ (j : ℕ). cleared (j + rooms_in s) work) q in
+        subst⁻¹ (λ (w : List ℕ). VolumeGateOf t d l s work w g) c (told g p (λ x. omega (arith, x, h, q, ap (λ (w : List ℕ). length w) same)))

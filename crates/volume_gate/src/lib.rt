@@ -1,12 +1,12 @@
 // The gate that every call on both layers passes: sizes, work list, soundness of the block table, soundness of the entry tables.
 #![tactic(auto)]
 
-ghost use Rattle.std.specs.Prelude.{◌≡◌, ◌⊎◌, ◌+◌, ◌≤◌, ◌<◌, length, replicate};
+ghost use Rattle.std.specs.Prelude.{◌≡◌, ◌≤◌, length, replicate};
 ghost use Rattle.order.specs.Gate.{cleared};
 ghost use Rattle.fat_node.specs.Sizes.{blocks};
 ghost use Rattle.tree_sound.specs.Tables.{tables, MisfitIn, OutsideIn, rooms_in};
 ghost use Rattle.volume_gate.specs.Gate.{places, Uneven, Unfit, VolumeGateOf};
-ghost use Rattle.volume_gate.specs.Inner.Sizes.{Sizes, Fit, SoundOf};
+ghost use Rattle.volume_gate.specs.Inner.Sizes.{Sizes, Fit, SizedOf, SoundOf};
 
 use order::Refusal;
 
@@ -38,20 +38,6 @@ fn tree_sizes(
     order::number(&tree_test::gate(dir_hash, dir_table, file_hash, file_table, none))
 }
 
-// The first of two rows of sizes: all of row 1 comes before any of row 2.
-fn first_row(blocks: u32, tree: u32) -> u32
-    ensures { (result ≡ 1 → (blocks ≡ 1) ⊎ (tree ≡ 1)) × (result ≡ 2 → (blocks ≡ 2) ⊎ (tree ≡ 2))
-        × ((result ≡ 1 → ⊥) → (blocks ≡ 1 → ⊥) × (tree ≡ 1 → ⊥)) × ((result ≡ 1 → ⊥) → (result ≡ 2 → ⊥) → (blocks ≡ 2 → ⊥) × (tree ≡ 2 → ⊥)) }
-{
-    if blocks == 1 || tree == 1 {
-        return 1;
-    }
-    if blocks == 2 {
-        return 2;
-    }
-    tree
-}
-
 // Whether both layers are sound, in a work list of enough places; what stands in it afterwards is not said.
 fn sound(
     table: &[u8],
@@ -71,7 +57,7 @@ fn sound(
     tree_test::gate(dir_hash, dir_table, file_hash, file_table, work)
 }
 
-// The row of sizes that applies first over both layers. The work list is not touched.
+// The rows of sizes over both layers: all of row 1 comes before any of row 2. The work list is not touched.
 fn sizes(
     table: &[u8],
     data_len: usize,
@@ -81,14 +67,19 @@ fn sizes(
     file_hash: &[u8],
     file_table: &[u8],
     work: &mut [u32],
-) -> u32
-    ensures { Sizes (Uneven table.now data_len block_len ⊎ MisfitIn (tables dir_hash.now dir_table.now file_hash.now file_table.now))
-        (Unfit table.now block_len ⊎ OutsideIn (tables dir_hash.now dir_table.now file_hash.now file_table.now)) result
-        × (work.new ≡ work.old) }
+) -> Result<(), Refusal>
+    ensures sized { SizedOf table.now data_len block_len (tables dir_hash.now dir_table.now file_hash.now file_table.now) result }
+    ensures same { work.new ≡ work.old }
 {
     let blocks = block_sizes(table, data_len, block_len, &mut work[..0]);
     let tree = tree_sizes(dir_hash, dir_table, file_hash, file_table, &mut work[..0]);
-    first_row(blocks, tree)
+    if blocks == 1 || tree == 1 {
+        return Err(Refusal::SizeMismatch);
+    }
+    if blocks == 2 || tree == 2 {
+        return Err(Refusal::InvalidValue);
+    }
+    Ok(())
 }
 
 // The same as `sound`, in a work list of exactly the named places, which are 0 after it.
@@ -104,8 +95,8 @@ fn verdict(
 ) -> Result<(), Refusal>
     requires fit { Fit table.now data_len block_len (tables dir_hash.now dir_table.now file_hash.now file_table.now) }
     requires file_table_in_bounds { places table.now (tables dir_hash.now dir_table.now file_hash.now file_table.now) ≤ length work.old }
-    ensures { SoundOf table.now (tables dir_hash.now dir_table.now file_hash.now file_table.now) result
-        × (work.new ≡ replicate (length work.old) 0) }
+    ensures sound { SoundOf table.now (tables dir_hash.now dir_table.now file_hash.now file_table.now) result }
+    ensures clear { work.new ≡ replicate (length work.old) 0 }
 {
     let told = sound(
         table, data_len, block_len, dir_hash, dir_table, file_hash, file_table, work,
@@ -127,15 +118,9 @@ pub fn gate(
 ) -> Result<(), Refusal>
     ensures { VolumeGateOf table.now data_len block_len (tables dir_hash.now dir_table.now file_hash.now file_table.now) work.old work.new result }
 {
-    let row = sizes(
+    sizes(
         table, data_len, block_len, dir_hash, dir_table, file_hash, file_table, work,
-    );
-    if row == 1 {
-        return Err(Refusal::SizeMismatch);
-    }
-    if row == 2 {
-        return Err(Refusal::InvalidValue);
-    }
+    )?;
     let rooms = dir_table.len() / DIR + file_table.len() / FILE;
     let places = fat_node::blocks(table) + rooms;
     if work.len() < places {

@@ -3,4 +3,4 @@ use borrow.Author.Rules.{rules}
 use Rattle.volume_gate.proofs.verdict.Goals as goal
 
 pub returns : goal.returns
-returns c = (c.sound-told.ensures, search (cleared_all, rules))
+returns c = record { sound = c.sound-told.ensures; clear = search (cleared_all, rules) }

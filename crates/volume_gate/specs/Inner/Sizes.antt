@@ -1,7 +1,8 @@
 -- Which row of sizes applies, and what soundness says once they have passed.
-use Rattle.std.specs.Prelude.{◌≡◌, ◌≢◌, Ok, Err, ℕ}
+use Rattle.std.specs.Prelude.{◌≡◌, ◌≢◌, ◌⊎◌, List, [], ◌∷◌, Ok, Err, ℕ}
 use Rattle.order.specs.Given.{Given, None}
-use Rattle.order.specs.Answer.{Answer}
+use Rattle.order.specs.First.{Row, row}
+use Rattle.order.specs.Answer.{Answer, SizeMismatch, InvalidValue}
 use Rattle.fat_node.specs.Entry.{Bytes}
 use Rattle.fat_node.specs.Sizes as block
 use Rattle.fat_table.specs.Sound as block-table
@@ -21,6 +22,15 @@ pub record Fit (t : Bytes) (d l : ℕ) (s : Tables) : Type 0 where
   pub fit : Unfit t l → ⊥
   pub tables : MisfitIn s → ⊥
   pub inside : OutsideIn s → ⊥
+
+-- the rows of sizes, over both layers
+abbrev pub size_rows : (t : Bytes) (d l : ℕ) (s : Tables) → List (Row Answer)
+size_rows t d l s = row (Uneven t d l ⊎ MisfitIn s) SizeMismatch ∷ row (Unfit t l ⊎ OutsideIn s) InvalidValue ∷ []
+
+-- none applies, or the first that does refuses
+abbrev pub SizedOf : (t : Bytes) (d l : ℕ) (s : Tables) → Answer → Type 0
+SizedOf t d l s (Ok told) = Fit t d l s
+SizedOf t d l s (Err why) = Given (size_rows t d l s) (Err why)
 
 -- both layers are sound
 pub record Sounds (t : Bytes) (s : Tables) : Type 0 where
