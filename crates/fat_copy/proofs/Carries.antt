@@ -6,21 +6,20 @@ use Prim.Native.Nat.{ℕ, ◌+◌, ◌-◌, ◌*◌, ◌≤◌, ◌<◌}
 use native.Mathlib.Omega.{arith}
 use native.Mathlib.Nat.{add-mul, mul-le-mul_right, one-le-mul}
 use lib.ListN.{length, take, drop, length-drop}
-use lib.Seq.{sets, length-sets, length-take-le, take-length, take-add}
+use lib.Seq.{sets, length-sets, length-take-le, take-add}
 use Rattle.fat_node.specs.Entry.{Bytes}
 use Rattle.fat_node.specs.Node.{Run, next_at}
 use Rattle.fat_node.proofs.Nodes.{le_or_lt}
 use Rattle.fat_table.specs.Chain.{total, size_at}
 use Rattle.fat_table.specs.Steps.{first}
 use Rattle.fat_promises.specs.Blocks.{blocks_of, bytes_at, written}
-use Rattle.fat_walk.specs.Inner.Chains.{Standing, Chain, Least}
-use Rattle.fat_judge.specs.Inner.Stretches.{CursorAt, StretchOf}
+use Rattle.fat_walk.specs.Inner.Chains.{Standing, Chain}
+use Rattle.fat_judge.specs.Inner.Stretches.{CursorAt, CarriesAt, StretchOf}
 use Rattle.fat_table.proofs.Unchanged.{total_append}
 use Rattle.fat_walk.proofs.Nodes.{mid_size, mid_next, mid_standing, mid_pos, mid_within}
 use Rattle.fat_walk.proofs.Blocks.{sets_append}
 use Rattle.fat_copy.proofs.Puts.{lent_back, sets_whole}
 use Rattle.fat_copy.proofs.InRow.{length_bytes, bytes_split, bytes_row, written_append, written_row, InRow, in_row}
-use Rattle.fat_judge.proofs.Cursors.{same_bytes}
 
 -- a stretch ---------------------------------------------------------------------------------------------------------------
 
@@ -30,9 +29,6 @@ module _ (n : ℕ) (t : Bytes) (c : List Run) (l p i f : ℕ) (h : Chain n t c) 
 
   at_block : w.node.start ≡ i - 1
   at_block = omega (arith, w.at)
-
-  pub at_some : 1 ≤ i
-  at_some = omega (arith, w.at)
 
   pub at_standing : Standing n t (i - 1)
   at_standing = subst (Standing n t) at_block (mid_standing n t w.before w.node w.after at_chain)
@@ -105,18 +101,6 @@ module _ (n : ℕ) (t : Bytes) (c : List Run) (l p i f : ℕ) (h : Chain n t c) 
               fits = one-le-mul (mid_pos n t (w.before ++ w.node ∷ []) y A (subst (Chain n t) g h)) pos;
             }
 
-pub stretch_says : (t : Bytes) (l b f want s len next : ℕ) → f ≤ size_at t b * l → s ≡ size_at t b → Least want (s * l - f) len
-    → next ≡ next_at t b → StretchOf t l b f want (b * l + f) len next
-stretch_says t l b f want s len next h e m q =
-    let u : s * l ≡ size_at t b * l = same_bytes s (size_at t b) l e in
-    record {
-      place = refl;
-      most = m.left;
-      fits = omega (arith, m.right, h, u);
-      all = λ k. omega (arith, m.one k, h, u);
-      on = q;
-    }
-
 -- a part of a list, as long as asked
 pub part_length : (s : List ℕ) (a k : ℕ) → a + k ≤ length s → length (take k (drop a s)) ≡ k
 part_length s a k h = length-take-le k (drop a s) (omega (arith, h, length-drop a s))
@@ -128,14 +112,6 @@ pub record Reading (c : List Run) (d : Bytes) (l pos : ℕ) (buf₀ buf : Bytes)
   pub is : buf ≡ sets buf₀ 0 (bytes_at done d l (blocks_of c) pos)
   pub upto : done ≤ length buf₀
   pub at : done < length buf₀ → CursorAt c l (pos + done) i f
-
-pub read_begin : (c : List Run) (d : Bytes) (l pos : ℕ) (buf₀ : Bytes) (i f : ℕ) → pos + length buf₀ ≤ total c * l → (pos < total c * l → CursorAt c l pos i f)
-    → Reading c d l pos buf₀ buf₀ i f 0
-read_begin c d l pos buf₀ i f h w = record {
-  is = refl;
-  upto = omega arith;
-  at = λ k. let e : pos ≡ pos + 0 = omega arith in subst (λ (x : ℕ). CursorAt c l x i f) e (w (omega (arith, h, k)));
-}
 
 pub read_end : (c : List Run) (d : Bytes) (l pos : ℕ) (buf₀ buf : Bytes) (i f done : ℕ) → Reading c d l pos buf₀ buf i f done → length buf₀ ≤ done
     → buf ≡ bytes_at (length buf₀) d l (blocks_of c) pos
@@ -153,32 +129,22 @@ pub record Writing (c : List Run) (buf : Bytes) (l pos : ℕ) (d₀ d : Bytes) (
   pub upto : done ≤ length buf
   pub at : done < length buf → CursorAt c l (pos + done) i f
 
-pub write_begin : (c : List Run) (buf : Bytes) (l pos : ℕ) (d₀ : Bytes) (i f : ℕ) → pos + length buf ≤ total c * l → (pos < total c * l → CursorAt c l pos i f)
-    → Writing c buf l pos d₀ d₀ i f 0
-write_begin c buf l pos d₀ i f h w = record {
-  is = refl;
-  upto = omega arith;
-  at = λ k. let e : pos ≡ pos + 0 = omega arith in subst (λ (x : ℕ). CursorAt c l x i f) e (w (omega (arith, h, k)));
-}
-
-pub write_end : (c : List Run) (buf : Bytes) (l pos : ℕ) (d₀ d : Bytes) (i f done : ℕ) → Writing c buf l pos d₀ d i f done → length buf ≤ done
-    → d ≡ written buf d₀ l (blocks_of c) pos
-write_end c buf l pos d₀ d i f done w h =
-    let e : done ≡ length buf = omega (arith, w.upto, h) in
-    w.is
-    ∙ ap (λ (x : ℕ). written (take x buf) d₀ l (blocks_of c) pos) e
-    ∙ ap (λ (x : Bytes). written x d₀ l (blocks_of c) pos) (take-length buf)
-
 -- a turn ------------------------------------------------------------------------------------------------------------------
 
-module _ (n : ℕ) (t : Bytes) (c : List Run) (l pos i f done many at len next : ℕ) (h : Chain n t c) (g : 0 < l) (room : pos + many ≤ total c * l) (k : done < many)
-    (w : CursorAt c l (pos + done) i f) (s : StretchOf t l (i - 1) f (many - done) at len next) where
+module _ {n : ℕ} {t : Bytes} {c : List Run} {l pos i₀ f₀ i f done many at len next : ℕ} (y : CarriesAt n t l c pos many i₀ f₀) (g : 0 < l) (k : done < many)
+    (x : done < many → CursorAt c l (pos + done) i f) (s : StretchOf t l (i - 1) f (many - done) at len next) where
+  abbrev h : Chain n t c
+  h = y.stands
+
+  abbrev w : CursorAt c l (pos + done) i f
+  w = x k
+
   -- where bytes are left after this turn
   turn_at : done + len < many → CursorAt c l (pos + (done + len)) next 0
   turn_at e =
       let q : pos + done + len ≡ pos + (done + len) = omega arith in
       subst (λ (x : ℕ). CursorAt c l x next 0) q
-      (stretch_next n t c l (pos + done) i f h w (many - done) at len next (omega (arith, k)) s g (omega (arith, e, k)) (omega (arith, e, room)))
+      (stretch_next n t c l (pos + done) i f h w (many - done) at len next (omega (arith, k)) s g (omega (arith, e, k)) (omega (arith, e, y.room)))
 
   turn_row : InRow (blocks_of c) l (pos + done) at len
   turn_row = stretch_row n t c l (pos + done) i f h w (many - done) at len next (omega (arith, k)) s g
@@ -223,9 +189,6 @@ module _ (n : ℕ) (t : Bytes) (c : List Run) (l pos i f done many at len next :
           at = λ z. turn_at (omega (arith, z, eb));
         }
 
-    pub read_long : length (take done buf ++ (part ++ drop e (drop done buf))) ≡ length buf₀
-    read_long = ap length part_back ∙ length-sets buf done part ∙ buf_long
-
   module _ (d₀ d d' buf part : Bytes) (e : ℕ) (eb : length buf ≡ many) (r : Writing c buf l pos d₀ d i f done) (q : e ≡ len) (u : part ≡ take e (drop done buf))
       (v : d' ≡ sets d at part) where
     share_is : part ≡ take len (drop done buf)
@@ -247,6 +210,3 @@ module _ (n : ℕ) (t : Bytes) (c : List Run) (l pos i f done many at len next :
           upto = omega (arith, eb, turn_upto);
           at = λ z. turn_at (omega (arith, z, eb));
         }
-
-    pub write_long : length d ≡ length d₀ → length d' ≡ length d₀
-    write_long h = ap length v ∙ length-sets d at part ∙ h

@@ -6,9 +6,8 @@ use native.Mathlib.Numerals.{add-one}
 use lib.ListN.{length}
 use Rattle.words.proofs.Laws as words
 use Rattle.order.specs.First.{First}
-use Rattle.order.specs.Answer.{Answer}
 use Rattle.order.specs.Answer as is
-use Rattle.order.proofs.Tests.{test_refused, tests_passed}
+use Rattle.order.proofs.Tests.{tests_passed}
 use Rattle.fat_node.specs.Entry.{Bytes}
 use Rattle.fat_node.specs.Node.{Run}
 use Rattle.fat_table.specs.Chain.{chain_at, file_at}
@@ -18,23 +17,12 @@ use Rattle.fat_promises.proofs.May.{none_carry}
 use Rattle.fat_walk.specs.Volume.{Volume}
 use Rattle.fat_walk.specs.Inner.Chains.{Chain}
 use Rattle.fat_judge.specs.Inner.Stretches.{CarriesAt, Carries}
-use Rattle.fat_judge.specs.Inner.Plans.{CarryAt, CarryPlanned}
-use Rattle.fat_judge.specs.declared.CarryPlan.{CarryPlan}
-use Rattle.fat_judge.specs.declared.CarryPlan.TheVariants as carry-plan
+use Rattle.fat_judge.specs.Inner.Plans.{CarryAt}
 use Rattle.fat_walk.proofs.Found.{file_from}
 
 -- the calls ---------------------------------------------------------------------------------------------------------------
 
-pub carry_refused : (n : ℕ) (t : Bytes) (l b pos many : ℕ) (r : CarryPlan) → CarryPlanned n t l b pos many r → (bytes : Bytes) (done : Carry) (a : Answer)
-    → r ≡ carry-plan.Refused a → First (carry_rows n t l b pos many bytes) done (carry_gives a bytes)
-carry_refused n t l b pos many r s bytes done a e =
-    test_refused (λ a. carry_gives a bytes) done (carry_tests n t l b pos many) a (subst (CarryPlanned n t l b pos many) e s)
-
-module _ (n : ℕ) (t : Bytes) (v : Volume n t) (g : words.Bytes t) (l b pos many : ℕ) (r : CarryPlan) (s : CarryPlanned n t l b pos many r) (i f : ℕ)
-    (e : r ≡ carry-plan.Within i f) where
-  told : CarryAt n t l b pos many i f
-  told = subst (CarryPlanned n t l b pos many) e s
-
+module _ (n : ℕ) (t : Bytes) (v : Volume n t) (g : words.Bytes t) (l b pos many i f : ℕ) (told : CarryAt n t l b pos many i f) where
   carries : CarriesAt n t l (file_at n t b) pos many i f
   carries = record {
     stands = subst (λ (j : ℕ). Chain n t (chain_at t n j)) (add-one b) (file_from n t v g b told.may.file).chain;

@@ -1,4 +1,3 @@
-pub mod Copied
 pub mod InRow
 pub mod Puts
 pub mod Carries

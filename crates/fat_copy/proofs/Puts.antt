@@ -1,15 +1,11 @@
 -- Numbers put into a list one after the other, from a place on: what parts lent to a call leave.
-use mathlib.Core.Path.{◌≡◌, refl, sym, ap, ◌∙◌}
+use mathlib.Core.Path.{◌≡◌, sym, ap, ◌∙◌}
 use mathlib.Core.List.{List, ◌++◌, append-nil, append_assoc}
-use mathlib.Core.Logic.{⊎_elim}
-use Prim.Native.Nat.{ℕ, ◌+◌, ◌-◌, ◌%◌, ◌≤◌}
-use native.Mathlib.Nat.{mod-lt}
+use Prim.Native.Nat.{ℕ, ◌+◌, ◌≤◌}
 use native.Mathlib.Omega.{arith}
 use lib.ListN.{length, take, drop, length-drop}
-use Rattle.fat_node.proofs.Nodes.{le_or_lt}
-use Rattle.fat_walk.specs.Inner.Chains.{Least}
 use Rattle.fat_walk.proofs.Blocks.{sets_append}
-use lib.Seq.{sets, sets-eq, length-sets, drop-drop, drop-length, take-add, length-take-le, take-length}
+use lib.Seq.{sets, sets-eq, length-sets, drop-drop, drop-length, take-add, length-take-le}
 
 -- a part from a to e, lent and come back as p
 pub lent_back : (l p : List ℕ) (a k : ℕ) → length p ≡ k → a + k ≤ length l → take a l ++ (p ++ drop k (drop a l)) ≡ sets l a p
@@ -44,14 +40,6 @@ pub record Putting (s d₀ d : List ℕ) (at i : ℕ) : Type 0 where
   pub is : d ≡ sets d₀ at (take i s)
   pub upto : i ≤ length s
 
-pub put_begin : (s d₀ : List ℕ) (at : ℕ) → Putting s d₀ d₀ at 0
-put_begin s d₀ at = record { is = refl; upto = omega arith }
-
-pub put_end : (s d₀ d : List ℕ) (at i : ℕ) → Putting s d₀ d at i → length s ≤ i → d ≡ sets d₀ at s
-put_end s d₀ d at i w h =
-    let e : i ≡ length s = omega (arith, w.upto, h) in
-    w.is ∙ ap (λ (j : ℕ). sets d₀ at (take j s)) e ∙ ap (sets d₀ at) (take-length s)
-
 module _ (s d₀ d : List ℕ) (at i k : ℕ) (w : Putting s d₀ d at i) (fits : at + length s ≤ length d₀) (h : i + k ≤ length s) where
   put_length : length d ≡ length d₀
   put_length = ap length w.is ∙ length-sets d₀ at (take i s)
@@ -80,13 +68,3 @@ module _ (s d₀ d : List ℕ) (at i k : ℕ) (w : Putting s d₀ d at i) (fits 
           ∙ sets_share s d₀ at i k h;
       upto = h;
     }
-
-    pub put_long : length (take (at + i) d ++ (part ++ drop e (drop (at + i) d))) ≡ length d₀
-    put_long = ap length back ∙ length-sets d (at + i) part ∙ put_length
-
--- a block's share is some
-pub share_some : (l a y r : ℕ) → 1 ≤ l → 1 ≤ y → Least y (l - a % l) r → 1 ≤ r
-share_some l a y r h k m = ⊎_elim
-    (λ z. omega (arith, z, k))
-    (λ z. omega (arith, m.one z, mod-lt a h))
-    (le_or_lt y r)

@@ -6,16 +6,10 @@ use lib.ListN.{length}
 use borrow.Author.Tests.{eq-eqb, ne_eqb}
 use Rattle.fat_node.specs.Entry.{Bytes}
 use Rattle.fat_node.specs.Node.{run, prev_at, next_at, set_node, set_head}
-use Rattle.fat_node.proofs.Nodes.{length_set_node}
 use Rattle.fat_table.specs.Chain.{size_at}
 use Rattle.fat_walk.specs.Inner.Chains.{Standing, StandingAt}
 use Rattle.fat_step.specs.Inner.Writes.{with_prev, join_at, end_at, split_at, cut_at}
 use Rattle.fat_walk.proofs.Nodes.{standing_size}
-
-pub length_with_prev : (t : Bytes) (i p : ℕ) → length (with_prev t i p) ≡ length t
-unfolding with_prev
-length_with_prev t zero p = refl
-length_with_prev t (suc b) p = length_set_node t (run b (size_at t b)) p (next_at t b)
 
 pub with_none : (t : Bytes) (i p : ℕ) → i ≡ 0 → t ≡ with_prev t i p
 unfolding with_prev

@@ -42,9 +42,6 @@ module _ (n : ℕ) (t : Bytes) (v : Volume n t) (g : words.Bytes t) where
     pub create_next : StandingAt n t (next_at t x)
     create_next = inside_next n t (free_at n t) w.count x m free w.cut
 
-    pub create_part : 1 ≤ m
-    create_part = w.cut.some
-
     pub create_fits : m ≤ size_at t x
     create_fits = (inside_part n t (free_at n t) w.count x m free w.cut).1
 

@@ -1,58 +1,33 @@
-use Rattle.fat_copy.proofs.Carries.{read_begin, read_end, read_turn, read_long, at_some, at_standing, at_fits, turn_some, turn_upto, turn_data}
-use lib.ListN.{length-take, length-drop}
+use Rattle.fat_copy.proofs.Carries.{read_end, read_turn, at_standing, at_fits, turn_some, turn_data}
 use native.Mathlib.Omega.{arith}
-use Prim.Native.Nat.{◌+◌, ◌-◌}
 use mathlib.Core.Path.{refl}
+use Prim.Native.Nat.{◌+◌, ◌-◌}
 use Rattle.fat_copy.proofs.fetch.Goals as goal
 
-pub loop-done-init : goal.loop-done-init
-loop-done-init c = ((λ l p h. read_begin _ _ _ _ _ _ _ h.room h.at), refl)
+pub stretch_at-s-requires-clause-standing : goal.stretch_at-s-requires-clause-standing
+stretch_at-s-requires-clause-standing c =
+    at_standing _ _ _ _ _ _ _ c.requires.carries.at.stands ((c.loop-done.invariant _ _ c.requires.carries.at).at c.loop-done-test.true)
 
-pub overflow_sub-i : goal.overflow_sub-i
-overflow_sub-i c =
-    at_some _ _ _ _ _ _ _ c.requires.carries.at.stands ((c.loop-done.invariant.0 _ _ c.requires.carries.at).at c.loop-done-test.true)
+pub stretch_at-s-requires-clause-block_len_bound : goal.stretch_at-s-requires-clause-block_len_bound
+stretch_at-s-requires-clause-block_len_bound c =
+    (c.requires.fact.few, at_fits _ _ _ _ _ _ _ c.requires.carries.at.stands ((c.loop-done.invariant _ _ c.requires.carries.at).at c.loop-done-test.true))
 
-pub overflow_sub-len : goal.overflow_sub-len
-overflow_sub-len c = omega arith
+pub overflow_add-s : goal.overflow_add-s
+overflow_add-s c = omega (arith, turn_data c.requires.carries.at c.requires.fact.some c.loop-done-test.true (c.loop-done.invariant _ _ c.requires.carries.at).at c.stretch_at-s.ensures, c.requires.fact.fits)
 
-pub stretch_at-s-requires : goal.stretch_at-s-requires
-stretch_at-s-requires c = record { standing = at_standing _ _ _ _ _ _ _ c.requires.carries.at.stands ((c.loop-done.invariant.0 _ _ c.requires.carries.at).at c.loop-done-test.true); block_len_bound = (c.requires.fact.few, at_fits _ _ _ _ _ _ _ c.requires.carries.at.stands ((c.loop-done.invariant.0 _ _ c.requires.carries.at).at c.loop-done-test.true)) }
-
-pub overflow_add-to : goal.overflow_add-to
-overflow_add-to c = omega (arith, turn_data _ _ _ _ _ _ _ _ _ _ _ _ c.requires.carries.at.stands c.requires.fact.some c.requires.carries.at.room c.loop-done-test.true ((c.loop-done.invariant.0 _ _ c.requires.carries.at).at c.loop-done-test.true) c.stretch_at-s.ensures, c.requires.fact.fits)
-
-pub overflow_add-end : goal.overflow_add-end
-overflow_add-end c = omega (arith, turn_upto _ _ _ _ _ _ _ _ _ _ _ _ c.requires.carries.at.stands c.requires.fact.some c.requires.carries.at.room c.loop-done-test.true ((c.loop-done.invariant.0 _ _ c.requires.carries.at).at c.loop-done-test.true) c.stretch_at-s.ensures)
-
-pub slice_bounds-copy-count : goal.slice_bounds-copy-count
-slice_bounds-copy-count c = omega arith
-
-pub slice_bounds-copy-start : goal.slice_bounds-copy-start
-slice_bounds-copy-start c = omega arith
-
-pub slice_bounds-copy-end : goal.slice_bounds-copy-end
-slice_bounds-copy-end c = omega (arith, turn_upto _ _ _ _ _ _ _ _ _ _ _ _ c.requires.carries.at.stands c.requires.fact.some c.requires.carries.at.room c.loop-done-test.true ((c.loop-done.invariant.0 _ _ c.requires.carries.at).at c.loop-done-test.true) c.stretch_at-s.ensures, c.loop-done.invariant.1)
-
-pub slice_bounds-copy-count-in-loop-done : goal.slice_bounds-copy-count-in-loop-done
-slice_bounds-copy-count-in-loop-done c = omega arith
-
-pub slice_bounds-copy-start-in-loop-done : goal.slice_bounds-copy-start-in-loop-done
-slice_bounds-copy-start-in-loop-done c = omega arith
-
-pub slice_bounds-copy-end-in-loop-done : goal.slice_bounds-copy-end-in-loop-done
-slice_bounds-copy-end-in-loop-done c = omega (arith, turn_data _ _ _ _ _ _ _ _ _ _ _ _ c.requires.carries.at.stands c.requires.fact.some c.requires.carries.at.room c.loop-done-test.true ((c.loop-done.invariant.0 _ _ c.requires.carries.at).at c.loop-done-test.true) c.stretch_at-s.ensures, c.requires.fact.fits)
-
-pub copy-requires : goal.copy-requires
-copy-requires c = let h = turn_data _ _ _ _ _ _ _ _ _ _ _ _ c.requires.carries.at.stands c.requires.fact.some c.requires.carries.at.room c.loop-done-test.true ((c.loop-done.invariant.0 _ _ c.requires.carries.at).at c.loop-done-test.true) c.stretch_at-s.ensures in let k = turn_upto _ _ _ _ _ _ _ _ _ _ _ _ c.requires.carries.at.stands c.requires.fact.some c.requires.carries.at.room c.loop-done-test.true ((c.loop-done.invariant.0 _ _ c.requires.carries.at).at c.loop-done-test.true) c.stretch_at-s.ensures in simp (length-take, length-drop) (omega (arith, h, k, c.requires.fact.fits, c.loop-done.invariant.1))
+pub slice_bounds-copy_from_slice-end-in-loop-done : goal.slice_bounds-copy_from_slice-end-in-loop-done
+slice_bounds-copy_from_slice-end-in-loop-done c = omega (arith, turn_data c.requires.carries.at c.requires.fact.some c.loop-done-test.true (c.loop-done.invariant _ _ c.requires.carries.at).at c.stretch_at-s.ensures, c.requires.fact.fits)
 
 pub loop-done-smaller : goal.loop-done-smaller
-loop-done-smaller c = omega (arith, turn_some _ _ _ _ _ _ _ _ _ _ _ _ c.requires.carries.at.stands c.requires.fact.some c.requires.carries.at.room c.loop-done-test.true ((c.loop-done.invariant.0 _ _ c.requires.carries.at).at c.loop-done-test.true) c.stretch_at-s.ensures, turn_upto _ _ _ _ _ _ _ _ _ _ _ _ c.requires.carries.at.stands c.requires.fact.some c.requires.carries.at.room c.loop-done-test.true ((c.loop-done.invariant.0 _ _ c.requires.carries.at).at c.loop-done-test.true) c.stretch_at-s.ensures)
+loop-done-smaller c =
+    omega (arith, turn_some c.requires.carries.at c.requires.fact.some c.loop-done-test.true (c.loop-done.invariant _ _ c.requires.carries.at).at c.stretch_at-s.ensures, c.loop-done-test.true)
 
 pub loop-done-preserved : goal.loop-done-preserved
-loop-done-preserved c = (
-  (λ l p h. read_turn _ _ _ _ _ _ _ _ _ _ _ _ h.stands c.requires.fact.some h.room c.loop-done-test.true ((c.loop-done.invariant.0 _ _ h).at c.loop-done-test.true) c.stretch_at-s.ensures _ _ _ _ (c.loop-done.done + c.stretch_at-s.result.len - c.loop-done.done) (c.stretch_at-s.result.at + c.stretch_at-s.result.len - c.stretch_at-s.result.at) refl c.requires.fact.fits (c.loop-done.invariant.0 _ _ h) (omega arith) (omega arith) c.copy.ensures),
-  read_long _ _ _ _ _ _ _ _ _ _ _ _ c.requires.carries.at.stands c.requires.fact.some c.requires.carries.at.room c.loop-done-test.true ((c.loop-done.invariant.0 _ _ c.requires.carries.at).at c.loop-done-test.true) c.stretch_at-s.ensures _ _ _ _ (c.loop-done.done + c.stretch_at-s.result.len - c.loop-done.done) (c.stretch_at-s.result.at + c.stretch_at-s.result.len - c.stretch_at-s.result.at) refl c.requires.fact.fits (c.loop-done.invariant.0 _ _ c.requires.carries.at) (omega arith) (omega arith) c.copy.ensures,
-)
+loop-done-preserved c = λ l p h.
+    let r = c.loop-done.invariant l p h in
+    read_turn h c.requires.fact.some c.loop-done-test.true r.at c.stretch_at-s.ensures _ _ _ _
+    (c.loop-done.done + c.stretch_at-s.result.len - c.loop-done.done) (c.stretch_at-s.result.at + c.stretch_at-s.result.len - c.stretch_at-s.result.at)
+    refl c.requires.fact.fits r (omega arith) (omega arith) c.copy_from_slice.ensures.after
 
 pub returns : goal.returns
-returns c = λ l p h. read_end _ _ _ _ _ _ _ _ _ (c.loop-done.invariant.0 _ _ h) (omega arith)
+returns c = λ l p h. read_end _ _ _ _ _ _ _ _ _ (c.loop-done.invariant _ _ h) (omega arith)

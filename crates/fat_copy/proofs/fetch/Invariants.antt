@@ -4,11 +4,10 @@ use Rattle.fat_node.specs.Node.{Run}
 use mathlib.Core.List.{List}
 use lib.ListN.{length}
 use Prim.Native.Nat.{ℕ, ◌-◌}
-use mathlib.Core.Path.{◌≡◌}
 use Rattle.fat_copy.proofs.fetch.Given as goal
 
 abbrev pub invariant-loop-done : goal.invariant-loop-done
-invariant-loop-done l = ((c : List Run) (pos : ℕ) → CarriesAt l.n l.table l.block_len c pos (length l.initial.buf) l.index l.from → Reading c l.data l.block_len pos l.initial.buf l.buf l.i l.f l.done) × (length l.buf ≡ length l.initial.buf)
+invariant-loop-done l = ((c : List Run) (pos : ℕ) → CarriesAt l.n l.table l.block_len c pos (length l.initial.buf) l.index l.from → Reading c l.data l.block_len pos l.initial.buf l.buf l.i l.f l.done)
 
 abbrev pub decreases-loop-done : goal.decreases-loop-done
 decreases-loop-done l = l.len - l.done

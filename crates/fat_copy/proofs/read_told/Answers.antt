@@ -1,13 +1,9 @@
-use Rattle.fat_copy.proofs.Gives.{carry_refused, carry_goes, read_done_lem}
+use Rattle.fat_copy.proofs.Gives.{carry_goes, read_done_lem}
 use Rattle.fat_walk.proofs.Found.{are_bytes}
-use borrow.Author.Rules.{rules}
 use Rattle.fat_copy.proofs.read_told.Goals as goal
 
-pub fetch-requires : goal.fetch-requires
-fetch-requires c = record { carries = search (carry_goes, are_bytes); fact = search rules }
+pub fetch-requires-clause-carries : goal.fetch-requires-clause-carries
+fetch-requires-clause-carries c = carry_goes _ _ c.requires.volume (search are_bytes) _ _ _ _ _ _ c.in_ok-first.ensures
 
-pub returns-in-Refused : goal.returns-in-Refused
-returns-in-Refused c = search (carry_refused)
-
-pub returns-in-Within : goal.returns-in-Within
-returns-in-Within c = search (read_done_lem, are_bytes)
+pub returns : goal.returns
+returns c = read_done_lem _ _ c.requires.volume (search are_bytes) _ _ _ _ _ _ c.in_ok-first.ensures _ _ _ c.fetch.ensures
