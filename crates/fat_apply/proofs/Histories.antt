@@ -17,7 +17,7 @@ use Rattle.fat_table.specs.Steps.{created, resized, deleted}
 use Rattle.fat_table.specs.Agree.{Agree}
 use Rattle.fat_table.proofs.Files.{Whole, whole_created, whole_resized, whole_deleted}
 use Rattle.fat_test.specs.Promise.{TestPromise}
-use Rattle.fat_test.specs.declared.Tested.{Tested}
+use Rattle.fat_test.specs.Promise.{Tested}
 use Rattle.fat_promises.specs.Blocks.{blocks_of, place_of, bytes_at}
 use Rattle.fat_promises.specs.Calls.{Create, Change}
 use Rattle.fat_history.specs.Formats.{Stays}

@@ -9,7 +9,7 @@ use Rattle.fat_node.specs.Entry.{Bytes}
 use Rattle.fat_node.specs.Node.{run}
 use Rattle.fat_node.specs.Sizes.{blocks}
 use Rattle.fat_node.specs.Format.{FormatPromise}
-use Rattle.fat_node.specs.declared.Formatted.{Formatted}
+use Rattle.order.specs.Answer.{Answer}
 use Rattle.fat_table.specs.Changes.{Kept, entries_of, create_entries, resize_entries, delete_entries}
 use Rattle.fat_table.proofs.Unchanged.{formatted_keeps, created_keeps, resized_keeps, deleted_keeps}
 use Rattle.fat_promises.specs.Promise.{Beside}
@@ -22,7 +22,7 @@ use Rattle.fat_history.proofs.Formats.{format_cases}
 same : (e : List ℕ) (t t' : Bytes) → t' ≡ t → Kept e t t'
 same e t t' q i h o = ap (λ (x : Bytes). get_or x i 0) q
 
-pub other_format : (t t' : Bytes) (r : Formatted) → AreBytes t → FormatPromise t r t' → Kept (entries_of (run 0 (blocks t))) t t'
+pub other_format : (t t' : Bytes) (r : Answer) → AreBytes t → FormatPromise t r t' → Kept (entries_of (run 0 (blocks t))) t t'
 other_format t t' r g p =
     let e : List ℕ = entries_of (run 0 (blocks t)) in
     ⊎_elim

@@ -10,7 +10,7 @@ use Rattle.fat_node.specs.Entry.{Bytes}
 use Rattle.fat_node.specs.Node.{run}
 use Rattle.fat_node.specs.Sizes.{blocks, Misfit, Outside}
 use Rattle.fat_node.specs.Format.{formatted, FormatPromise}
-use Rattle.fat_node.specs.declared.Formatted.{Formatted}
+use Rattle.order.specs.Answer.{Answer}
 use Rattle.fat_table.specs.Sound.{Sound, File}
 use Rattle.fat_table.specs.Layout.{layout}
 use Rattle.fat_table.specs.Holds.{Holds}
@@ -25,7 +25,7 @@ use Rattle.fat_history.proofs.Honest.{blocks_of_lem}
 use Rattle.fat_history.proofs.Theorems.{apart}
 
 -- a format that is answered Done leaves no file
-pub format_empty : (t t' : Bytes) (r : Formatted) → FormatPromise t r t' → r.answer ≡ Done → (c : ℕ) → File t' (blocks t') c → ⊥
+pub format_empty : (t t' : Bytes) (r : Answer) → FormatPromise t r t' → r ≡ Done → (c : ℕ) → File t' (blocks t') c → ⊥
 format_empty t t' r p e c i =
     let w = format_means t t' r p e in
     let f : Fits t = w.0 in
@@ -37,10 +37,10 @@ format_empty t t' r p e c i =
     omega (arith, length_perm o.2)
 
 -- a format that is not answered Done changes nothing
-pub format_cases : (t t' : Bytes) (r : Formatted) → FormatPromise t r t' → (t' ≡ t) ⊎ (r.answer ≡ Done)
-format_cases t t' r (inl q) = inl (ap (λ (x : Formatted × Bytes). x.1) q.1)
-format_cases t t' r (inr (_, inl q)) = inl (ap (λ (x : Formatted × Bytes). x.1) q.1)
-format_cases t t' r (inr (_, inr (_, q))) = inr (ap (λ (x : Formatted × Bytes). x.0.answer) q)
+pub format_cases : (t t' : Bytes) (r : Answer) → FormatPromise t r t' → (t' ≡ t) ⊎ (r ≡ Done)
+format_cases t t' r (inl q) = inl (ap (λ (x : Answer × Bytes). x.1) q.1)
+format_cases t t' r (inr (_, inl q)) = inl (ap (λ (x : Answer × Bytes). x.1) q.1)
+format_cases t t' r (inr (_, inr (_, q))) = inr (ap (λ (x : Answer × Bytes). x.0) q)
 
 -- calls after calls
 together : (l b : ℕ) (t d t₁ d₁ : Bytes) → Away l b t d t₁ d₁ → {t' d' : Bytes} → Away l b t₁ d₁ t' d' → Away l b t d t' d'

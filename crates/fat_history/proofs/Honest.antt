@@ -173,7 +173,7 @@ made_format t g f =
     let s : Holds n (formatted n t) (layout (run 0 n ∷ []) []) = holds_format n f.few t f.some f.room in
     record {
       end = formatted n t;
-      run_to = formats t (formatted n t) (record { answer = Done }) g (format_done_lem t f) refl;
+      run_to = formats t (formatted n t) Done g (format_done_lem t f) refl;
       bytes = bytes_formatted n t 0 0 (are_bytes t g);
       blocks_are = blocks_of_lem n (formatted n t) s.room;
       holds = s;

@@ -19,11 +19,10 @@ use Rattle.order.proofs.Tests.{none_giving, giving_none}
 use Rattle.fat_node.specs.Entry.{Bytes}
 use Rattle.fat_node.specs.Sizes.{blocks, Misfit, Outside}
 use Rattle.fat_node.specs.Format.{formatted, format_rows, format_done, FormatPromise}
-use Rattle.fat_node.specs.declared.Formatted.{Formatted}
 use Rattle.fat_table.specs.Sound.{Sound}
 use Rattle.fat_test.specs.Gate.{InUse, retired, Uneven, Unfit, test_gate, gate_with, unsound}
 use Rattle.fat_test.specs.Promise.{test_refused, test_done}
-use Rattle.fat_test.specs.declared.Tested.{Tested}
+use Rattle.fat_test.specs.Promise.{Tested}
 use Rattle.fat_promises.specs.Promise.{Beside, beside, within, Promise, ChangePromise}
 use Rattle.fat_promises.specs.Calls.{
   Create,
@@ -165,13 +164,13 @@ module _ {A : Type 0} (g : Answer → A) (t : Bytes) (d l : ℕ) (more : List (R
 
 -- format ---------------------------------------------------------------------------------------------------------
 
-pub format_means : (t t' : Bytes) (r : Formatted) → FormatPromise t r t' → r.answer ≡ Done → Fits t × (t' ≡ formatted (blocks t) t)
+pub format_means : (t t' : Bytes) (r : Answer) → FormatPromise t r t' → r ≡ Done → Fits t × (t' ≡ formatted (blocks t) t)
 format_means t t' r p e =
-    ⊎_elim (λ z. absurd (z e)) (λ w. let n = w.0 in (fits t n.0 n.1.0, ap (λ (x : Formatted × Bytes). x.1) w.1))
-    (last_or (λ (x : Formatted × Bytes). x.0.answer ≡ Done → ⊥) (format_rows t) (format_done t) (r, t')
+    ⊎_elim (λ z. absurd (z e)) (λ w. let n = w.0 in (fits t n.0 n.1.0, ap (λ (x : Answer × Bytes). x.1) w.1))
+    (last_or (λ (x : Answer × Bytes). x.0 ≡ Done → ⊥) (format_rows t) (format_done t) (r, t')
     (not_done SizeMismatch (omega arith), (not_done InvalidValue (omega arith), tt)) p)
 
-pub format_done_lem : (t : Bytes) → Fits t → FormatPromise t (record { answer = Done }) (formatted (blocks t) t)
+pub format_done_lem : (t : Bytes) → Fits t → FormatPromise t Done (formatted (blocks t) t)
 format_done_lem t f = last_given (format_rows t) (format_done t) (fits_not_misfit t f, (fits_not_outside t f, tt))
 
 -- create ----------------------------------------------------------------------------------------------------------

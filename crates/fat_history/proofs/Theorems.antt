@@ -9,7 +9,7 @@ use Rattle.order.specs.Answer.{Done}
 use Rattle.fat_node.specs.Entry.{Bytes}
 use Rattle.fat_node.specs.Sizes.{blocks, Misfit, Outside}
 use Rattle.fat_node.specs.Format.{formatted, FormatPromise}
-use Rattle.fat_node.specs.declared.Formatted.{Formatted}
+use Rattle.order.specs.Answer.{Answer}
 use Rattle.fat_node.specs.Node as nodes-of
 use Rattle.fat_table.specs.Sound.{Sound, File}
 use Rattle.fat_table.specs.Chain.{total, file_at}
@@ -18,7 +18,7 @@ use Rattle.fat_table.specs.Agree.{Agree}
 use Rattle.fat_table.proofs.Files.{Whole, whole_formatted, whole_created, whole_resized, whole_deleted}
 use Rattle.fat_test.specs.Gate.{retired}
 use Rattle.fat_test.specs.Promise.{TestPromise}
-use Rattle.fat_test.specs.declared.Tested.{Tested}
+use Rattle.fat_test.specs.Promise.{Tested}
 use Rattle.fat_promises.specs.Promise.{Beside}
 use Rattle.fat_promises.specs.Blocks.{blocks_of, place_of, bytes_at, written}
 use Rattle.fat_promises.specs.Calls.{Create, CreatePromise, Change, ResizePromise, DeletePromise, Carry, MayCarry, ReadPromise, write_done, WritePromise, size_of}
@@ -57,20 +57,20 @@ one_chain t work o g p e x h =
 sound_now : (n : ℕ) (t t' : Bytes) → length t ≡ 8 * (n + 1) → Whole n t' → Sound t' (blocks t') × (length t' ≡ length t)
 sound_now n t t' e w = ((as_blocks n t' w).sound, w.room ∙ sym e)
 
-pub kept_format : (t t' : Bytes) (r : Formatted) → AreBytes t → FormatPromise t r t' → KeptBy t r.answer t'
+pub kept_format : (t t' : Bytes) (r : Answer) → AreBytes t → FormatPromise t r t' → KeptBy t r t'
 kept_format t t' r g p = (done, refused p)
   where
-    done : r.answer ≡ Done → Sound t' (blocks t') × (length t' ≡ length t)
+    done : r ≡ Done → Sound t' (blocks t') × (length t' ≡ length t)
     done e =
         let w = format_means t t' r p e in
         let f : Fits t = w.0 in
         subst⁻¹ (λ (x : Bytes). Sound x (blocks x) × (length x ≡ length t)) w.1
         (sound_now (blocks t) t (formatted (blocks t) t) f.room (whole_formatted (blocks t) t f.some f.few (are_bytes t g) f.room))
 
-    refused : FormatPromise t r t' → (r.answer ≡ Done → ⊥) → t' ≡ t
-    refused (inl q) e = ap (λ (x : Formatted × Bytes). x.1) q.1
-    refused (inr (_, inl q)) e = ap (λ (x : Formatted × Bytes). x.1) q.1
-    refused (inr (_, inr (_, q))) e = absurd (e (ap (λ (x : Formatted × Bytes). x.0.answer) q))
+    refused : FormatPromise t r t' → (r ≡ Done → ⊥) → t' ≡ t
+    refused (inl q) e = ap (λ (x : Answer × Bytes). x.1) q.1
+    refused (inr (_, inl q)) e = ap (λ (x : Answer × Bytes). x.1) q.1
+    refused (inr (_, inr (_, q))) e = absurd (e (ap (λ (x : Answer × Bytes). x.0) q))
 
 module _ (t : Bytes) (d l : ℕ) (work : List ℕ) (g : AreBytes t) where
   pub kept_create : (count : ℕ) (o : Beside Create) → CreatePromise t d l work count o → KeptBy t o.given.answer o.given.table

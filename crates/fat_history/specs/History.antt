@@ -6,13 +6,13 @@ use Rattle.words.specs.Word.{AreBytes}
 use Rattle.order.specs.Answer.{Done}
 use Rattle.fat_node.specs.Entry.{Bytes}
 use Rattle.fat_node.specs.Format.{FormatPromise}
-use Rattle.fat_node.specs.declared.Formatted.{Formatted}
+use Rattle.order.specs.Answer.{Answer}
 use Rattle.fat_promises.specs.Promise.{Beside}
 use Rattle.fat_promises.specs.Calls.{Create, CreatePromise, Change, ResizePromise, DeletePromise}
 
 -- a history of k calls after format, that ends in the table; d is the length of the data, l the block length
 pub data History : ℕ → Bytes → Type 0 where
-  formats : (t t' : Bytes) (r : Formatted) → AreBytes t → FormatPromise t r t' → r.answer ≡ Done → History 0 t'
+  formats : (t t' : Bytes) (r : Answer) → AreBytes t → FormatPromise t r t' → r ≡ Done → History 0 t'
   creates : (k : ℕ) (t : Bytes) → History k t → (d l : ℕ) (work : List ℕ) (count : ℕ) (o : Beside Create) → CreatePromise t d l work count o
       → o.given.answer ≡ Done
       → History (suc k) o.given.table

@@ -6,14 +6,15 @@ use mathlib.Core.Logic.{◌⊎◌, inl, inr, ⊎_elim}
 use Prim.Native.Nat.{ℕ, zero, suc, ◌+◌, ◌-◌, ◌*◌, ◌/◌, ◌%◌, ◌≤◌, ◌<◌}
 use native.Mathlib.Omega.{arith}
 use native.Mathlib.Nat.{add-mul, suc-mul, mod-lt, div-add-mod', mul-le-mul_right}
-use lib.Dec.{eqb, ltb}
-use borrow.Author.Tests.{eqb-true, eqb-false, ltb-true, ltb-false, not-true, not-false}
+use lib.Dec.{eqb}
+use borrow.Author.Tests.{eqb-true, eqb-false}
 use lib.ListN.{length, get_or}
 use Rattle.order.specs.First.{Row, First}
 use Rattle.order.specs.Given.{Given, None}
 use Rattle.order.specs.Giving.{giving}
 use Rattle.order.specs.Answer.{Answer}
-use Rattle.fat_walk.specs.Inner.Chains.{Least}
+use Rattle.fat_node.proofs.Nodes.{le_or_lt}
+use Rattle.std.specs.Prelude.{min}
 use Rattle.order.specs.Tells.{Tells}
 use Rattle.fat_listed.specs.Listed.{Uneven, Unfit}
 
@@ -72,7 +73,7 @@ module _ (count l pos len : ℕ) (some : 1 ≤ l) where
       )
 
   -- the rest in whole blocks, of which two hold all that is left
-  module _ (h : pos / l ≤ count) (k : len / l ≤ count - pos / l) (left : ℕ) (w : Least (count - pos / l - len / l) 2 left) where
+  module _ (h : pos / l ≤ count) (k : len / l ≤ count - pos / l) (left : ℕ) (w : left ≡ min (count - pos / l - len / l) 2) where
     abbrev rest : ℕ
     rest = count - pos / l - len / l
 
@@ -88,14 +89,10 @@ module _ (count l pos len : ℕ) (some : 1 ≤ l) where
         which
       where
         which : (left ≡ rest) ⊎ (left ≡ 2)
-        which = go (ltb left rest) refl
-          where
-            go : (t : Bool) → ltb left rest ≡ t → (left ≡ rest) ⊎ (left ≡ 2)
-            go true e = inr (w.one (ltb-true left rest e))
-            go false e = inl (omega (arith, ltb-false left rest e, w.left))
+        which = ⊎_elim (λ h. inr (omega (arith, w, h))) (λ h. inl (omega (arith, w, h))) (le_or_lt 2 rest)
 
     pub within_rest : pos % l + len % l ≤ left * l → count * l < pos + len → ⊥
-    within_rest z q = omega (arith, z, q, sum, div-add-mod' pos l, div-add-mod' len l, mul-le-mul_right {m = left} {n = rest} l w.left)
+    within_rest z q = omega (arith, z, q, sum, div-add-mod' pos l, div-add-mod' len l, mul-le-mul_right {m = left} {n = rest} l (omega (arith, w)))
 
 -- what a call gives -------------------------------------------------------------------------------------------------------
 

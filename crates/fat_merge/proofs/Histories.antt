@@ -18,7 +18,7 @@ use Rattle.fat_table.proofs.Sounds.{holds_sound}
 use Rattle.fat_table.proofs.Agreeing.{agree_holds}
 use Rattle.fat_table.proofs.Files.{Whole, seen, whole_created, whole_resized, whole_deleted}
 use Rattle.fat_test.specs.Promise.{TestPromise}
-use Rattle.fat_test.specs.declared.Tested.{Tested}
+use Rattle.fat_test.specs.Promise.{Tested}
 use Rattle.fat_promises.specs.Calls.{Create, Change}
 use Rattle.fat_history.proofs.Passes.{fits}
 use Rattle.fat_history.proofs.Means.{create_means, resize_means, delete_means, test_accepts}

@@ -1,8 +1,9 @@
 -- merge keeps its promise, where the gate refuses and where the table is merged.
-use mathlib.Core.Path.{◌≡◌, refl, sym, ap, subst, subst⁻¹, ◌∙◌}
+use mathlib.Core.Path.{◌≡◌, refl, sym, ap, subst⁻¹, ◌∙◌}
 use mathlib.Core.Bool.{Bool, true, false}
 use mathlib.Core.List.{List, [], ◌++◌}
 use mathlib.Core.Logic.{inl, inr}
+use Rattle.std.specs.Prelude.{Err}
 use Prim.Native.Nat.{ℕ, ◌+◌, ◌≤◌, ◌<◌}
 use native.Mathlib.Omega.{arith}
 use lib.ListN.{length, take, drop, replicate, length-append, length-replicate}
@@ -11,8 +12,8 @@ use Rattle.order.specs.First.{Row}
 use Rattle.order.specs.Gate.{cleared}
 use Rattle.order.specs.Tells.{Tells}
 use Rattle.order.specs.Beside.{Beside, beside}
-use Rattle.order.specs.Answer.{Answer}
-use Rattle.order.specs.Answer.{Done, ReadOnlyVolume}
+use Rattle.order.specs.Answer.{Answer, Done, ReadOnlyVolume}
+use Rattle.order.specs.declared.Refusal.{Refusal}
 use Rattle.order.proofs.Beside as rows
 use Rattle.order.proofs.Gate.{gate_given, gate_none}
 use Rattle.order.proofs.One.{one}
@@ -21,8 +22,6 @@ use Rattle.fat_node.specs.Sizes.{blocks, Misfit}
 use Rattle.fat_node.proofs.Sizes.{fit, inside}
 use Rattle.fat_test.specs.Gate.{InUse, retired, unsound, Unfit, table_gate}
 use Rattle.fat_test.specs.Inner.Gated.{OpenedWith, TableGateOf}
-use Rattle.fat_test.specs.declared.Gated.{Gated}
-use Rattle.fat_test.specs.declared.Gated.TheVariants.{Open, Refused}
 use Rattle.fat_test.proofs.Change.{not_in_use}
 use Rattle.fat_promises.specs.Calls.{Change, change_gives}
 use Rattle.fat_walk.specs.Volume.{Volume}
@@ -30,23 +29,20 @@ use Rattle.fat_merge.specs.Merge.{merged}
 use Rattle.fat_merge.specs.Promise.{merge_done, MergeSound, MergePromise}
 
 -- what the gate tells of merge's rows
-module _ (t : Bytes) (l : ℕ) (work work' : List ℕ) (r : Gated) (g : TableGateOf t l work work' r) where
+module _ (t : Bytes) (l : ℕ) (work work' : List ℕ) where
   abbrev refuse : Answer → List ℕ → Beside Change
   refuse a w = beside (change_gives a t) w
 
   abbrev front : List (Row (Beside Change))
   front = table_gate refuse t l work
 
-  -- it refuses with a
-  pub merge_refused : (a : Answer) → r ≡ Refused a → MergePromise t l work (beside (change_gives a t) work')
-  merge_refused a e =
-      rows.refused front (cleared (blocks t) work) [] (merge_done (blocks t) t) (refuse a work')
-      (gate_given refuse (blocks t) work (Misfit t) (Unfit t l) (length work < blocks t) (unsound t ++ retired l) a work' (subst (TableGateOf t l work work') e g))
+  -- it refuses
+  pub merge_refused : (why : Refusal) → TableGateOf t l work work' (Err why) → MergePromise t l work (beside (change_gives (Err why) t) work')
+  merge_refused why g =
+      rows.refused front (cleared (blocks t) work) [] (merge_done (blocks t) t) (refuse (Err why) work')
+      (gate_given refuse (blocks t) work (Misfit t) (Unfit t l) (length work < blocks t) (unsound t ++ retired l) (Err why) work' g)
 
-  module _ (free files : ℕ) (e : r ≡ Open free files) (n : ℕ) (q : n ≡ blocks t) where
-    opened : OpenedWith (Misfit t) t l (retired l) work work' free files
-    opened = subst (TableGateOf t l work work') e g
-
+  module _ (free files : ℕ) (opened : OpenedWith (Misfit t) t l (retired l) work work' free files) (n : ℕ) (q : n ≡ blocks t) where
     -- the work list is cleared
     work_is : work' ≡ replicate n 0 ++ drop n work
     work_is = opened.clear ∙ ap (λ (m : ℕ). cleared m work) (sym q)

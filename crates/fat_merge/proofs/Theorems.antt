@@ -22,7 +22,7 @@ use Rattle.fat_table.proofs.Files.{Whole, seen}
 use Rattle.fat_node.proofs.Nodes.{le_or_lt}
 use Rattle.fat_test.specs.Gate.{InUse, test_gate}
 use Rattle.fat_test.specs.Promise.{tested, test_refused, test_done, TestPromise}
-use Rattle.fat_test.specs.declared.Tested.{Tested}
+use Rattle.fat_test.specs.Promise.{Tested}
 use Rattle.fat_promises.specs.Calls.{Change}
 use Rattle.fat_promises.specs.Blocks.{blocks_of, place_of, bytes_at}
 use Rattle.fat_history.specs.KeptBy.{KeptBy}

@@ -1,5 +1,5 @@
 -- The planner: its judge, the moves written place by place, and what it gives.
-use mathlib.Core.Path.{◌≡◌, refl, sym, ap, subst, subst⁻¹, ◌∙◌}
+use mathlib.Core.Path.{◌≡◌, refl, sym, ap, subst⁻¹, ◌∙◌}
 use mathlib.Core.List.{List, [], ◌∷◌, ◌++◌}
 use mathlib.Core.Bool.{Bool, true, false, not}
 use mathlib.Core.Logic.{inl, inr}
@@ -27,9 +27,7 @@ use Rattle.fat_walk.proofs.Blocks.{length_blocks}
 use Rattle.fat_plan.specs.Plan.{moves, lowest}
 use Rattle.fat_plan.specs.Promise.{find_tests, find_done, FindSound}
 use Rattle.fat_plan.specs.Inner.Moves.{BlocksIn}
-use Rattle.fat_plan.specs.Inner.Finds.{FindAt, FoundAt, FindPlanned, Planned}
-use Rattle.fat_plan.specs.declared.planner.FindPlan.{FindPlan}
-use Rattle.fat_plan.specs.declared.planner.FindPlan.TheVariants as find-plan
+use Rattle.fat_plan.specs.Inner.Finds.{FindAt, FoundAt, Planned}
 use Rattle.fat_plan.proofs.Judges.{clash, file_some, file_few, length_moves}
 use Rattle.fat_plan.proofs.Lowest.{lowest_within}
 
@@ -146,14 +144,11 @@ module _ (n : ℕ) (t : Bytes) (b : ℕ) (l : List ℕ) (m : ℕ) (a : FindAt n 
             ∙ ap (λ (j : ℕ). moves F m ++ drop j l) q;
       }
 
-module _ (n : ℕ) (t : Bytes) (b : ℕ) (l : List ℕ) (r : FindPlan) (s : FindPlanned n t b (length l) r) where
-  pub find_refused : (a : Answer) → r ≡ find-plan.Refused a → FindSound n t b l (list_gives a 0 l)
-  find_refused a e = test_refused (λ a. list_gives a 0 l) (find_done n t b l) (find_tests n t b (length l)) a (subst (FindPlanned n t b (length l)) e s)
+module _ (n : ℕ) (t : Bytes) (b : ℕ) (l : List ℕ) where
+  pub find_refused : (a : Answer) → Given (find_tests n t b (length l)) a → FindSound n t b l (list_gives a 0 l)
+  find_refused a g = test_refused (λ a. list_gives a 0 l) (find_done n t b l) (find_tests n t b (length l)) a g
 
-  module _ (k m : ℕ) (e : r ≡ find-plan.Found k m) where
-    found : FoundAt n t b (length l) k m
-    found = subst (FindPlanned n t b (length l)) e s
-
+  module _ (k m : ℕ) (found : FoundAt n t b (length l) k m) where
     pub find_goes : FindAt n t b (length l) m
     find_goes = found.at
 

@@ -5,13 +5,16 @@ use mathlib.Core.Bool.{Bool, true, false, cond, not}
 use mathlib.Core.Logic.{inl, inr, ⊎_elim}
 use Prim.Native.Nat.{ℕ, zero, suc, ◌+◌, ◌-◌, ◌*◌, ◌≤◌, ◌<◌}
 use native.Mathlib.Omega.{arith}
+use borrow.Author.Rules.{rules}
 use native.Mathlib.Numerals.{add-one}
 use lib.ListN.{length, get_or, take, drop, replicate}
 use lib.Seq.{take_at, get_or-take, length-take-le}
 use Rattle.words.proofs.Laws as words
 use borrow.Author.Tests.{not-true, not-false}
-use Rattle.order.specs.Answer.{Answer}
-use Rattle.order.specs.Answer.{Done, InvalidValue, NotAFile}
+use Rattle.order.specs.Answer.{answer_of, Done, InvalidValue, NotAFile}
+use Rattle.order.specs.declared.Refusal.{Refusal}
+use Rattle.std.specs.Prelude.{Result, Ok, Err}
+use Rattle.std.specs.Result.{IsOk, result_unwrap_or}
 use Rattle.fat_node.specs.Entry.{Bytes}
 use Rattle.fat_node.specs.Node.{Run, run}
 use Rattle.fat_node.proofs.Nodes.{le_or_lt}
@@ -34,7 +37,7 @@ use Rattle.fat_merge.proofs.Stretches.{stretch_covers}
 use Rattle.fat_merge.proofs.Marked.{marked_ahead}
 use Rattle.fat_plan.specs.Plan.{moves, target_of, Accepted, lowest}
 use Rattle.fat_plan.specs.Promise.{CheckSound}
-use Rattle.fat_plan.specs.Inner.Moves.{Says, Wide, BlocksIn, Moves, Open, StandsSaid, LowestSaid}
+use Rattle.fat_plan.specs.Inner.Moves.{Says, BlocksIn, Moves, Open, StandsSaid, LowestSaid}
 use Rattle.fat_plan.proofs.Sweeps.{says_not}
 
 -- a list of n places, cleared
@@ -47,6 +50,10 @@ pub total_some : (l : List Run) (b : ℕ) → first l ≡ suc b → empties l �
 total_some [] b e p = let z : ⊥ = omega (arith, e) in absurd z
 total_some (r ∷ l) b e p = omega (arith, p)
 
+answered_ok : {A : Type 0} (r : Result A Refusal) → answer_of r ≡ Done → IsOk r
+answered_ok (Ok x) e = search rules
+answered_ok (Err why) e = cc
+
 module _ (n : ℕ) (t : Bytes) (b : ℕ) (v : Volume n t) (g : words.Bytes t) (f : File t n b) where
   -- the chain of a file, by its index
   file_chain : ChainFrom n t (suc b)
@@ -58,21 +65,27 @@ module _ (n : ℕ) (t : Bytes) (b : ℕ) (v : Volume n t) (g : words.Bytes t) (f
   pub file_few : total (file_at n t b) ≤ n
   file_few = file_chain.chain.sum
 
-  pub blocks_in : (w : List ℕ) → length w ≡ n → (a : Answer) (c : ℕ) (w' : List ℕ) → length w' ≡ length w → ListSound n t b w (list_gives a c w')
-      → BlocksIn n t b c w'
-  blocks_in w h a c w' s (inl p) = absurd (p.0 f)
-  blocks_in w h a c w' s (inr (x, inl p)) = let z : ⊥ = omega (arith, p.0, h, file_few) in absurd z
-  blocks_in w h a c w' s (inr (x, inr (y, e))) =
-      let F : List Run = file_at n t b in
-      let q : c ≡ total F = ap (λ (o : Listing). o.count) e in
-      let k : w' ≡ blocks_of F ++ drop (total F) w = ap (λ (o : Listing). o.list) e in
-      record {
-        count = q;
-        some = omega (arith, q, file_some);
-        few = omega (arith, q, file_few);
-        is = ap (λ (j : ℕ). take j w') q ∙ ap (take (total F)) k ∙ take_at (blocks_of F) (drop (total F) w) (total F) (length_blocks F);
-        long = s ∙ h;
-      }
+  module _ (w : List ℕ) (h : length w ≡ n) (r : Result ℕ Refusal) (w' : List ℕ) where
+    -- its list fits
+    pub blocks_listed : ListSound n t b w (list_gives (answer_of r) (result_unwrap_or r 0) w') → IsOk r
+    blocks_listed (inl p) = absurd (p.0 f)
+    blocks_listed (inr (x, inl p)) = let z : ⊥ = omega (arith, p.0, h, file_few) in absurd z
+    blocks_listed (inr (x, inr (y, e))) = answered_ok r (ap (λ (o : Listing). o.answer) e)
+
+    pub blocks_in : length w' ≡ length w → ListSound n t b w (list_gives (answer_of r) (result_unwrap_or r 0) w') → (k : ℕ) → r ≡ Ok k → BlocksIn n t b k w'
+    blocks_in s (inl p) k i = absurd (p.0 f)
+    blocks_in s (inr (x, inl p)) k i = let z : ⊥ = omega (arith, p.0, h, file_few) in absurd z
+    blocks_in s (inr (x, inr (y, e))) c i =
+        let F : List Run = file_at n t b in
+        let q : c ≡ total F = sym (ap (λ (r : Result ℕ Refusal). result_unwrap_or r 0) i) ∙ ap (λ (o : Listing). o.count) e in
+        let k : w' ≡ blocks_of F ++ drop (total F) w = ap (λ (o : Listing). o.list) e in
+        record {
+          count = q;
+          some = omega (arith, q, file_some);
+          few = omega (arith, q, file_few);
+          is = ap (λ (j : ℕ). take j w') q ∙ ap (take (total F)) k ∙ take_at (blocks_of F) (drop (total F) w) (total F) (length_blocks F);
+          long = s ∙ h;
+        }
 
 -- the list of them, cleared
 pub blocks_clear : (n : ℕ) (t : Bytes) (b k : ℕ) (w : List ℕ) → BlocksIn n t b k w → (w' : List ℕ) → w' ≡ replicate (length w) 0 → w' ≡ replicate n 0
@@ -161,7 +174,7 @@ module _ (plan w : List ℕ) (k : ℕ) where
   pub match_begin : Matching plan w k 0
   match_begin = record { within = omega arith; each = λ j h. let z : ⊥ = omega (arith, h) in absurd z }
 
-  match_more : (i : ℕ) → Matching plan w k i → i < k → get_or plan (2 * i) 0 ≡ get_or w i 0 → get_or plan (2 * i + 1) 0 ≡ target_of plan + i → Matching plan w k (i + 1)
+  pub match_more : (i : ℕ) → Matching plan w k i → i < k → get_or plan (2 * i) 0 ≡ get_or w i 0 → get_or plan (2 * i + 1) 0 ≡ target_of plan + i → Matching plan w k (i + 1)
   match_more i v h a b = record {
     within = omega (arith, h);
     each = λ j p. ⊎_elim
@@ -170,10 +183,6 @@ module _ (plan w : List ℕ) (k : ℕ) where
         (λ q. v.each j q)
         (le_or_lt i j);
   }
-
-  pub match_next : (i m x : ℕ) → Matching plan w k i → i < k → get_or plan (2 * i) 0 ≡ get_or w i 0 → Wide (get_or plan 1 0) m → Wide (get_or plan (2 * i + 1) 0) x → x ≡ m + i
-      → Matching plan w k (i + 1)
-  match_next i m x v h a u o q = match_more i v h a (sym o.is ∙ q ∙ ap (λ (y : ℕ). y + i) u.is)
 
   module _ (fits : k ≤ length w) where
     long : length (take k w) ≡ k
@@ -196,9 +205,9 @@ module _ (plan w : List ℕ) (k : ℕ) where
     match_source i h g =
         says_not (λ e. g (ap (λ (l : List ℕ). get_or l (2 * i) 0) e ∙ source_at (take k w) (target_of plan) i (omega (arith, h, long)) ∙ get_or-take k w i 0 h))
 
-    pub match_target : (i m x : ℕ) → i < k → Wide (get_or plan 1 0) m → Wide (get_or plan (2 * i + 1) 0) x → (x ≡ m + i → ⊥) → Says false (Moves plan w k)
-    match_target i m x h u o g =
-        says_not (λ e. g (o.is ∙ ap (λ (l : List ℕ). get_or l (2 * i + 1) 0) e ∙ target_at (take k w) (target_of plan) i (omega (arith, h, long)) ∙ ap (λ (y : ℕ). y + i) (sym u.is)))
+    pub match_target : (i : ℕ) → i < k → (get_or plan (2 * i + 1) 0 ≡ target_of plan + i → ⊥) → Says false (Moves plan w k)
+    match_target i h g =
+        says_not (λ e. g (ap (λ (l : List ℕ). get_or l (2 * i + 1) 0) e ∙ target_at (take k w) (target_of plan) i (omega (arith, h, long))))
 
 -- accepted -----------------------------------------------------------------------------------------------------------
 
@@ -206,13 +215,13 @@ pub clash : {A : Type 0} (r : Bool) → r ≡ false → r ≡ true → A
 clash r e f = let z : ◌≡◌ {A = ℕ} 0 1 = ap (λ (b : Bool). cond b 1 0) (sym e ∙ f) in let y : ⊥ = omega (arith, z) in absurd y
 
 module _ (n : ℕ) (t : Bytes) (b : ℕ) (plan : List ℕ) (k : ℕ) (w : List ℕ) (i : BlocksIn n t b k w) (r : Bool) (s : Says r (Moves plan w k)) where
-  pub accept_not : not r ≡ true → Says false (Accepted n t b plan)
+  pub accept_not : r ≡ false → Says false (Accepted n t b plan)
   accept_not e =
-      says_not (λ a. clash r (not-true r e) (s.if (a.each ∙ ap (λ (l : List ℕ). moves l (target_of plan)) (sym i.is))))
+      says_not (λ a. clash r e (s.if (a.each ∙ ap (λ (l : List ℕ). moves l (target_of plan)) (sym i.is))))
 
-  module _ (e : not r ≡ false) where
+  module _ (e : r ≡ true) where
     same : plan ≡ moves (blocks_of (file_at n t b)) (target_of plan)
-    same = s.so (not-false r e) ∙ ap (λ (l : List ℕ). moves l (target_of plan)) i.is
+    same = s.so e ∙ ap (λ (l : List ℕ). moves l (target_of plan)) i.is
 
     pub accept_long : 1 < length plan
     accept_long =
@@ -225,10 +234,10 @@ module _ (n : ℕ) (t : Bytes) (b : ℕ) (plan : List ℕ) (k : ℕ) (w : List �
           i.some,
         )
 
-    pub accept_says : (m : ℕ) → Wide (get_or plan 1 0) m → (o : Bool) → Says o (Open n t m k) → Says o (Accepted n t b plan)
-    accept_says m u o q = record {
-      so = λ j. record { each = same; free = λ x f g. q.so j x (omega (arith, f, u.is)) (omega (arith, g, u.is, i.count)) };
-      if = λ a. q.if (λ x f g. a.free x (omega (arith, f, u.is)) (omega (arith, g, u.is, i.count)));
+    pub accept_says : (o : Bool) → Says o (Open n t (target_of plan) k) → Says o (Accepted n t b plan)
+    accept_says o q = record {
+      so = λ j. record { each = same; free = λ x f g. q.so j x f (omega (arith, g, i.count)) };
+      if = λ a. q.if (λ x f g. a.free x f (omega (arith, g, i.count)));
     }
 
 module _ (n : ℕ) (t : Bytes) (b : ℕ) (plan : List ℕ) (r : Bool) (s : (r ≡ true → File t n b) × (File t n b → r ≡ true)) where

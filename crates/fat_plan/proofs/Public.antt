@@ -14,8 +14,6 @@ use Rattle.fat_node.specs.Entry.{Bytes}
 use Rattle.fat_node.specs.Sizes.{blocks}
 use Rattle.fat_test.specs.Gate.{Uneven, gate_with}
 use Rattle.fat_test.specs.Inner.Gated.{OpenedWith, GateWith, GateOf}
-use Rattle.fat_test.specs.declared.Gated.{Gated}
-use Rattle.fat_test.specs.declared.Gated.TheVariants as gate
 use Rattle.fat_promises.specs.Promise.{beside, Promise}
 use Rattle.fat_promises.specs.Calls.{Listing, list_gives}
 use Rattle.fat.proofs.Public.{passed}

@@ -19,7 +19,7 @@ use Rattle.fat_node.specs.Entry.{Bytes}
 use Rattle.fat_node.specs.Sizes.{blocks}
 use Rattle.fat_test.specs.Gate.{test_gate}
 use Rattle.fat_test.specs.Promise.{test_refused, test_done, TestPromise}
-use Rattle.fat_test.specs.declared.Tested.{Tested}
+use Rattle.fat_test.specs.Promise.{Tested}
 use Rattle.fat_walk.specs.Volume.{Volume}
 use Rattle.fat_history.proofs.Means.{test_means}
 use Rattle.fat_retrace.specs.History.{history, encoded}

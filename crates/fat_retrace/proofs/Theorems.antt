@@ -17,7 +17,7 @@ use Rattle.fat_node.specs.Entry.{Bytes}
 use Rattle.fat_node.specs.Node.{run}
 use Rattle.fat_node.specs.Sizes.{blocks}
 use Rattle.fat_node.specs.Format.{formatted, FormatPromise}
-use Rattle.fat_node.specs.declared.Formatted.{Formatted}
+use Rattle.order.specs.Answer.{Answer}
 use Rattle.fat_table.specs.Sound.{Sound, IsNode, Counted}
 use Rattle.fat_table.specs.Chain.{free_at}
 use Rattle.fat_table.specs.Layout.{Layout, layout}
@@ -29,7 +29,7 @@ use Rattle.fat_table.proofs.Agreeing.{holds_agree}
 use Rattle.fat_table.proofs.Files.{bytes_formatted}
 use Rattle.fat_test.specs.Gate.{InUse, test_gate}
 use Rattle.fat_test.specs.Promise.{TestPromise}
-use Rattle.fat_test.specs.declared.Tested.{Tested}
+use Rattle.fat_test.specs.Promise.{Tested}
 use Rattle.fat_history.specs.History as histories
 use Rattle.fat_history.specs.History.{formats, creates, deletes, resizes_in}
 use Rattle.fat_history.proofs.Passes.{are_bytes, Fits, fits, sound_stable, whole_of_fits}
@@ -71,7 +71,7 @@ module _ (t : Bytes) (g : AreBytes t) (F : Fits t) (s : Sound t (blocks t)) wher
   begins : (t₀ : Bytes) → AreBytes t₀ → length t₀ ≡ length t → Held n (formatted n t₀) (layout (run 0 n ∷ []) [])
   begins t₀ g₀ e = record { bytes = bytes_formatted n t₀ 0 0 (are_bytes t₀ g₀); holds = holds_format n F.few t₀ F.some (e ∙ F.room) }
 
-  remade : (l : ℕ) → InUse l → (t₀ t₁ : Bytes) (f : Formatted) → AreBytes t₀ → length t₀ ≡ length t → FormatPromise t₀ f t₁ → f.answer ≡ Done
+  remade : (l : ℕ) → InUse l → (t₀ t₁ : Bytes) (f : Answer) → AreBytes t₀ → length t₀ ≡ length t → FormatPromise t₀ f t₁ → f ≡ Done
       → Ends (history n t) l t₁ (Agree n t)
   remade l z t₀ t₁ f g₀ e p d =
       let v = format_means t₀ t₁ f p d in
@@ -150,11 +150,11 @@ pub retraced : (t : Bytes) (work list : List ℕ) (o : Beside Retrace) → AreBy
     × (length h ≤ most_calls (node_count t))
     × ((l : ℕ)
     → InUse l
-    → (t₀ t₁ : Bytes) (f : Formatted)
+    → (t₀ t₁ : Bytes) (f : Answer)
     → AreBytes t₀
     → length t₀ ≡ length t
     → FormatPromise t₀ f t₁
-    → f.answer ≡ Done
+    → f ≡ Done
     → Ends h l t₁ (Agree (blocks t) t))
 retraced t work list o g p d =
     let w = retrace_means t work list o g p d in (
