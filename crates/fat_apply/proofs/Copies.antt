@@ -2,68 +2,33 @@
 use mathlib.Core.Path.{◌≡◌, refl, sym, ap, ◌∙◌}
 use mathlib.Core.List.{List, [], ◌∷◌, ◌++◌}
 use mathlib.Core.Logic.{◌⊎◌, inl, inr, ⊎_elim}
-use Prim.Native.Nat.{ℕ, zero, suc, ◌+◌, ◌*◌, ◌/◌, ◌≤◌, ◌<◌}
+use Prim.Native.Nat.{ℕ, zero, suc, ◌+◌, ◌-◌, ◌*◌, ◌/◌, ◌≤◌, ◌<◌}
 use native.Mathlib.Omega.{arith}
 use native.Mathlib.Nat.{add-mul, suc-mul, mul-le-mul_right}
 use mir.Syntax.{w64}
 use mir.Val.{Fits}
-use lib.ListN.{length, get_or, set, take, drop, length-set, length-drop}
-use lib.Seq.{sets, length-sets, take-suc, length-take-le, get_or-drop}
+use lib.ListN.{length, get_or, take, drop, length-drop}
+use lib.Seq.{sets, paste, sets-eq, length-sets, length-take-le}
 use Rattle.fat_node.specs.Entry.{Bytes}
 use Rattle.fat_promises.specs.Blocks.{bytes_at}
 use Rattle.fat_walk.specs.Volume.{Data}
 use Rattle.fat_walk.proofs.Blocks.{sets_append}
 use Rattle.fat_copy.proofs.InRow.{length_bytes, bytes_split, bytes_row}
-use Rattle.fat_plan.specs.Inner.Moves.{Wide}
-use Rattle.fat_apply.specs.Inner.Moving.{sources_of, Apart, Movable}
+use Rattle.std.specs.List.{copy_within}
+use Rattle.fat_apply.specs.Inner.Moving.{sources_of, Movable}
 use Rattle.fat_apply.proofs.Bytes.{sets_other, part_same, block_row}
 
 -- one block -----------------------------------------------------------------------------------------------------------
 
--- i bytes are copied
-pub record Copying (d₀ : Bytes) (from to len : ℕ) (d : Bytes) (i : ℕ) : Type 0 where
-  pub is : d ≡ sets d₀ to (take i (drop from d₀))
-  pub within : i ≤ len
-  pub long : length d ≡ length d₀
-
-pub copy_begin : (d : Bytes) (from to len : ℕ) → Copying d from to len d 0
-copy_begin d from to len = record { is = refl; within = omega arith; long = refl }
-
-pub copy_end : (d₀ : Bytes) (from to len : ℕ) (d : Bytes) (i : ℕ) → Copying d₀ from to len d i → len ≤ i → d ≡ sets d₀ to (take len (drop from d₀))
-copy_end d₀ from to len d i v h =
-    let e : i ≡ len = omega (arith, v.within, h) in
-    v.is ∙ ap (λ (j : ℕ). sets d₀ to (take j (drop from d₀))) e
-
-module _ (d₀ : Bytes) (from to len : ℕ) (d : Bytes) (i : ℕ) (v : Copying d₀ from to len d i) (f : (from + len ≤ length d₀) × (to + len ≤ length d₀)) (a : Apart from to len) (h : i < len) where
-  abbrev part : Bytes
-  part = drop from d₀
-
-  part_long : length (take i part) ≡ i
-  part_long = length-take-le i part (omega (arith, length-drop from d₀, f.0, h))
-
-  -- the byte that is read is still the old one
-  read_old : get_or d (from + i) 0 ≡ get_or part i 0
-  read_old =
-      ap (λ (x : Bytes). get_or x (from + i) 0) v.is
-      ∙ sets_other (take i part) d₀ to (from + i)
-      (⊎_elim (λ p. inl (omega (arith, p, h))) (λ p. inr (omega (arith, p, h, part_long))) a)
-      ∙ sym (get_or-drop from d₀ i 0)
-
-  pub copy_next : (d' : Bytes) → d' ≡ set d (to + i) (get_or d (from + i) 0) → Copying d₀ from to len d' (i + 1)
-  copy_next d' e =
-      let x : ℕ = get_or part i 0 in
-      let q : suc i ≡ i + 1 = omega arith in
-      record {
-        is = e
-            ∙ ap (set d (to + i)) read_old
-            ∙ ap (λ (y : Bytes). set y (to + i) x) v.is
-            ∙ ap (λ (y : ℕ). set (sets d₀ to (take i part)) (to + y) x) (sym part_long)
-            ∙ sym (sets_append (take i part) (x ∷ []) d₀ to)
-            ∙ ap (sets d₀ to) (sym (take-suc part i 0 (omega (arith, length-drop from d₀, f.0, h))))
-            ∙ ap (λ (y : ℕ). sets d₀ to (take y part)) q;
-        within = omega (arith, h);
-        long = ap {B = ℕ} length e ∙ length-set d (to + i) (get_or d (from + i) 0) ∙ v.long;
-      }
+pub copied_sets : (d : Bytes) (from to len : ℕ) → from + len ≤ length d → to + len ≤ length d → (d' : Bytes) → d' ≡ copy_within d from (from + len) to
+    → d' ≡ sets d to (take len (drop from d))
+copied_sets d from to len f t d' e =
+    let q : from + len - from ≡ len = omega arith in
+    let long : length (take len (drop from d)) ≡ len = length-take-le len (drop from d) (omega (arith, length-drop from d, f)) in
+    e
+    ∙ ap (λ (k : ℕ). paste d to (drop from d) k) q
+    ∙ ap (λ (k : ℕ). take to d ++ (take len (drop from d) ++ drop (to + k) d)) (sym long)
+    ∙ sym (sets-eq (take len (drop from d)) d to (omega (arith, long, t)))
 
 -- the sources of a plan -----------------------------------------------------------------------------------------------
 
@@ -109,88 +74,74 @@ module _ (n : ℕ) (d₀ : Bytes) (l : ℕ) (plan : List ℕ) (m : ℕ) (d : Byt
   here : i < length B
   here = omega (arith, h, sources_length plan)
 
-  module _ (b : ℕ) (e : Wide (get_or plan (2 * i) 0) b) where
-    pub move_source : b ≡ s
-    move_source = e.is ∙ sources_at plan i here
+  abbrev b : ℕ
+  b = get_or plan (2 * i) 0
 
-    pub move_low : b < n
-    move_low = omega (arith, move_source, w.low i here)
+  pub move_source : b ≡ s
+  move_source = sources_at plan i here
 
-    pub move_high : m + i < n
-    move_high = omega (arith, w.within, here)
+  pub move_low : b < n
+  move_low = omega (arith, move_source, w.low i here)
 
-    -- a block below n lies in the data
-    block_fits : (x : ℕ) → x < n → x * l + l ≤ length d₀
-    block_fits x k = omega (arith, mul-le-mul_right l k, suc-mul x l, g.fits)
+  pub move_high : m + i < n
+  move_high = omega (arith, w.within, here)
 
-    -- products of blocks and the block length are numbers of the code
-    product_fits : (x : ℕ) → x < n → Fits w64 (x * l)
-    product_fits x k =
-        let q : x ≤ 1000000 = omega (arith, k, w.few) in
-        omega (arith, mul-le-mul_right l q, g.few)
+  -- a block below n lies in the data
+  block_fits : (x : ℕ) → x < n → x * l + l ≤ length d₀
+  block_fits x k = omega (arith, mul-le-mul_right l k, suc-mul x l, g.fits)
 
-    pub move_from : Fits w64 (b * l)
-    move_from = product_fits b move_low
+  -- products of blocks and the block length are numbers of the code
+  product_fits : (x : ℕ) → x < n → Fits w64 (x * l)
+  product_fits x k =
+      let q : x ≤ 1000000 = omega (arith, k, w.few) in
+      omega (arith, mul-le-mul_right l q, g.few)
 
-    pub move_sum : Fits w64 (m + i)
-    move_sum = omega (arith, move_high, w.few)
+  pub move_to : Fits w64 ((m + i) * l)
+  move_to = product_fits (m + i) move_high
 
-    pub move_to : Fits w64 ((m + i) * l)
-    move_to = product_fits (m + i) move_high
+  pub move_fits : (b * l + l ≤ length d) × ((m + i) * l + l ≤ length d)
+  move_fits = (omega (arith, block_fits b move_low, v.long), omega (arith, block_fits (m + i) move_high, v.long))
 
-    pub move_fits : (b * l + l ≤ length d) × ((m + i) * l + l ≤ length d)
-    move_fits = (omega (arith, block_fits b move_low, v.long), omega (arith, block_fits (m + i) move_high, v.long))
+  -- the block that is read is still the old one
+  source_old : take l (drop (b * l) d) ≡ take l (drop (b * l) d₀)
+  source_old =
+      let X : Bytes = bytes_at (i * l) d₀ l B 0 in
+      part_same d₀ d (b * l) l (block_fits b move_low) v.long
+      (λ j p q.
+      ap (λ (y : Bytes). get_or y j 0) v.is
+      ∙ sets_other X d₀ (m * l) j
+      (⊎_elim
+      (λ k. inl (omega (arith, q, k, move_source, mul-le-mul_right l (low_of k), suc-mul b l)))
+      (λ k. inr (omega (arith, p, length_bytes (i * l) d₀ l B 0, add-mul m i l, mul-le-mul_right l (high_of k))))
+      (w.apart i here)))
+    where
+      low_of : s < m → suc b ≤ m
+      low_of k = omega (arith, k, move_source)
 
-    -- two blocks share no byte
-    blocks_apart : (x y : ℕ) → (x < y) ⊎ (y < x) → Apart (x * l) (y * l) l
-    blocks_apart x y k =
-        ⊎_elim (λ p. inl (omega (arith, mul-le-mul_right l p, suc-mul x l))) (λ p. inr (omega (arith, mul-le-mul_right l p, suc-mul y l))) k
+      high_of : m + length B ≤ s → m + i ≤ b
+      high_of k = omega (arith, k, move_source, here)
 
-    pub move_apart : Apart (b * l) ((m + i) * l) l
-    move_apart =
-        blocks_apart b (m + i)
-        (⊎_elim (λ p. inl (omega (arith, p, move_source))) (λ p. inr (omega (arith, p, move_source, here))) (w.apart i here))
-
-    -- the block that is read is still the old one
-    source_old : take l (drop (b * l) d) ≡ take l (drop (b * l) d₀)
-    source_old =
-        let X : Bytes = bytes_at (i * l) d₀ l B 0 in
-        part_same d₀ d (b * l) l (block_fits b move_low) v.long
-        (λ j p q.
-        ap (λ (y : Bytes). get_or y j 0) v.is
-        ∙ sets_other X d₀ (m * l) j
-        (⊎_elim
-        (λ k. inl (omega (arith, q, k, move_source, mul-le-mul_right l (low_of k), suc-mul b l)))
-        (λ k. inr (omega (arith, p, length_bytes (i * l) d₀ l B 0, add-mul m i l, mul-le-mul_right l (high_of k))))
-        (w.apart i here)))
-      where
-        low_of : s < m → suc b ≤ m
-        low_of k = omega (arith, k, move_source)
-
-        high_of : m + length B ≤ s → m + i ≤ b
-        high_of k = omega (arith, k, move_source, here)
-
-    pub move_next : (d' : Bytes) → d' ≡ sets d ((m + i) * l) (take l (drop (b * l) d)) → Moving d₀ l plan m d' (i + 1)
-    move_next d' q =
-        let X : Bytes = bytes_at (i * l) d₀ l B 0 in
-        let Y : Bytes = bytes_at l d₀ l B (i * l) in
-        let low : s * l + l ≤ length d₀ = block_fits s (w.low i here) in
-        let y : take l (drop (b * l) d) ≡ Y =
-        source_old
-        ∙ ap (λ (x : ℕ). take l (drop (x * l) d₀)) move_source
-        ∙ sym (bytes_row l d₀ l B (i * l) (s * l) (block_row B l i (omega (arith, g.some))) low) in
-        let at : (m + i) * l ≡ m * l + length X = omega (arith, add-mul m i l, length_bytes (i * l) d₀ l B 0) in
-        let more : i * l + l ≡ (i + 1) * l = omega (arith, add-mul i 1 l) in
-        let z : i * l ≡ 0 + i * l = omega arith in
-        record {
-          is = q
-              ∙ ap (sets d ((m + i) * l)) y
-              ∙ ap (λ (x : Bytes). sets x ((m + i) * l) Y) v.is
-              ∙ ap (λ (x : ℕ). sets (sets d₀ (m * l) X) x Y) at
-              ∙ sym (sets_append X Y d₀ (m * l))
-              ∙ ap (λ (x : ℕ). sets d₀ (m * l) (X ++ bytes_at l d₀ l B x)) z
-              ∙ ap (sets d₀ (m * l)) (sym (bytes_split (i * l) l d₀ l B 0))
-              ∙ ap (λ (x : ℕ). sets d₀ (m * l) (bytes_at x d₀ l B 0)) more;
-          within = omega (arith, h);
-          long = ap {B = ℕ} length q ∙ length-sets d ((m + i) * l) (take l (drop (b * l) d)) ∙ v.long;
-        }
+  pub move_next : (d' : Bytes) → d' ≡ sets d ((m + i) * l) (take l (drop (b * l) d)) → Moving d₀ l plan m d' (i + 1)
+  move_next d' q =
+      let X : Bytes = bytes_at (i * l) d₀ l B 0 in
+      let Y : Bytes = bytes_at l d₀ l B (i * l) in
+      let low : s * l + l ≤ length d₀ = block_fits s (w.low i here) in
+      let y : take l (drop (b * l) d) ≡ Y =
+      source_old
+      ∙ ap (λ (x : ℕ). take l (drop (x * l) d₀)) move_source
+      ∙ sym (bytes_row l d₀ l B (i * l) (s * l) (block_row B l i (omega (arith, g.some))) low) in
+      let at : (m + i) * l ≡ m * l + length X = omega (arith, add-mul m i l, length_bytes (i * l) d₀ l B 0) in
+      let more : i * l + l ≡ (i + 1) * l = omega (arith, add-mul i 1 l) in
+      let z : i * l ≡ 0 + i * l = omega arith in
+      record {
+        is = q
+            ∙ ap (sets d ((m + i) * l)) y
+            ∙ ap (λ (x : Bytes). sets x ((m + i) * l) Y) v.is
+            ∙ ap (λ (x : ℕ). sets (sets d₀ (m * l) X) x Y) at
+            ∙ sym (sets_append X Y d₀ (m * l))
+            ∙ ap (λ (x : ℕ). sets d₀ (m * l) (X ++ bytes_at l d₀ l B x)) z
+            ∙ ap (sets d₀ (m * l)) (sym (bytes_split (i * l) l d₀ l B 0))
+            ∙ ap (λ (x : ℕ). sets d₀ (m * l) (bytes_at x d₀ l B 0)) more;
+        within = omega (arith, h);
+        long = ap {B = ℕ} length q ∙ length-sets d ((m + i) * l) (take l (drop (b * l) d)) ∙ v.long;
+      }

@@ -4,26 +4,32 @@ use mathlib.Core.List.{List, [], ◌∷◌, ◌++◌}
 use mathlib.Core.Logic.{◌⊎◌, inl, inr, ⊎_elim}
 use Prim.Native.Nat.{ℕ, suc, ◌+◌, ◌*◌, ◌/◌, ◌≤◌, ◌<◌}
 use native.Mathlib.Omega.{arith}
+use native.Mathlib.Numerals.{add-one}
+use mir.Syntax.{w64}
+use mir.Val.{Fits}
 use lib.ListN.{length, get_or}
 use lib.Seq.{sets}
 use Rattle.words.proofs.Laws as words
-use Rattle.order.specs.Answer.{number_of}
-use Rattle.order.specs.Answer.{Answer}
-use Rattle.order.specs.Answer.{Done}
+use Rattle.std.specs.Prelude.{Err}
+use Rattle.order.specs.Answer.{Answer, Done}
+use Rattle.order.specs.declared.Refusal.{Refusal}
 use Rattle.order.proofs.Tests.{tests_passed}
 use Rattle.fat_node.specs.Entry.{Bytes}
 use Rattle.fat_node.specs.Node.{Run, run}
 use Rattle.fat_table.specs.Sound.{File}
-use Rattle.fat_table.specs.Chain.{total, free_at, file_at}
+use Rattle.fat_table.specs.Chain.{total, chain_at, free_at, file_at}
 use Rattle.fat_table.specs.Layout.{hits, covers, joined}
 use Rattle.fat_table.specs.Steps.{deleted}
 use Rattle.fat_table.proofs.Layouts.{hits_most, covers_append}
 use Rattle.fat_table.proofs.Laying.{inside_of}
 use Rattle.fat_table.proofs.Files.{Whole, seen_file}
 use Rattle.fat_promises.specs.Blocks.{blocks_of, bytes_at}
-use Rattle.fat_promises.specs.Calls.{Change, change_gives, DeleteSound}
 use Rattle.fat_walk.specs.Volume.{Volume}
+use Rattle.fat_walk.specs.Inner.Chains.{ChainFrom, LastAt}
+use Rattle.fat_walk.proofs.Chains.{file_chain}
+use Rattle.fat_walk.proofs.Found.{file_fits}
 use Rattle.fat_walk.proofs.Hops.{whole_of}
+use Rattle.fat_judge.specs.Inner.Plans.{DeleteAt}
 use Rattle.fat_walk.proofs.Blocks.{length_blocks}
 use Rattle.fat_step.proofs.Over.{outside}
 use Rattle.fat_history.proofs.Places.{occurs, occurs_at, occurs_blocks}
@@ -35,7 +41,6 @@ use Rattle.fat_place.proofs.Tables.{place_whole, place_leaves}
 use Rattle.fat_place.proofs.Applied.{applied_steps}
 use Rattle.fat_plan.specs.Plan.{moves, target_of}
 use Rattle.fat_plan.specs.Promise.{check_tests, CheckSound, MayCheck}
-use Rattle.fat_plan.specs.Inner.Moves.{Wide}
 use Rattle.fat_plan.proofs.Judges.{file_some}
 use Rattle.fat_plan.proofs.May.{may_check, none_check}
 use Rattle.fat_apply.specs.Apply.{copied, apply_gives, apply_done, ApplySound}
@@ -108,10 +113,6 @@ module _ (n : ℕ) (t : Bytes) (w : Whole n t) (b : ℕ) (plan : List ℕ) (a : 
 
 -- the step ---------------------------------------------------------------------------------------------------------------
 
-deleted_is : (n : ℕ) (t : Bytes) (b : ℕ) (x : Answer) (t' : Bytes) → File t n b → DeleteSound n t b (change_gives x t') → t' ≡ deleted n t b
-deleted_is n t b x t' f (inl p) = absurd (p.0 f)
-deleted_is n t b x t' f (inr p) = ap (λ (o : Change). o.table) p.1
-
 module _ (n : ℕ) (t : Bytes) (v : Volume n t) (g : words.Bytes t) (b : ℕ) (plan : List ℕ) (a : MayCheck n t b plan) where
   here : Whole n t
   here = whole_of n t v g
@@ -122,67 +123,70 @@ module _ (n : ℕ) (t : Bytes) (v : Volume n t) (g : words.Bytes t) (b : ℕ) (p
   pub step_long : 1 < length plan
   step_long = plan_long n t here b plan a some_blocks
 
-  module _ (r : ℕ) (u : Wide (get_or plan 1 0) r) where
-    pub step_movable : Movable n r plan
-    step_movable = subst⁻¹ (λ (y : ℕ). Movable n y plan) u.is (movable n t here b plan a some_blocks)
+  abbrev r : ℕ
+  r = target_of plan
 
-    module _ (k : ℕ) (h : k ≡ length plan / 2) where
-      half : k ≡ total (file_at n t b)
-      half = h ∙ plan_half n t here b plan a some_blocks
+  pub step_movable : Movable n r plan
+  step_movable = movable n t here b plan a some_blocks
 
-      pub step_window : Window r k (free_at n t)
-      step_window =
-          subst⁻¹ (λ (y : ℕ). Window y k (free_at n t)) u.is
-          (subst⁻¹ (λ (y : ℕ). Window (target_of plan) y (free_at n t)) half (window n t here b plan a some_blocks))
+  pub step_fits : Fits w64 (b + 1)
+  step_fits = file_fits n t b v a.file
 
-      pub step_within : r + k ≤ n
-      step_within = omega (arith, u.is, half, target_within n t here b plan a some_blocks)
+  module _ (k : ℕ) (h : k ≡ length plan / 2) where
+    half : k ≡ total (file_at n t b)
+    half = h ∙ plan_half n t here b plan a some_blocks
 
-      module _ (t₁ : Bytes) (e : t₁ ≡ placed n t r k) where
-        pub step_volume : Volume n t₁
-        step_volume =
-            let w : Whole n (placed n t r k) = place_whole n t here r k step_window in
-            subst⁻¹ (Volume n) e (record { few = w.small; room = w.room; sound = w.sound })
+    pub step_window : Window r k (free_at n t)
+    step_window = subst⁻¹ (λ (y : ℕ). Window r y (free_at n t)) half (window n t here b plan a some_blocks)
 
-        table_is : (x : Answer) (t₂ : Bytes) → DeleteSound n t₁ b (change_gives x t₂) → t₂ ≡ applied n t b (target_of plan)
-        table_is x t₂ s =
-            let f : File t₁ n b = subst⁻¹ (λ (y : Bytes). File y n b) e (place_leaves n t here r k step_window b a.file).file in
-            deleted_is n t₁ b x t₂ f s
-            ∙ ap (λ (y : Bytes). deleted n y b) e
-            ∙ ap (λ (y : ℕ). deleted n (placed n t y k) b) u.is
-            ∙ ap (λ (y : ℕ). deleted n (placed n t (target_of plan) y) b) half
-            ∙ applied_steps n t here b a.file (target_of plan) (window n t here b plan a some_blocks)
+    pub step_within : r + k ≤ n
+    step_within = omega (arith, half, target_within n t here b plan a some_blocks)
 
-        pub step_done : (x : Answer) (t₂ : Bytes) → DeleteSound n t₁ b (change_gives x t₂) → (d d₁ : Bytes) (l : ℕ)
-            → d₁ ≡ sets d (r * l) (bytes_at (length (sources_of plan) * l) d l (sources_of plan) 0)
-            → AppliedBy n t d l b plan r t₂ d₁
-        step_done x t₂ s d d₁ l q = record {
-          at = u.is;
-          table = table_is x t₂ s;
-          bytes = q
-              ∙ ap (λ (y : ℕ). sets d (y * l) (bytes_at (length (sources_of plan) * l) d l (sources_of plan) 0)) u.is
-              ∙ copied_is n t here b plan a some_blocks d l;
-        }
+    module _ (t₁ : Bytes) (e : t₁ ≡ placed n t r k) where
+      placed_whole : Whole n (placed n t r k)
+      placed_whole = place_whole n t here r k step_window
+
+      placed_file : File (placed n t r k) n b
+      placed_file = (place_leaves n t here r k step_window b a.file).file
+
+      pub step_volume : Volume n t₁
+      step_volume = subst⁻¹ (Volume n) e (record { few = placed_whole.small; room = placed_whole.room; sound = placed_whole.sound })
+
+      -- the old file stands beside the new one, and its last node is sought
+      pub step_chain : ChainFrom n t₁ (b + 1)
+      step_chain =
+          subst⁻¹ (ChainFrom n t₁) (add-one b)
+          (subst⁻¹ (λ (y : Bytes). ChainFrom n y (suc b)) e (file_chain n (placed n t r k) placed_whole b placed_file))
+
+      pub step_delete : (y : ℕ) → LastAt (chain_at t₁ n (b + 1)) y → DeleteAt n t₁ b y
+      step_delete y w = record {
+        may = record { file = subst⁻¹ (λ (z : Bytes). File z n b) e placed_file };
+        end = subst (λ (j : ℕ). LastAt (chain_at t₁ n j) y) (add-one b) w;
+      }
+
+      table_is : (t₂ : Bytes) → t₂ ≡ deleted n t₁ b → t₂ ≡ applied n t b r
+      table_is t₂ s =
+          s
+          ∙ ap (λ (y : Bytes). deleted n y b) e
+          ∙ ap (λ (y : ℕ). deleted n (placed n t r y) b) half
+          ∙ applied_steps n t here b a.file r (window n t here b plan a some_blocks)
+
+      pub step_done : (t₂ : Bytes) → t₂ ≡ deleted n t₁ b → (d d₁ : Bytes) (l : ℕ)
+          → d₁ ≡ sets d (r * l) (bytes_at (length (sources_of plan) * l) d l (sources_of plan) 0)
+          → AppliedBy n t d l b plan r t₂ d₁
+      step_done t₂ s d d₁ l q = record { at = refl; table = table_is t₂ s; bytes = q ∙ copied_is n t here b plan a some_blocks d l }
 
 -- the call that requires soundness -----------------------------------------------------------------------------------------
 
-module _ (n : ℕ) (t d : Bytes) (l b : ℕ) (plan : List ℕ) (x : Answer) (s : CheckSound n t b plan x) (k : ℕ) (e : k ≡ number_of x) where
-  pub apply_refused : (k ≡ 0 → ⊥) → ApplySound n t d l b plan (apply_gives x 0 t d)
-  apply_refused h = go s
-    where
-      go : CheckSound n t b plan x → ApplySound n t d l b plan (apply_gives x 0 t d)
-      go (inl p) = inl (p.0, ap (λ (y : Answer). apply_gives y 0 t d) p.1)
-      go (inr (p, inl q)) = inr (p, inl (q.0, ap (λ (y : Answer). apply_gives y 0 t d) q.1))
-      go (inr (p, inr (q, z))) = absurd (h (e ∙ ap number_of z))
+pub apply_refused : (n : ℕ) (t d : Bytes) (l b : ℕ) (plan : List ℕ) (why : Refusal) → CheckSound n t b plan (Err why) → ApplySound n t d l b plan (apply_gives (Err why) 0 t d)
+apply_refused n t d l b plan why (inl p) = inl (p.0, ap (λ (y : Answer). apply_gives y 0 t d) p.1)
+apply_refused n t d l b plan why (inr (p, inl q)) = inr (p, inl (q.0, ap (λ (y : Answer). apply_gives y 0 t d) q.1))
+apply_refused n t d l b plan why (inr (p, inr (q, z))) = cc
 
-module _ (n : ℕ) (t : Bytes) (b : ℕ) (plan : List ℕ) (x : Answer) (s : CheckSound n t b plan x) (k : ℕ) (e : k ≡ number_of x) where
-  pub apply_may : k ≡ 0 → Volume n t → words.Bytes t → MayCheck n t b plan
-  apply_may h v g = go s
-    where
-      go : CheckSound n t b plan x → MayCheck n t b plan
-      go (inl p) = let z : ⊥ = omega (arith, h, e, ap number_of p.1) in absurd z
-      go (inr (p, inl q)) = let z : ⊥ = omega (arith, h, e, ap number_of q.1) in absurd z
-      go (inr (p, inr (q, z))) = may_check n t b plan (whole_of n t v g) (p, (q, tt))
+pub apply_may : (n : ℕ) (t : Bytes) (b : ℕ) (plan : List ℕ) → CheckSound n t b plan Done → Volume n t → words.Bytes t → MayCheck n t b plan
+apply_may n t b plan (inl p) v g = cc
+apply_may n t b plan (inr (p, inl q)) v g = cc
+apply_may n t b plan (inr (p, inr (q, z))) v g = may_check n t b plan (whole_of n t v g) (p, (q, tt))
 
 pub apply_done_lem : (n : ℕ) (t d : Bytes) (l b : ℕ) (plan : List ℕ) → MayCheck n t b plan → (r : ℕ) (t' d' : Bytes) → AppliedBy n t d l b plan r t' d'
     → ApplySound n t d l b plan (apply_gives Done r t' d')

@@ -7,7 +7,7 @@ ghost use Rattle.fat_promises.specs.Blocks.{bytes_at};
 ghost use Rattle.fat_walk.specs.Volume.{Volume, Data};
 ghost use Rattle.fat_plan.specs.Promise.{MayCheck};
 ghost use Rattle.fat_apply.specs.Apply.{apply_gives, ApplySound};
-ghost use Rattle.fat_apply.specs.Inner.Moving.{sources_of, Apart, Movable, AppliedBy};
+ghost use Rattle.fat_apply.specs.Inner.Moving.{sources_of, Movable, AppliedBy};
 
 use fat_place::place_step;
 use fat_plan::judge::check_sound;
@@ -15,10 +15,9 @@ use fat_step::delete_step;
 use fat_walk::last_of;
 use order::Refusal;
 
-// Copies len bytes of the data from place `from` on over those from place `to` on. The two stretches share no byte.
+// Copies len bytes of the data from place `from` on over those from place `to` on.
 fn copy_block(data: &mut [u8], from: usize, to: usize, len: usize)
-    requires len_in_bounds { («from» + len ≤ length «data».old) × (to + len ≤ length «data».old) }
-    requires apart { Apart «from» to len }
+    requires { («from» + len ≤ length «data».old) × (to + len ≤ length «data».old) }
     ensures { «data».new ≡ sets «data».old to (take len (drop «from» «data».old)) }
 {
     data.copy_within(from..from + len, to);

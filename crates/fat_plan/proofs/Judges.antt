@@ -215,9 +215,11 @@ pub clash : {A : Type 0} (r : Bool) → r ≡ false → r ≡ true → A
 clash r e f = let z : ◌≡◌ {A = ℕ} 0 1 = ap (λ (b : Bool). cond b 1 0) (sym e ∙ f) in let y : ⊥ = omega (arith, z) in absurd y
 
 module _ (n : ℕ) (t : Bytes) (b : ℕ) (plan : List ℕ) (k : ℕ) (w : List ℕ) (i : BlocksIn n t b k w) (r : Bool) (s : Says r (Moves plan w k)) where
-  pub accept_not : r ≡ false → Says false (Accepted n t b plan)
-  accept_not e =
-      says_not (λ a. clash r e (s.if (a.each ∙ ap (λ (l : List ℕ). moves l (target_of plan)) (sym i.is))))
+  pub accept_not : r ≡ false → Says r (Accepted n t b plan)
+  accept_not e = record {
+    so = λ q. clash r e q;
+    if = λ a. clash r e (s.if (a.each ∙ ap (λ (l : List ℕ). moves l (target_of plan)) (sym i.is)));
+  }
 
   module _ (e : r ≡ true) where
     same : plan ≡ moves (blocks_of (file_at n t b)) (target_of plan)

@@ -177,15 +177,17 @@ module _ (m k n : ℕ) (t : Bytes) (w : List ℕ) (r : Reading n t w 0) (some : 
           (λ L l q y j. omega (arith, q y j, hits_hi y (run b (e - b)) (omega (arith, stand_bounds.0, h, j)))) x s
 
       -- the stretch at hand starts behind block m
-      pub stand_before : m < e → m < b → StandsSaid n t w m k false
-      stand_before h j c a =
-          says_not (λ g. omega (
-            arith,
-            g m (omega arith) (omega (arith, some)),
-            sweep_one (Past m) n t w r b v e p c a m (omega arith),
-            hits_lo m (run b (e - b)) j,
-            stretch_lo (n - e) e c m h,
-          ))
+      pub stand_before : m < e → m < b → StandsSaid n t w m k (leb b m)
+      stand_before h j c a = record {
+        so = λ q. absurd (omega (arith, leb-true b m q, j));
+        if = λ g. absurd (omega (
+          arith,
+          g m (omega arith) (omega (arith, some)),
+          sweep_one (Past m) n t w r b v e p c a m (omega arith),
+          hits_lo m (run b (e - b)) j,
+          stretch_lo (n - e) e c m h,
+        ));
+      }
 
       -- block m is in it
       stand_in : b ≤ m → m < e → (c : ℕ → ℕ) → Ahead n t w c 0 → m + k ≤ e → Stands n c m k

@@ -3,8 +3,7 @@ use mathlib.Core.Path.{◌≡◌, refl, sym, ap, ◌∙◌}
 use mathlib.Core.List.{List, [], ◌∷◌, ◌++◌}
 use Prim.Native.Nat.{ℕ, suc, ◌+◌, ◌*◌, ◌≤◌}
 use native.Mathlib.Omega.{arith}
-use native.Mathlib.Numerals.{add-one}
-use lib.ListN.{length, set, length-append}
+use lib.ListN.{length, length-append}
 use lib.Seq.{sets, length-sets}
 use Rattle.fat_walk.proofs.Blocks.{sets_append}
 use Rattle.fat_retrace.specs.History.{Call, create, delete, encoded}
@@ -39,8 +38,8 @@ written_on {g} {h} {k} {r} {s} {l} {l'} {l''} v w =
     }
 
 -- two numbers in their places are one call
-pub put_create : (l l' : List ℕ) (k c : ℕ) → l' ≡ set (set l (2 * k) 0) (2 * k + 1) c → Written (create c ∷ []) k l (k + 1) l'
-put_create l l' k c e = record { next = refl; is = e ∙ ap (λ (x : ℕ). set (set l (2 * k) 0) x c) (add-one (2 * k)) }
+pub put_create : (l l' : List ℕ) (k c r : ℕ) → r ≡ k + 1 → l' ≡ sets l (2 * k) (0 ∷ c ∷ []) → Written (create c ∷ []) k l r l'
+put_create l l' k c r n e = record { next = n; is = e }
 
-pub put_delete : (l l' : List ℕ) (k b : ℕ) → l' ≡ set (set l (2 * k) 1) (2 * k + 1) b → Written (delete b ∷ []) k l (k + 1) l'
-put_delete l l' k b e = record { next = refl; is = e ∙ ap (λ (x : ℕ). set (set l (2 * k) 1) x b) (add-one (2 * k)) }
+pub put_delete : (l l' : List ℕ) (k b r : ℕ) → r ≡ k + 1 → l' ≡ sets l (2 * k) (1 ∷ b ∷ []) → Written (delete b ∷ []) k l r l'
+put_delete l l' k b r n e = record { next = n; is = e }

@@ -95,8 +95,10 @@ fn join_at(table: &[u8], n: usize, b: usize, list: &mut [u32], k: usize) -> usiz
     requires b_in_bounds { 2 * (k + length (joins_at n table.now b)) ≤ length list.old }
     ensures { Written (joins_at n table.now b) k list.old result list.new }
 {
-    let first = fat_node::prev_of(table, b) == 0 && head_of(table) != b + 1;
-    if !first || fat_node::next_of(table, b) == 0 {
+    if fat_node::prev_of(table, b) != 0
+        || head_of(table) == b + 1
+        || fat_node::next_of(table, b) == 0
+    {
         return k;
     }
     let given = give_up(table, n, b + 1, list, k);

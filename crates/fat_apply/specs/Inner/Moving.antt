@@ -11,10 +11,6 @@ sources_of [] = []
 sources_of (b ∷ []) = []
 sources_of (b ∷ (m ∷ l)) = b ∷ sources_of l
 
--- len places from a on and as many from b on share none
-abbrev pub Apart : (a b len : ℕ) → Type 0
-Apart a b len = (a + len ≤ b) ⊎ (b + len ≤ a)
-
 -- the sources of a plan are blocks of the volume, and none of the blocks from m on, as many as they are, which are too
 pub record Movable (n m : ℕ) (plan : List ℕ) : Type 0 where
   pub few : n ≤ 1000000

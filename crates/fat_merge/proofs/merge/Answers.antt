@@ -1,3 +1,4 @@
+use borrow.Author.Rules.{rules}
 use Rattle.fat_merge.proofs.Promised.{merge_refused, merge_volume, merge_fits, merge_long, merge_lent, merge_done_lem}
 use Rattle.fat_merge.proofs.merge.Goals as goal
 
@@ -14,7 +15,7 @@ merge_sound-requires c = record {
 }
 
 pub returns-in_err-table_gate : goal.returns-in_err-table_gate
-returns-in_err-table_gate c = merge_refused c.args.table.now c.args.block_len c.args.work.now _ _ c.in_err-table_gate.ensures
+returns-in_err-table_gate c = search (rules, merge_refused)
 
 pub returns : goal.returns
 returns c =

@@ -1,5 +1,3 @@
-use Prim.Native.Nat.{◌-◌}
-use native.Mathlib.Omega.{arith}
 use borrow.Author.Rules.{rules}
 use Rattle.fat_plan.proofs.Sweeps.{sweep_marked, stand_begin, stand_end, stand_reading, stand_passed, stand_before, stand_says, stand_next, stand_less}
 use Rattle.fat_plan.proofs.judge.stands.Goals as goal
@@ -10,8 +8,11 @@ loop-b-init c = search stand_begin
 pub past-end-requires : goal.past-end-requires
 past-end-requires c = record { reading = search stand_reading; from_lt_n = search rules; fact = search sweep_marked }
 
-pub returns-then-m-end : goal.returns-then-m-end
-returns-then-m-end c = ?
+pub returns-then-b-m : goal.returns-then-b-m
+returns-then-b-m c = search stand_says
+
+pub returns-else-b-m : goal.returns-else-b-m
+returns-else-b-m c = search stand_before
 
 pub skip-b-requires-in-loop-b : goal.skip-b-requires-in-loop-b
 skip-b-requires-in-loop-b c = search stand_passed

@@ -1,0 +1,11 @@
+use mathlib.Core.Path.{refl}
+use mathlib.Core.Logic.{inl, inr}
+use borrow.Author.Rules.{rules}
+use Rattle.fat_test.proofs.Change.{not_in_use}
+use Rattle.kiosk_create.proofs.tested_create.Goals as goal
+
+pub returns-then-not-in_use : goal.returns-then-not-in_use
+returns-then-not-in_use c = inl (not_in_use _ _ c.in_use.ensures (search rules), refl)
+
+pub returns : goal.returns
+returns c = inr ((λ z. z (c.in_use.ensures.yes (search rules))), c.create_sound.ensures)
