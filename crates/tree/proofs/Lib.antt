@@ -1,3 +1,2 @@
 pub mod Gated
 pub mod NameOnce
-pub mod Formats

@@ -1,12 +1,16 @@
+use mathlib.Core.Path.{refl}
+use Rattle.std.proofs.lemmas.Result.{err_from_is_err_and}
 use Rattle.tree_promises.proofs.Gated.{tree_refused}
 use Rattle.tree.proofs.Gated.{tree_dirs, set_dir_passed}
 use Rattle.tree.proofs.carry.set_carried_dir.Goals as goal
 
+pub returns-in_err-gate : goal.returns-in_err-gate
+returns-in_err-gate c =
+    let p = err_from_is_err_and c.from_residual.result c.from_residual.ensures.1 in
+    rw (p.1, p.2) (tree_refused _ _ _ _ _ _ _ _ _ c.in_err-gate.ensures refl refl)
+
 pub set_carried_dir-requires : goal.set_carried_dir-requires
-set_carried_dir-requires c = search (tree_dirs)
+set_carried_dir-requires c = tree_dirs _ _ _ _ _ _ _ refl c.in_ok-gate.ensures
 
-pub returns-in-Refused : goal.returns-in-Refused
-returns-in-Refused c = search (tree_refused)
-
-pub returns-in-Open : goal.returns-in-Open
-returns-in-Open c = search (set_dir_passed)
+pub returns : goal.returns
+returns c = set_dir_passed _ _ _ _ _ _ _ _ _ _ _ c.in_ok-gate.ensures refl c.set_carried_dir.ensures

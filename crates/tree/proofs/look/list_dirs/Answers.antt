@@ -1,11 +1,15 @@
+use mathlib.Core.Path.{refl}
+use Rattle.std.proofs.lemmas.Result.{err_from_is_err_and}
 use Rattle.tree_promises.proofs.Gated.{tree_ready, tree_refused, tree_passed}
 use Rattle.tree.proofs.look.list_dirs.Goals as goal
 
+pub returns-in_err-gate : goal.returns-in_err-gate
+returns-in_err-gate c =
+    let p = err_from_is_err_and c.from_residual.result c.from_residual.ensures.1 in
+    rw (p.1, p.2) (tree_refused _ _ _ _ _ _ _ _ _ c.in_err-gate.ensures refl refl)
+
 pub list_dirs-requires : goal.list_dirs-requires
-list_dirs-requires c = search (tree_ready)
+list_dirs-requires c = tree_ready _ _ _ _ c.in_ok-gate.ensures refl
 
-pub returns-in-Refused : goal.returns-in-Refused
-returns-in-Refused c = search (tree_refused)
-
-pub returns-in-Open : goal.returns-in-Open
-returns-in-Open c = search (tree_passed)
+pub returns : goal.returns
+returns c = tree_passed _ _ _ _ _ _ _ _ c.in_ok-gate.ensures refl c.list_dirs.ensures
