@@ -1,21 +1,21 @@
 -- What the tests of the code tell of the faults, one lemma for each way out.
 use mathlib.Core.Path.{◌≡◌, refl, sym, ap, ◌∙◌}
 use mathlib.Core.List.{List}
-use mathlib.Core.Bool.{Bool, true, false, cond, not, ◌&&◌, ◌||◌}
-use mathlib.Core.Logic.{◌⊎◌, ⊎_elim}
-use Prim.Native.Nat.{ℕ, zero, suc, ◌+◌, ◌-◌, ◌<◌, ◌≤◌}
+use mathlib.Core.Bool.{Bool, true, false, ◌&&◌, ◌||◌}
+use mathlib.Core.Logic.{⊎_elim}
+use Prim.Native.Nat.{ℕ, zero, suc, ◌+◌, ◌<◌}
 use native.Mathlib.Omega.{arith}
 use lib.Dec.{eqb, ltb}
 use lib.ListN.{get_or}
-use borrow.Author.Tests.{eq-eqb, ne_eqb, lt-ltb, le-ltb}
+use borrow.Author.Tests.{eqb-true, eq-eqb, ne_eqb, ltb-true, lt-ltb}
 use Rattle.fat_node.specs.Entry.{Bytes, top, u_at, v_at}
-use Rattle.fat_node.specs.Node.{prev_at, next_at}
-use Rattle.fat_fault.specs.Fault.{is_node, answered, head_fits, loose, named, hop, ringed, untied}
+use Rattle.std.specs.Prelude.{Option, Some, None}
+use Rattle.fat_node.specs.Node.{HeadForm, prev_at, next_at}
+use Rattle.fat_fault.specs.Fault.{is_node, answered, head_fits, loose, hop, ringed, untied}
 use Rattle.fat_fault.specs.Inner.Ring.{Ring}
-use Rattle.fat_fault.specs.Inner.Marks.{round, Marked, Coloured}
+use Rattle.fat_fault.specs.Inner.Marks.{round, Marked, Names, Hops, Coloured}
 use Rattle.fat_node.proofs.Faults.{yes_and, tell}
-use Rattle.fat_fault.proofs.Standing.{node_below}
-use Rattle.fat_fault.proofs.Ways.{ringed_ring, ring_ringed, ring_is_node}
+use Rattle.fat_fault.proofs.Ways.{named_hop, hop_named, ringed_ring, ring_ringed, ring_is_node}
 
 -- ---- links
 
@@ -23,116 +23,51 @@ module _ (n : ℕ) (t : Bytes) where
   not_node : (w : List ℕ) → Marked n t w → (j : ℕ) → get_or w j 0 ≡ 0 → is_node n t j ≡ false
   not_node w m j e = ⊎_elim (λ q. let z : ⊥ = omega (arith, m.node j q, e) in absurd z) (λ q. q) (tell (is_node n t j))
 
-  over_node : (j : ℕ) → n ≤ j → is_node n t j ≡ false
-  over_node j h = ⊎_elim (λ q. let z : ⊥ = omega (arith, node_below n t j q) in absurd z) (λ q. q) (tell (is_node n t j))
-
   one_node : (w : List ℕ) → Marked n t w → (j : ℕ) → (get_or w j 0 ≡ 0 → ⊥) → is_node n t j ≡ true
   one_node w m j h = m.mark j (omega (arith, h))
 
-  none_there : (link : ℕ → ℕ) (i p : ℕ) → (i ≡ 0 → ⊥) → is_node n t (i - 1) ≡ false → false ≡ answered n t link i p
+  -- an index that names a place of the marks names a node
+  pub answered_some : (w : List ℕ) → Marked n t w → (link : ℕ → ℕ) (i j p q : ℕ) → i ≡ j + 1 → 0 < get_or w j 0 → q ≡ link j → eqb q p ≡ answered n t link i p
   unfolding answered
-  none_there link zero p h e = absurd (h refl)
-  none_there link (suc j) p h e = let q : is_node n t j ≡ false = ap (is_node n t) (omega arith) ∙ e in sym (ap (λ (x : Bool). x && eqb (link j) p) q)
+  answered_some w m link zero j p q e h f = absurd (omega (arith, e))
+  answered_some w m link (suc k) j p q e h f =
+      let s : k ≡ j = omega (arith, e) in
+      ap (λ (x : ℕ). eqb x p) (f ∙ ap link (sym s)) ∙ sym (ap (λ (x : Bool). x && eqb (link k) p) (ap (is_node n t) s ∙ m.mark j h))
 
-  one_there : (link : ℕ → ℕ) (i p q : ℕ) → (i ≡ 0 → ⊥) → is_node n t (i - 1) ≡ true → q ≡ link (i - 1) → eqb q p ≡ answered n t link i p
+  -- and any other is 0 or names none
+  pub answered_none : (w : List ℕ) → Marked n t w → (link : ℕ → ℕ) (i p : ℕ) → ((j : ℕ) → i ≡ j + 1 → get_or w j 0 ≡ 0) → eqb i 0 ≡ answered n t link i p
   unfolding answered
-  one_there link zero p q h e f = absurd (h refl)
-  one_there link (suc j) p q h e f =
-      let s : suc j - 1 ≡ j = omega arith in
-      ap (λ (x : ℕ). eqb x p) (f ∙ ap link s) ∙ sym (ap (λ (x : Bool). x && eqb (link j) p) (ap (is_node n t) (sym s) ∙ e))
+  answered_none w m link zero p h = refl
+  answered_none w m link (suc k) p h = ne_eqb (suc k) 0 (λ e. omega (arith, e)) ∙ sym (ap (λ (x : Bool). x && eqb (link k) p) (not_node w m k (h k (omega arith))))
 
-  answered_0 : (link : ℕ → ℕ) (i p : ℕ) → i ≡ 0 → true ≡ answered n t link i p
-  unfolding answered
-  answered_0 link zero p e = refl
-  answered_0 link (suc j) p e = absurd (omega arith)
+  pub head_none : (HeadForm t → ⊥) → false ≡ head_fits n t
+  unfolding head_fits
+  head_none h =
+      ⊎_elim
+      (λ e. ⊎_elim
+      (λ f. absurd (h (eqb-true (u_at t 0) 0 e, ltb-true (v_at t 0) top f)))
+      (λ f. sym (ap (λ (x : Bool). x && (ltb (v_at t 0) top && answered n t (prev_at t) (v_at t 0) 0)) e ∙ ap (λ (x : Bool). x && answered n t (prev_at t) (v_at t 0) 0) f))
+      (tell (ltb (v_at t 0) top)))
+      (λ e. sym (ap (λ (x : Bool). x && (ltb (v_at t 0) top && answered n t (prev_at t) (v_at t 0) 0)) e))
+      (tell (eqb (u_at t 0) 0))
 
-pub prev_0 : (n : ℕ) (t : Bytes) (i p : ℕ) → i ≡ 0 → true ≡ answered n t (prev_at t) i p
-prev_0 n t i p e = answered_0 n t (prev_at t) i p e
-
-pub next_0 : (n : ℕ) (t : Bytes) (i p : ℕ) → i ≡ 0 → true ≡ answered n t (next_at t) i p
-next_0 n t i p e = answered_0 n t (next_at t) i p e
-
-pub prev_over : (n : ℕ) (t : Bytes) (i p : ℕ) → n < i → false ≡ answered n t (prev_at t) i p
-prev_over n t i p h = none_there n t (prev_at t) i p (λ e. omega (arith, h, e)) (over_node n t (i - 1) (omega arith))
-
-pub next_over : (n : ℕ) (t : Bytes) (i p : ℕ) → n < i → false ≡ answered n t (next_at t) i p
-next_over n t i p h = none_there n t (next_at t) i p (λ e. omega (arith, h, e)) (over_node n t (i - 1) (omega arith))
-
-pub prev_none : (n : ℕ) (t : Bytes) (w : List ℕ) (i p : ℕ) → Marked n t w → (i ≡ 0 → ⊥) → get_or w (i - 1) 0 ≡ 0 → false ≡ answered n t (prev_at t) i p
-prev_none n t w i p m h e = none_there n t (prev_at t) i p h (not_node n t w m (i - 1) e)
-
-pub next_none : (n : ℕ) (t : Bytes) (w : List ℕ) (i p : ℕ) → Marked n t w → (i ≡ 0 → ⊥) → get_or w (i - 1) 0 ≡ 0 → false ≡ answered n t (next_at t) i p
-next_none n t w i p m h e = none_there n t (next_at t) i p h (not_node n t w m (i - 1) e)
-
-pub prev_some : (n : ℕ) (t : Bytes) (w : List ℕ) (i p q : ℕ) → Marked n t w → (i ≡ 0 → ⊥) → (get_or w (i - 1) 0 ≡ 0 → ⊥) → q ≡ prev_at t (i - 1) → eqb q p ≡ answered n t (prev_at t) i p
-prev_some n t w i p q m h e f = one_there n t (prev_at t) i p q h (one_node n t w m (i - 1) e) f
-
-pub next_some : (n : ℕ) (t : Bytes) (w : List ℕ) (i p q : ℕ) → Marked n t w → (i ≡ 0 → ⊥) → (get_or w (i - 1) 0 ≡ 0 → ⊥) → q ≡ next_at t (i - 1) → eqb q p ≡ answered n t (next_at t) i p
-next_some n t w i p q m h e f = one_there n t (next_at t) i p q h (one_node n t w m (i - 1) e) f
-
-pub head_u : (n : ℕ) (t : Bytes) (u : ℕ) → u ≡ u_at t 0 → (u ≡ 0 → ⊥) → false ≡ head_fits n t
-unfolding head_fits
-head_u n t u e h = sym (ap (λ (x : Bool). x && (ltb (v_at t 0) top && answered n t (prev_at t) (v_at t 0) 0)) (ne_eqb (u_at t 0) 0 (λ q. h (e ∙ q))))
-
-pub head_v : (n : ℕ) (t : Bytes) (u v : ℕ) → u ≡ u_at t 0 → u ≡ 0 → v ≡ v_at t 0 → 2147483648 ≤ v → false ≡ head_fits n t
-unfolding head_fits
-head_v n t u v e z f h =
-    sym (ap (λ (x : Bool). x && (ltb (v_at t 0) top && answered n t (prev_at t) (v_at t 0) 0)) (eq-eqb (u_at t 0) 0 (sym e ∙ z))
-    ∙ ap (λ (x : Bool). x && answered n t (prev_at t) (v_at t 0) 0) (le-ltb (v_at t 0) top (omega arith)))
-
-pub head_some : (n : ℕ) (t : Bytes) (u v i : ℕ) (r : Bool) → u ≡ u_at t 0 → u ≡ 0 → v ≡ v_at t 0 → v < 2147483648 → i ≡ v → r ≡ answered n t (prev_at t) i 0 → r ≡ head_fits n t
-unfolding head_fits
-head_some n t u v i r e z f h g a =
-    a ∙ ap (λ (x : ℕ). answered n t (prev_at t) x 0) (g ∙ f)
-    ∙ sym (ap (λ (x : Bool). x && (ltb (v_at t 0) top && answered n t (prev_at t) (v_at t 0) 0)) (eq-eqb (u_at t 0) 0 (sym e ∙ z))
-    ∙ ap (λ (x : Bool). x && answered n t (prev_at t) (v_at t 0) 0) (lt-ltb (v_at t 0) top (omega arith)))
-
-pub loose_next : (n : ℕ) (t : Bytes) (b i : ℕ) (r : Bool) → i ≡ next_at t b → r ≡ answered n t (prev_at t) i (b + 1) → not r ≡ true → true ≡ loose n t b
-unfolding loose
-loose_next n t b i r e f h =
-    let q : not (answered n t (prev_at t) (next_at t b) (suc b)) ≡ true = ap not (ap (answered n t (prev_at t) (next_at t b)) (omega arith) ∙ ap (λ (x : ℕ). answered n t (prev_at t) x (b + 1)) (sym e) ∙ sym f) ∙ h in
-    sym (ap (λ (x : Bool). x || not (answered n t (next_at t) (prev_at t b) (suc b))) q)
-
-pub loose_prev : (n : ℕ) (t : Bytes) (b i k : ℕ) (r s : Bool) → i ≡ next_at t b → r ≡ answered n t (prev_at t) i (b + 1) → not r ≡ false → k ≡ prev_at t b → s ≡ answered n t (next_at t) k (b + 1)
-    → not s ≡ loose n t b
-unfolding loose
-loose_prev n t b i k r s e f h g a =
-    let q : not (answered n t (prev_at t) (next_at t b) (suc b)) ≡ false = ap not (ap (answered n t (prev_at t) (next_at t b)) (omega arith) ∙ ap (λ (x : ℕ). answered n t (prev_at t) x (b + 1)) (sym e) ∙ sym f) ∙ h in
-    let p : s ≡ answered n t (next_at t) (prev_at t b) (suc b) = a ∙ ap (λ (x : ℕ). answered n t (next_at t) x (b + 1)) g ∙ ap (answered n t (next_at t) (prev_at t b)) (omega arith) in
-    ap not p ∙ sym (ap (λ (x : Bool). x || not (answered n t (next_at t) (prev_at t b) (suc b))) q)
+  pub head_some : (h : ℕ) (r : Bool) → HeadForm t → h ≡ v_at t 0 → r ≡ answered n t (prev_at t) h 0 → r ≡ head_fits n t
+  unfolding head_fits
+  head_some h r f e a =
+      a ∙ ap (λ (x : ℕ). answered n t (prev_at t) x 0) e
+      ∙ sym (ap (λ (x : Bool). x && (ltb (v_at t 0) top && answered n t (prev_at t) (v_at t 0) 0)) (eq-eqb (u_at t 0) 0 f.0)
+      ∙ ap (λ (x : Bool). x && answered n t (prev_at t) (v_at t 0) 0) (lt-ltb (v_at t 0) top f.1))
 
 -- ---- hops
 
-named_no : (n : ℕ) (t : Bytes) (i : ℕ) → (i ≡ 0 → ⊥) → is_node n t (i - 1) ≡ false → 0 ≡ named n t i
-unfolding named
-named_no n t zero h e = refl
-named_no n t (suc j) h e = let q : is_node n t j ≡ false = ap (is_node n t) (omega arith) ∙ e in sym (ap (λ (x : Bool). cond {A = ℕ} x (suc j) zero) q)
-
-named_yes : (n : ℕ) (t : Bytes) (i : ℕ) → (i ≡ 0 → ⊥) → is_node n t (i - 1) ≡ true → i ≡ named n t i
-unfolding named
-named_yes n t zero h e = refl
-named_yes n t (suc j) h e = let q : is_node n t j ≡ true = ap (is_node n t) (omega arith) ∙ e in sym (ap (λ (x : Bool). cond {A = ℕ} x (suc j) zero) q)
-
-named_0 : (n : ℕ) (t : Bytes) (i : ℕ) → i ≡ 0 → 0 ≡ named n t i
-unfolding named
-named_0 n t zero e = refl
-named_0 n t (suc j) e = absurd (omega arith)
-
-pub hop_0 : (n : ℕ) (t : Bytes) (b i : ℕ) → i ≡ next_at t b → i ≡ 0 → 0 ≡ hop n t b
-unfolding hop
-hop_0 n t b i e z = named_0 n t (next_at t b) (sym e ∙ z)
-
-pub hop_over : (n : ℕ) (t : Bytes) (b i : ℕ) → i ≡ next_at t b → n < i → 0 ≡ hop n t b
-unfolding hop
-hop_over n t b i e h = named_no n t (next_at t b) (λ q. omega (arith, h, e, q)) (over_node n t (next_at t b - 1) (omega arith))
-
-pub hop_none : (n : ℕ) (t : Bytes) (w : List ℕ) (b i : ℕ) → Marked n t w → i ≡ next_at t b → (i ≡ 0 → ⊥) → get_or w (i - 1) 0 ≡ 0 → 0 ≡ hop n t b
-unfolding hop
-hop_none n t w b i m e h z = named_no n t (next_at t b) (λ q. h (e ∙ q)) (ap (λ (x : ℕ). is_node n t (x - 1)) (sym e) ∙ not_node n t w m (i - 1) z)
-
-pub hop_some : (n : ℕ) (t : Bytes) (w : List ℕ) (b i : ℕ) → Marked n t w → i ≡ next_at t b → (i ≡ 0 → ⊥) → (get_or w (i - 1) 0 ≡ 0 → ⊥) → i ≡ hop n t b
-unfolding hop
-hop_some n t w b i m e h z = named_yes n t i h (one_node n t w m (i - 1) z) ∙ ap (named n t) e
+-- what the marks tell of the index that next has
+pub hop_names : (n : ℕ) (t : Bytes) (w : List ℕ) (b i : ℕ) (r : Option ℕ) → Marked n t w → i ≡ next_at t b → Names w i r → Hops n t b r
+hop_names n t w b i (Some j) m e h = named_hop n t b j (sym e ∙ h.0 ∙ omega arith) (m.mark j h.2)
+hop_names n t w b i None m e h = go (hop n t b) refl
+  where
+    go : (k : ℕ) → hop n t b ≡ k → hop n t b ≡ 0
+    go zero q = q
+    go (suc j) q = let o = hop_named n t b j q in let z : ⊥ = omega (arith, m.node j o.1, h j (e ∙ o.0 ∙ omega arith)) in absurd z
 
 -- ---- the lowest
 

@@ -3,18 +3,19 @@ use mathlib.Core.Path.{◌≡◌, refl, sym, ap, subst, ◌∙◌}
 use mathlib.Core.List.{List, [], ◌∷◌}
 use mathlib.Core.Bool.{Bool, true, false, not}
 use mathlib.Core.Logic.{◌⊎◌, inl, inr, ⊎_elim}
-use Prim.Native.Nat.{ℕ, zero, suc, ◌+◌, ◌-◌, ◌<◌, ◌≤◌}
+use Prim.Native.Nat.{ℕ, zero, suc, ◌+◌, ◌<◌, ◌≤◌}
 use native.Mathlib.Nat.{eq-or-lt_of_le}
 use native.Mathlib.Omega.{arith}
 use lib.Dec.{eqb}
 use lib.ListN.{length, get_or, set, length-set}
 use lib.Seq.{get_or-set_same}
 use borrow.Author.Tests.{eq-eqb, ne_eqb}
+use Rattle.std.specs.Prelude.{Option, Some, None}
 use Rattle.fat_node.specs.Entry.{Bytes}
 use Rattle.fat_fault.specs.Fault.{is_node, hop}
 use Rattle.fat_fault.specs.Inner.Ring.{Way, Ring}
 use Rattle.fat_fault.specs.Inner.Ring.Way.{here}
-use Rattle.fat_fault.specs.Inner.Marks.{round, Marked, Fresh, Coloured, Closed, Rounded, Came}
+use Rattle.fat_fault.specs.Inner.Marks.{round, Hops, Marked, Fresh, Coloured, Closed, Rounded, Came}
 use Rattle.fat_node.proofs.Cases.{untrue}
 use Rattle.fat_fault.proofs.Standing.{node_below}
 use Rattle.fat_fault.proofs.Ways.{way_on, way_ring, ring_next, ring_way, ring_back, way_in, hop_named, hop_most, ring_is_node}
@@ -82,35 +83,32 @@ rounding_none n t j v m c h = record {
 }
 
 -- the ring goes on
-pub rounding_on : (n : ℕ) (t : Bytes) (j : ℕ) (v w : List ℕ) (i r : ℕ) → Rounding n t j v w i → Ring (hop n t) j → r ≡ hop n t i → 1 ≤ r
-rounding_on n t j v w i r k g e = let o = ring_way (hop n t) g k.way in omega (arith, e, o.on)
+pub rounding_on : (n : ℕ) (t : Bytes) (j : ℕ) (v w : List ℕ) (i : ℕ) → Rounding n t j v w i → Ring (hop n t) j → hop n t i ≡ 0 → ⊥
+rounding_on n t j v w i k g e = let o = ring_way (hop n t) g k.way in omega (arith, e, o.on)
 
 pub rounding_node : (n : ℕ) (t : Bytes) (j : ℕ) (v w : List ℕ) (i : ℕ) → Rounding n t j v w i → Ring (hop n t) j → Marked n t (set w i round)
 rounding_node n t j v w i k g = marked_set n t w i round k.marked (ring_is_node n t (ring_way (hop n t) g k.way)) (omega arith)
 
-pub rounding_more : (n : ℕ) (t : Bytes) (j : ℕ) (v w : List ℕ) (i r : ℕ) → Rounding n t j v w i → Ring (hop n t) j → r ≡ hop n t i → Rounding n t j v (set w i round) (r - 1)
-rounding_more n t j v w i r k g e =
-    let o = ring_way (hop n t) g k.way in
-    let m : ℕ = o.after in
-    let f : r - 1 ≡ m = omega (arith, e, o.on) in
+pub rounding_more : (n : ℕ) (t : Bytes) (j : ℕ) (v w : List ℕ) (i m : ℕ) → Rounding n t j v w i → Ring (hop n t) j → hop n t i ≡ suc m → Rounding n t j v (set w i round) m
+rounding_more n t j v w i m k g o =
     let same : get_or (set w i round) i 0 ≡ round = get_or-set_same w i round 0 (omega (arith, k.below, k.marked.long)) in
     let at : (y : ℕ) → y ≡ i → get_or (set w i round) y 0 ≡ round = λ y q. ap (λ (z : ℕ). get_or (set w i round) z 0) q ∙ same in
     let stay : (y : ℕ) → get_or w y 0 ≡ round → get_or (set w i round) y 0 ≡ round = λ y q. ⊎_elim (λ c. at y c) (λ c. c ∙ q) (set_cases w i round y) in
-    subst (Rounding n t j v (set w i round)) (sym f) (record {
+    record {
       marked = rounding_node n t j v w i k g;
       long = length-set w i round ∙ k.long;
-      way = way_on (hop n t) k.way o.on;
-      below = node_below n t m (hop_named n t i m o.on).1;
+      way = way_on (hop n t) k.way o;
+      below = node_below n t m (hop_named n t i m o).1;
       only = λ x. ⊎_elim
           (λ q. inr (subst (λ (y : ℕ). Way (hop n t) y j) (sym q) k.way, at x q))
           (λ q. ⊎_elim (λ c. inl (q ∙ c)) (λ c. inr (c.0, q ∙ c.1)) (k.only x))
           (set_cases w i round x);
       closed = λ x y p q. ⊎_elim
-          (λ c. inr (omega (arith, ap (hop n t) c, q, o.on)))
+          (λ c. inr (omega (arith, ap (hop n t) c, q, o)))
           (λ c. ⊎_elim (λ d. inl (stay y d)) (λ d. inl (at y d)) (k.closed x y (sym c ∙ p) q))
           (set_cases w i round x);
       begun = inl (⊎_elim (λ c. stay j c) (λ c. at j c) k.begun);
-    })
+    }
 
 pub rounding_end : (n : ℕ) (t : Bytes) (j : ℕ) (v w : List ℕ) (i : ℕ) → Rounding n t j v w i → get_or w i 0 ≡ round → Rounded n t j v w
 rounding_end n t j v w i k e =
@@ -137,7 +135,16 @@ pub record Colouring (n : ℕ) (t : Bytes) (b : ℕ) (v w : List ℕ) (i : ℕ) 
 unused : (n : ℕ) (t : Bytes) (b : ℕ) (v : List ℕ) → Coloured n t b v → b < n → n ≤ 1000000 → (x : ℕ) → get_or v x 0 ≡ b + 2 → ⊥
 unused n t b v c h l x e = ⊎_elim (λ q. omega (arith, q, e)) (λ q. omega (arith, q, e)) (c.colour x)
 
-pub colouring_none : (n : ℕ) (t : Bytes) (b : ℕ) (v : List ℕ) → Coloured n t b v → b < n → n ≤ 1000000 → Colouring n t b v v (b + 1)
+-- the index of a block, 0 for none
+abbrev pub index_of : Option ℕ → ℕ
+index_of None = 0
+index_of (Some j) = suc j
+
+pub hop_index : (n : ℕ) (t : Bytes) (j : ℕ) (r : Option ℕ) → Hops n t j r → index_of r ≡ hop n t j
+hop_index n t j None e = sym e
+hop_index n t j (Some m) e = sym e
+
+pub colouring_none : (n : ℕ) (t : Bytes) (b : ℕ) (v : List ℕ) → Coloured n t b v → b < n → n ≤ 1000000 → Colouring n t b v v (suc b)
 colouring_none n t b v c h l = record {
   old = c;
   marked = c.marked;
@@ -145,24 +152,22 @@ colouring_none n t b v c h l = record {
   kept = λ x. inl refl;
   lead = λ x e. absurd (unused n t b v c h l x e);
   on = λ x y e q. absurd (unused n t b v c h l x e);
-  begun = inr (omega arith);
+  begun = inr refl;
 }
 
-pub colouring_node : (n : ℕ) (t : Bytes) (b : ℕ) (v w : List ℕ) (i : ℕ) → Colouring n t b v w i → get_or w (i - 1) 0 ≡ 1 → Marked n t (set w (i - 1) (b + 2))
-colouring_node n t b v w i k e = marked_set n t w (i - 1) (b + 2) k.marked (k.marked.mark (i - 1) (omega (arith, e))) (omega arith)
+pub colouring_node : (n : ℕ) (t : Bytes) (b : ℕ) (v w : List ℕ) (i j : ℕ) → Colouring n t b v w i → get_or w j 0 ≡ 1 → Marked n t (set w j (b + 2))
+colouring_node n t b v w i j k e = marked_set n t w j (b + 2) k.marked (k.marked.mark j (omega (arith, e))) (omega arith)
 
-pub colouring_more : (n : ℕ) (t : Bytes) (b : ℕ) (v w : List ℕ) (i r : ℕ) → Colouring n t b v w i → (i ≡ 0 → ⊥) → get_or w (i - 1) 0 ≡ 1 → r ≡ hop n t (i - 1)
-    → Colouring n t b v (set w (i - 1) (b + 2)) r
-colouring_more n t b v w i r k nz e f =
-    let j : ℕ = i - 1 in
-    let ij : i ≡ suc j = omega (arith, nz) in
-    let same : get_or (set w j (b + 2)) j 0 ≡ b + 2 = get_or-set_same w j (b + 2) 0 (omega (arith, nz, k.most, k.marked.long)) in
+pub colouring_more : (n : ℕ) (t : Bytes) (b : ℕ) (v w : List ℕ) (i j r : ℕ) → Colouring n t b v w i → i ≡ suc j → get_or w j 0 ≡ 1 → r ≡ hop n t j
+    → Colouring n t b v (set w j (b + 2)) r
+colouring_more n t b v w i j r k ij e f =
+    let same : get_or (set w j (b + 2)) j 0 ≡ b + 2 = get_or-set_same w j (b + 2) 0 (omega (arith, ij, k.most, k.marked.long)) in
     let at : (y : ℕ) → y ≡ j → get_or (set w j (b + 2)) y 0 ≡ b + 2 = λ y q. ap (λ (z : ℕ). get_or (set w j (b + 2)) z 0) q ∙ same in
     let stay : (y : ℕ) → 1 < get_or w y 0 → 1 < get_or (set w j (b + 2)) y 0 = λ y q. ⊎_elim (λ c. omega (arith, at y c)) (λ c. omega (arith, c, q)) (set_cases w j (b + 2) y) in
     record {
       old = k.old;
-      marked = colouring_node n t b v w i k e;
-      most = omega (arith, f, hop_most n t (i - 1));
+      marked = colouring_node n t b v w i j k e;
+      most = omega (arith, f, hop_most n t j);
       kept = λ x. ⊎_elim
           (λ c. inr (⊎_elim (λ d. sym d ∙ ap (λ (y : ℕ). get_or w y 0) c ∙ e) (λ d. d.0) (k.kept x), at x c))
           (λ c. ⊎_elim (λ d. inl (c ∙ d)) (λ d. inr (d.0, c ∙ d.1)) (k.kept x))
@@ -272,15 +277,14 @@ module _ (n : ℕ) (t : Bytes) (b : ℕ) (v w : List ℕ) (h : b < n) (small : n
         let g = ring_way (hop n t) r o.1 in
         omega (arith, g.on, o.2, z))
 
-    at_met : (get_or w (i - 1) 0 ≡ 1 → ⊥) → (j : ℕ) → i ≡ suc j → get_or w j 0 ≡ 1 → ⊥
-    at_met h j e q = h (ap (λ (y : ℕ). get_or w y 0) (omega (arith, e)) ∙ q)
+    at_met : (j : ℕ) → i ≡ suc j → (get_or w j 0 ≡ 1 → ⊥) → (m : ℕ) → i ≡ suc m → get_or w m 0 ≡ 1 → ⊥
+    at_met j ij h m e q = h (ap (λ (y : ℕ). get_or w y 0) (omega (arith, ij, e)) ∙ q)
 
     -- it came to a node of an earlier colour
-    pub colour_met : (i ≡ 0 → ⊥) → (get_or w (i - 1) 0 ≡ 1 → ⊥) → (get_or w (i - 1) 0 ≡ b + 2 → ⊥) → Coloured n t (b + 1) w
-    colour_met nz h g = settled_open (settled (at_met h)) (λ x p q r.
-        let j : ℕ = i - 1 in
+    pub colour_met : (j : ℕ) → i ≡ suc j → (get_or w j 0 ≡ 1 → ⊥) → (get_or w j 0 ≡ b + 2 → ⊥) → Coloured n t (b + 1) w
+    colour_met j ij h g = settled_open (settled (at_met j ij h)) (λ x p q r.
         let o = k.lead x q in
-        let f : hop n t o.0 ≡ suc j = omega (arith, o.2, nz) in
+        let f : hop n t o.0 ≡ suc j = o.2 ∙ ij in
         let l : 0 < get_or w j 0 = k.marked.node j (hop_named n t o.0 j f).1 in
         let m : 1 < get_or v j 0 = ⊎_elim (λ c. omega (arith, c, h, l)) (λ c. absurd (g c.1)) (k.kept j) in
         let a : 1 < get_or v x 0 = way_in (hop n t) (λ (y : ℕ). 1 < get_or v y 0) (λ a c p q. k.old.closed a c p q) m (ring_back (hop n t) r (way_on (hop n t) o.1 f)) in
@@ -297,13 +301,13 @@ module _ (n : ℕ) (t : Bytes) (b : ℕ) (v w : List ℕ) (h : b < n) (small : n
         seen_rings_of : (x : ℕ) → get_or w x 0 ≡ round → Ring (hop n t) x × (1 < get_or v x 0)
         seen_rings_of x e = ⊎_elim (λ c. (k.old.rings x (sym c ∙ e), omega (arith, c, e))) (λ c. let z : ⊥ = omega (arith, c.1, e) in absurd z) (k.kept x)
 
-    pub own_ring : (i ≡ 0 → ⊥) → get_or w (i - 1) 0 ≡ b + 2 → Ring (hop n t) (i - 1)
-    own_ring nz e = let o = k.lead (i - 1) e in way_ring (hop n t) o.1 (omega (arith, o.2, nz))
+    pub own_ring : (j : ℕ) → i ≡ suc j → get_or w j 0 ≡ b + 2 → Ring (hop n t) j
+    own_ring j ij e = let o = k.lead j e in way_ring (hop n t) o.1 (o.2 ∙ ij)
 
-    pub colour_round : (u : List ℕ) → (i ≡ 0 → ⊥) → get_or w (i - 1) 0 ≡ b + 2 → Rounded n t (i - 1) w u → Coloured n t (b + 1) u
-    colour_round u nz e o = settled_round (settled (at_met (λ q. omega (arith, e, q)))) (i - 1) u (own_ring nz e) o (λ x q.
+    pub colour_round : (j : ℕ) (u : List ℕ) → i ≡ suc j → get_or w j 0 ≡ b + 2 → Rounded n t j w u → Coloured n t (b + 1) u
+    colour_round j u ij e o = settled_round (settled (at_met j ij (λ q. omega (arith, e, q)))) j u (own_ring j ij e) o (λ x q.
         let c = k.lead x q in
-        way_on (hop n t) c.1 (omega (arith, c.2, nz)))
+        way_on (hop n t) c.1 (c.2 ∙ ij))
 
 -- ---- all blocks
 

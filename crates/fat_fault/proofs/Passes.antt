@@ -1,20 +1,18 @@
 -- The walk, the last pass and the whole: the invariants of their loops.
-use mathlib.Core.Path.{◌≡◌, refl, sym, ap, subst, ◌∙◌}
+use mathlib.Core.Path.{◌≡◌, refl, sym, ap, ◌∙◌}
 use mathlib.Core.List.{List, [], ◌∷◌}
-use mathlib.Core.Bool.{Bool, true, false, not, ◌||◌}
+use mathlib.Core.Bool.{Bool, true, false, ◌||◌}
 use mathlib.Core.Logic.{◌⊎◌, inl, inr, ⊎_elim}
 use Prim.Native.Nat.{ℕ, zero, suc, ◌+◌, ◌<◌, ◌≤◌}
 use native.Mathlib.Omega.{arith}
 use lib.Dec.{eqb}
 use lib.ListN.{length, get_or, set, replicate, length-set, length-replicate}
 use lib.Seq.{get_or-set_same}
-use borrow.Author.Tests.{eqb-true, eq-eqb, ne_eqb, not-true, not-false}
+use borrow.Author.Tests.{eqb-true, eq-eqb, ne_eqb}
 use Rattle.fat_node.specs.Entry.{Bytes}
 use Rattle.fat_node.specs.Node.{Run, NodeAt}
-use Rattle.fat_node.specs.Inner.Reads.{Reads, Unread}
-use Rattle.fat_node.specs.declared.Node.{Node}
-use Rattle.fat_node.specs.declared.NodeRead.{NodeRead}
-use Rattle.fat_node.specs.declared.NodeRead.TheVariants.{Found, Broken}
+use Rattle.std.specs.Prelude.{Ok, Err}
+use Rattle.fat_node.specs.Inner.Reads.{Unread}
 use Rattle.fat_node.proofs.Cases.{untrue}
 use Rattle.fat_table.specs.Chain.{size_at}
 use Rattle.fat_table.specs.Counts.{scan, nodes}
@@ -113,36 +111,22 @@ walking_more n t w b s k h z nd =
           (λ q. ⊎_elim (λ o. untrue (sym q ∙ eq-eqb b x (sym o))) (λ o. ap (λ (y : ℕ). eqb y 1) o) (set_cases w b 1 x));
     }
 
-module _ (n : ℕ) (t : Bytes) (b : ℕ) (r : NodeRead) (read : Reads t n b r) where
-  -- a node was read
-  module _ (node : Node) (e : r ≡ Found node) where
-    stands : NodeAt t n b node.size
-    stands = (subst (Reads t n b) e read).0
+-- a node was read
+pub walking_again : (n : ℕ) (t : Bytes) (w : List ℕ) (b s : ℕ) → n ≤ 1000000 → Walking n t w b → b < n → NodeAt t n b s → Walking n t (set w b 1) (b + s)
+walking_again n t w b s small k h nd = walking_more n t w b s k h (ap (λ (x : Fault). x.rule) (node_clear n t b s nd small)) nd
 
-    pub walking_room : b + node.size ≤ n
-    walking_room = stands.within
+-- none could be read
+pub walking_found : (n : ℕ) (t : Bytes) (w : List ℕ) (b : ℕ) (f : Fault) → Unread t n b f → Walking n t w b → b < n → Walked n t w (Err f)
+walking_found n t w b f u k h = (
+  u.first ∙ sym ((fuelled n t w b k h).rest ∙ then_first _ _ (λ q. u.broken (ap (λ (x : Fault). x.rule) u.first ∙ q))),
+  u.broken,
+)
 
-    pub walking_some : 0 < node.size
-    walking_some = stands.some
-
-    pub walking_again : (w : List ℕ) → n ≤ 1000000 → Walking n t w b → b < n → Walking n t (set w b 1) (b + node.size)
-    walking_again w small k h = walking_more n t w b node.size k h (ap (λ (x : Fault). x.rule) (node_clear n t b node.size stands small)) stands
-
-  -- none could be read
-  pub walking_found : (w : List ℕ) (f : Fault) → r ≡ Broken f → Walking n t w b → b < n → Walked n t w f
-  walking_found w f e k h =
-      let u : Unread t n b f = subst (Reads t n b) e read in
-      record {
-        found = u.first ∙ sym ((fuelled n t w b k h).rest ∙ then_first _ _ (λ q. u.broken (ap (λ (x : Fault). x.rule) u.first ∙ q)));
-        fresh = λ q. absurd (u.broken q);
-      }
-
-pub walking_end : (n : ℕ) (t : Bytes) (w : List ℕ) (b : ℕ) → Walking n t w b → n ≤ b → Walked n t w unbroken
+pub walking_end : (n : ℕ) (t : Bytes) (w : List ℕ) (b : ℕ) → Walking n t w b → n ≤ b → Walked n t w (Ok tt)
 walking_end n t w b k h =
-    let m : (x : ℕ) → is_node n t x ≡ (eqb (get_or w x 0) 1 || false) = λ x. k.marks x ∙ ap (λ (l : List Run). eqb (get_or w x 0) 1 || starts_at l x) (scan_end n t k.fuel b h) in
-    record {
-      found = sym (k.rest ∙ walk_end n t k.fuel b h);
-      fresh = λ q. record {
+    let m : (x : ℕ) → is_node n t x ≡ (eqb (get_or w x 0) 1 || false) = λ x. k.marks x ∙ ap (λ (l : List Run). eqb (get_or w x 0) 1 || starts_at l x) (scan_end n t k.fuel b h) in (
+      k.rest ∙ walk_end n t k.fuel b h,
+      record {
         marked = record {
           long = k.long;
           node = λ x e. ⊎_elim
@@ -152,8 +136,8 @@ walking_end n t w b k h =
           mark = λ x e. m x ∙ ap (λ (y : Bool). y || false) (eq-eqb (get_or w x 0) 1 (omega (arith, e, k.least x)));
         };
         least = k.least;
-      };
-    }
+      },
+    )
 
 -- ---- the last pass, about to look at b
 
@@ -189,10 +173,10 @@ pub find_walk : (n : ℕ) (t : Bytes) (f : Fault) → f ≡ walk_fault n t → (
 unfolding fault_of
 find_walk n t f e z = e ∙ sym (then_first _ _ (λ q. z (ap (λ (x : Fault). x.rule) e ∙ q)))
 
-pub find_head : (n : ℕ) (t : Bytes) (f : Fault) (r : Bool) → f ≡ walk_fault n t → f.rule ≡ 0 → r ≡ head_fits n t → not r ≡ true → fault 0 6 ≡ fault_of n t
+pub find_head : (n : ℕ) (t : Bytes) (r : Bool) → walk_fault n t ≡ unbroken → r ≡ head_fits n t → r ≡ false → fault 0 6 ≡ fault_of n t
 unfolding fault_of later_fault
-find_head n t f r e z h b = sym (then_second _ _ (ap (λ (x : Fault). x.rule) (sym e) ∙ z) ∙ when_no _ _ _ (sym h ∙ not-true r b))
+find_head n t r z h b = sym (then_second _ _ (ap (λ (x : Fault). x.rule) z) ∙ when_no _ _ _ (sym h ∙ b))
 
-pub find_lowest : (n : ℕ) (t : Bytes) (f : Fault) (r : Bool) (l : Fault) → f ≡ walk_fault n t → f.rule ≡ 0 → r ≡ head_fits n t → not r ≡ false → l ≡ lowest n t n 0 → l ≡ fault_of n t
+pub find_lowest : (n : ℕ) (t : Bytes) (r : Bool) (l : Fault) → walk_fault n t ≡ unbroken → r ≡ head_fits n t → r ≡ true → l ≡ lowest n t n 0 → l ≡ fault_of n t
 unfolding fault_of later_fault
-find_lowest n t f r l e z h b q = q ∙ sym (then_second _ _ (ap (λ (x : Fault). x.rule) (sym e) ∙ z) ∙ when_yes _ _ _ (sym h ∙ not-false r b))
+find_lowest n t r l z h b q = q ∙ sym (then_second _ _ (ap (λ (x : Fault). x.rule) z) ∙ when_yes _ _ _ (sym h ∙ b))

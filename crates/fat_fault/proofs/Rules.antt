@@ -1,5 +1,5 @@
 -- The first of two faults, and what the absence of a fault says of the size at a block.
-use mathlib.Core.Path.{◌≡◌, refl, sym, ap, subst, ◌∙◌}
+use mathlib.Core.Path.{◌≡◌, refl, sym, subst}
 use mathlib.Core.Bool.{Bool, true, false}
 use mathlib.Core.Logic.{⊎_elim}
 use Prim.Native.Nat.{ℕ, ◌+◌, ◌-◌, ◌<◌}

@@ -80,6 +80,7 @@ fn head_fits(table: &[u8], n: usize, work: &[u32]) -> bool
 }
 
 // Whether a link of the node at block b names no node, or one that does not name it back.
+#[tactic(auto, unfolding(crate::specs::Fault::loose))]
 fn loose(table: &[u8], n: usize, work: &[u32], b: usize) -> bool
     requires table_len { length table.now ≡ 8 * (n + 1) }
     requires b_lt_n { (b < n) × (n ≤ 1000000) }
@@ -109,13 +110,13 @@ fn ring(table: &[u8], n: usize, work: &mut [u32], j: usize)
     requires ring { Ring (hop n table.now) j }
     ensures { Rounded n table.now j work.old work.new }
 {
-    let mut at = Some(j);
-    while let Some(i) = at {
-        if work[i] == ROUND {
-            return;
-        }
+    let mut i = j;
+    while work[i] != ROUND {
         work[i] = ROUND;
-        at = hop(table, n, work, i);
+        let Some(next) = hop(table, n, work, i) else {
+            return;
+        };
+        i = next;
     }
 }
 

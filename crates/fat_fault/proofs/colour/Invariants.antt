@@ -1,10 +1,9 @@
 -- `fat_fault::colour` meets its contract.
-use Prim.Native.Nat.{◌-◌}
-use Rattle.fat_fault.proofs.Colours.{unseen, Colouring}
+use Rattle.fat_fault.proofs.Colours.{unseen, index_of, Colouring}
 use Rattle.fat_fault.proofs.colour.Given as goal
 
-abbrev pub invariant-loop-i : goal.invariant-loop-i
-invariant-loop-i l = Colouring l.n l.table l.b l.initial.work l.work l.i
+abbrev pub invariant-loop-at : goal.invariant-loop-at
+invariant-loop-at l = Colouring l.n l.table l.b l.initial.work l.work (index_of l.at)
 
-abbrev pub decreases-loop-i : goal.decreases-loop-i
-decreases-loop-i l = unseen l.work
+abbrev pub decreases-loop-at : goal.decreases-loop-at
+decreases-loop-at l = unseen l.work

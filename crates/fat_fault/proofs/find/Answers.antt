@@ -1,19 +1,18 @@
 -- `fat_fault::find` meets its contract.
-use native.Mathlib.Omega.{arith}
 use Rattle.fat_fault.proofs.Passes.{find_walk, find_head, find_lowest}
 use Rattle.fat_fault.proofs.find.Goals as goal
 
-pub returns-then-f-ne0 : goal.returns-then-f-ne0
-returns-then-f-ne0 c = search find_walk
+pub returns-in-Err : goal.returns-in-Err
+returns-in-Err c = find_walk _ _ _ c.in-Err.ensures.0 c.in-Err.ensures.1
 
-pub head_fits-requires : goal.head_fits-requires
-head_fits-requires c = record { table_len = omega arith; n_bound = omega arith; marked = (c.walk-f.ensures.fresh c.if-f-ne0.false).marked }
+pub head_fits-requires-clause-marked : goal.head_fits-requires-clause-marked
+head_fits-requires-clause-marked c = c.in_default.ensures.1.marked
 
 pub returns-then-not-head_fits : goal.returns-then-not-head_fits
-returns-then-not-head_fits c = search find_head
+returns-then-not-head_fits c = find_head _ _ _ c.in_default.ensures.0 c.head_fits.ensures c.if-not-head_fits.true
 
-pub lowest-requires : goal.lowest-requires
-lowest-requires c = record { table_len = omega arith; n_bound = omega arith; fresh = c.walk-f.ensures.fresh c.if-f-ne0.false }
+pub lowest-requires-clause-fresh : goal.lowest-requires-clause-fresh
+lowest-requires-clause-fresh c = c.in_default.ensures.1
 
 pub returns : goal.returns
-returns c = search find_lowest
+returns c = find_lowest _ _ _ _ c.in_default.ensures.0 c.head_fits.ensures c.if-not-head_fits.false c.lowest.ensures

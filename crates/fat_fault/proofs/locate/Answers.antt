@@ -7,5 +7,5 @@ use Rattle.fat_fault.proofs.locate.Goals as goal
 
 pub returns : goal.returns
 returns c =
-    let l : length c.find-f.new.work ≡ c.args.n = omega (arith, c.find-f.auto.work) in
-    (c.find-f.ensures, c.clear.ensures ∙ ap (λ (m : ℕ). replicate m 0) l)
+    let l : length c.find-found.new.work ≡ c.args.n = omega (arith, c.find-found.auto.work) in
+    (c.find-found.ensures, c.clear.ensures ∙ ap (λ (m : ℕ). replicate m 0) l)

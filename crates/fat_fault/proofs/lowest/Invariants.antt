@@ -1,11 +1,7 @@
 -- `fat_fault::lowest` meets its contract.
-use Prim.Native.Nat.{◌-◌}
 use Rattle.fat_fault.specs.Inner.Marks.{Coloured}
 use Rattle.fat_fault.proofs.Passes.{Low}
 use Rattle.fat_fault.proofs.lowest.Given as goal
 
 abbrev pub invariant-loop-b : goal.invariant-loop-b
 invariant-loop-b l = Low l.n l.table l.b × Coloured l.n l.table l.b l.work
-
-abbrev pub decreases-loop-b : goal.decreases-loop-b
-decreases-loop-b l = l.n - l.b

@@ -1,17 +1,16 @@
 -- `fat_fault::ring` meets its contract.
-use Prim.Native.Nat.{◌-◌}
-use native.Mathlib.Omega.{arith}
+use Rattle.std.proofs.Common.{arith}
 use Rattle.fat_fault.proofs.Colours.{round_less, rounding_none, rounding_on, rounding_node, rounding_more, rounding_end}
 use Rattle.fat_fault.proofs.ring.Goals as goal
 
 pub loop-work-init : goal.loop-work-init
 loop-work-init c = search rounding_none
 
-pub hop-i-requires : goal.hop-i-requires
-hop-i-requires c = let inv = c.loop-work.invariant in record { table_len = omega arith; b_lt_n = (inv.below, omega arith); marked = rounding_node _ _ _ _ _ _ inv c.requires.ring }
+pub hop-requires-clause-marked : goal.hop-requires-clause-marked
+hop-requires-clause-marked c = rounding_node _ _ _ _ _ _ c.loop-work.invariant c.requires.ring
 
-pub overflow_sub-i : goal.overflow_sub-i
-overflow_sub-i c = search rounding_on
+pub returns-in_default : goal.returns-in_default
+returns-in_default c = absurd (rounding_on _ _ _ _ _ _ c.loop-work.invariant c.requires.ring c.in_default.ensures)
 
 pub loop-work-smaller : goal.loop-work-smaller
 loop-work-smaller c =
@@ -19,7 +18,7 @@ loop-work-smaller c =
     round_less c.loop-work.work c.loop-work.i (omega (arith, inv.below, inv.marked.long)) c.loop-work-test.true
 
 pub loop-work-preserved : goal.loop-work-preserved
-loop-work-preserved c = search rounding_more
+loop-work-preserved c = rounding_more _ _ _ _ _ _ _ c.loop-work.invariant c.requires.ring c.in-Some.ensures
 
 pub returns : goal.returns
 returns c = search rounding_end

@@ -1,5 +1,4 @@
 -- `fat_fault::ring` meets its contract.
-use Prim.Native.Nat.{◌-◌}
 use Rattle.fat_fault.proofs.Colours.{unrounded, Rounding}
 use Rattle.fat_fault.proofs.ring.Given as goal
 

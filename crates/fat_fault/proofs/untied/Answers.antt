@@ -1,8 +1,8 @@
 -- `fat_fault::untied` meets its contract.
-use mathlib.Core.Path.{sym}
+use Rattle.std.proofs.Common.{sym, ap, ◌∙◌, not, arith}
+use borrow.Author.Tests.{eq-eqb}
 use Rattle.fat_node.proofs.Cases.{untrue}
 use Rattle.fat_fault.proofs.Cases.{untied_none, untied_ring, untied_loose, untied_round}
-use native.Mathlib.Omega.{arith}
 use Rattle.fat_fault.proofs.untied.Goals as goal
 
 pub returns-then-colour : goal.returns-then-colour
@@ -11,16 +11,20 @@ returns-then-colour c = (untied_round _ _ _ (c.colour.ensures.yes c.if-colour.tr
 pub bounds-work-b : goal.bounds-work-b
 bounds-work-b c = omega (arith, (c.colour.ensures.no c.if-colour.false).marked.long)
 
-pub returns-then-m-eq0 : goal.returns-then-m-eq0
-returns-then-m-eq0 c = let k = c.colour.ensures.no c.if-colour.false in (untied_none _ _ _ _ k c.if-m-eq0.true, λ _. k)
-
 pub returns-then-m : goal.returns-then-m
-returns-then-m c = let k = c.colour.ensures.no c.if-colour.false in (untied_ring _ _ _ _ k c.if-m.true, λ _. k)
-
-pub loose-requires : goal.loose-requires
-loose-requires c = record { table_len = omega arith; b_lt_n = (omega arith, omega arith); marked = (c.colour.ensures.no c.if-colour.false).marked }
-
-pub returns : goal.returns
-returns c =
+returns-then-m c =
     let k = c.colour.ensures.no c.if-colour.false in
-    (untied_loose _ _ _ _ k _ c.if-m-eq0.false c.if-m.false c.loose.ensures, λ _. k)
+    (eq-eqb _ _ c.if-m.true ∙ untied_ring _ _ _ _ k c.if-m.true, λ _. k)
+
+pub loose-requires-clause-marked : goal.loose-requires-clause-marked
+loose-requires-clause-marked c = (c.colour.ensures.no c.if-colour.false).marked
+
+pub returns-then-m-ne0 : goal.returns-then-m-ne0
+returns-then-m-ne0 c =
+    let k = c.colour.ensures.no c.if-colour.false in
+    (untied_loose _ _ _ _ k _ c.if-m-ne0.true c.if-m.false c.loose.ensures, λ _. k)
+
+pub returns-else-m-ne0 : goal.returns-else-m-ne0
+returns-else-m-ne0 c =
+    let k = c.colour.ensures.no c.if-colour.false in
+    (ap not (eq-eqb _ _ c.if-m-ne0.false) ∙ untied_none _ _ _ _ k c.if-m-ne0.false, λ _. k)

@@ -29,7 +29,7 @@ Walked n t w (Err f) = (f ≡ walk_fault n t) × (f.rule ≡ 0 → ⊥)
 
 -- index i names block j, whose place is not 0; or it names none
 abbrev pub Names : List ℕ → ℕ → Option ℕ → Type 0
-Names w i (Some j) = (i ≡ j + 1) × (0 < get_or w j 0)
+Names w i (Some j) = (i ≡ j + 1) × (j < length w) × (0 < get_or w j 0)
 Names w i None = (j : ℕ) → i ≡ j + 1 → get_or w j 0 ≡ 0
 
 -- next at block b names the node at block j, or it names none
