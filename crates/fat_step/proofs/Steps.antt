@@ -147,7 +147,7 @@ module _ (n : ℕ) (t : Bytes) (b c : ℕ) where
   pub resize_refused : (a : Answer) → Given (resize_tests n t b c) a → ResizeSound n t b c (change_gives a t)
   resize_refused a s = test_refused (λ a. change_gives a t) (resize_done n t b c) (resize_tests n t b c) a s
 
-  shrink_as : (y x m : ℕ) → ShrinkAt n t b c y x m → RecutAt n t b c y x m
+  pub shrink_as : (y x m : ℕ) → ShrinkAt n t b c y x m → RecutAt n t b c y x m
   shrink_as y x m a =
       let w : Inside (file_at n t b) c x m = a.cut in
       record {
@@ -165,7 +165,7 @@ module _ (n : ℕ) (t : Bytes) (b c : ℕ) where
         };
       }
 
-  grow_as : (y x m : ℕ) → GrowAt n t b c y x m → RecutAt n t b c y x m
+  pub grow_as : (y x m : ℕ) → GrowAt n t b c y x m → RecutAt n t b c y x m
   grow_as y x m a =
       let w : Inside (free_at n t) (c - total (file_at n t b)) x m = a.cut in
       record {

@@ -6,6 +6,8 @@ use native.Mathlib.Omega.{arith}
 use mathlib.Core.Logic.{inl, inr, ⊎_elim}
 use lib.ListN.{replicate}
 use Rattle.words.proofs.Laws as words
+use Rattle.std.specs.Prelude.{Ok}
+use Rattle.order.specs.Given.{Given}
 use Rattle.order.specs.Answer.{Answer}
 use Rattle.order.specs.Answer as is
 use Rattle.map_bits.specs.Bits.{words_from, words_in}
@@ -19,22 +21,18 @@ use Rattle.fat_table.specs.Steps.{created, resized, deleted}
 use Rattle.fat_table.proofs.Stepped.{free_read, holds_create, holds_delete}
 use Rattle.fat_table.proofs.Files.{Whole, seen, seen_file, holds_resize_less, holds_resize_more}
 use Rattle.fat_table.proofs.Unchanged.{total_append}
-use Rattle.fat_promises.specs.Calls.{create_gives, CreateSound, change_gives, ResizeSound, DeleteSound}
+use Rattle.fat_promises.specs.Calls.{create_gives, create_tests, change_gives, resize_tests, delete_tests}
 use Rattle.fat_walk.specs.Volume.{Volume}
 use Rattle.fat_walk.specs.Inner.Chains.{Inside}
-use Rattle.fat_judge.specs.Inner.Plans.{TakeAt, CreateAt, CreatePlanned, ShrinkAt, GrowAt, ResizePlanned, RecutAt, DeletePlanned}
+use Rattle.fat_judge.specs.Inner.Plans.{TakeAt, CreateAt, ShrinkAt, GrowAt, ResizePlanned, RecutAt, DeleteAt}
 use Rattle.fat_walk.specs.declared.Sought.{Sought}
 use Rattle.fat_walk.specs.declared.Sought.TheVariants.{Within, Past}
-use Rattle.fat_judge.specs.declared.CreatePlan.{CreatePlan}
-use Rattle.fat_judge.specs.declared.CreatePlan.TheVariants as create-plan
 use Rattle.fat_judge.specs.declared.ResizePlan.{ResizePlan}
-use Rattle.fat_judge.specs.declared.ResizePlan.TheVariants as resize-plan
-use Rattle.fat_judge.specs.declared.DeletePlan.{DeletePlan}
-use Rattle.fat_judge.specs.declared.DeletePlan.TheVariants as delete-plan
+use Rattle.fat_judge.specs.declared.ResizePlan.TheVariants.{Same, Shrink, Grow}
 use Rattle.fat_walk.proofs.Hops.{whole_of}
 use Rattle.fat_walk.proofs.Found.{inside_count, inside_first}
 use Rattle.fat_walk.proofs.Chains.{free_chain, file_chain}
-use Rattle.fat_step.proofs.Steps.{create_refused, create_goes, create_done_lem, resize_refused, resize_kept, shrink_goes, shrink_done, grow_goes, grow_done, delete_refused, delete_goes, delete_done_lem}
+use Rattle.fat_step.proofs.Steps.{create_refused, create_done_lem, resize_refused, resize_kept, shrink_as, grow_as, recut_done, delete_refused, delete_done_lem}
 use Rattle.map_inner.specs.Map.{map_of}
 use Rattle.map_inner.specs.Sounds.{CreateMapped, ResizeMapped, DeleteMapped}
 use Rattle.map_inner.specs.Inner.Moves.{CutAt, TakenIn, TakenAll, TakeSays}
@@ -72,24 +70,22 @@ map_as n t l map e f = e ∙ ap (λ (k : List Run). words_from (words_in n) 0 (�
 
 module _ (n : ℕ) (t : Bytes) (v : Volume n t) (g : words.Bytes t) where
   -- create
-  module _ (c : ℕ) (r : CreatePlan) (s : CreatePlanned n t c r) where
-    pub create_kept : (a : Answer) (map : List ℕ) → r ≡ create-plan.Refused a → map ≡ map_of n t → CreateMapped n t c (create_gives a 0 t) map
-    create_kept a map e q = record { sound = create_refused n t c r s a e; kept = q }
+  module _ (c : ℕ) where
+    create_kept : (a : Answer) (map : List ℕ) → Given (create_tests n t c) a → map ≡ map_of n t → CreateMapped n t c (create_gives a 0 t) map
+    create_kept a map s q = record { sound = create_refused n t c a s; kept = q }
 
-    pub create_mapped : (f x m : ℕ) (u : Bytes) (map : List ℕ) → r ≡ create-plan.Cut f x m → ((c : ℕ) → Inside (free_at n t) c x m → u ≡ created n t c)
+    create_mapped : (f x m : ℕ) → CreateAt n t c f x m → (u : Bytes) (map : List ℕ) → ((c : ℕ) → Inside (free_at n t) c x m → u ≡ created n t c)
         → map ≡ words_from (words_in n) 0 (λ (x : ℕ). covers x (left (free_at n t) c))
         → CreateMapped n t c (create_gives is.Done f u) map
-    create_mapped f x m u map e p q =
-        let k : CreateAt n t c f x m = subst (CreatePlanned n t c) e s in
-        record {
-          sound = create_done_lem n t c r s f x m e u p;
-          kept = subst⁻¹ (λ (z : Bytes). map ≡ map_of n z) (p c k.cut)
-              (map_as n (created n t c) (left (free_at n t) c) map q (free_created n t (whole_of n t v g) c k.may.some k.may.enough));
-        }
+    create_mapped f x m k u map p q = record {
+      sound = create_done_lem n t c f x m k u p;
+      kept = subst⁻¹ (λ (z : Bytes). map ≡ map_of n z) (p c k.cut)
+          (map_as n (created n t c) (left (free_at n t) c) map q (free_created n t (whole_of n t v g) c k.may.some k.may.enough));
+    }
 
   -- create, with the blocks taken out while they are sought
   pub create_zero : (c : ℕ) (map : List ℕ) → c ≡ 0 → map ≡ map_of n t → CreateMapped n t c (create_gives is.InvalidValue 0 t) map
-  create_zero c map z q = create_kept c (create-plan.Refused is.InvalidValue) (inl (z, refl)) is.InvalidValue map refl q
+  create_zero c map z q = create_kept c is.InvalidValue map (inl (z, refl)) q
 
   module _ (c : ℕ) (r : Sought) (map : List ℕ) (s : TakeSays n t c r map) where
     pub all_out : (i m : ℕ) → r ≡ Past i m → map ≡ replicate (words_in n) 0
@@ -98,7 +94,7 @@ module _ (n : ℕ) (t : Bytes) (v : Volume n t) (g : words.Bytes t) where
     pub create_full : (i m : ℕ) → r ≡ Past i m → (c ≡ 0 → ⊥) → (map' : List ℕ) → map' ≡ map_of n t → CreateMapped n t c (create_gives is.NoSpace 0 t) map'
     create_full i m e z map' q =
         let k : TakenAll n t c i m map = subst (λ (o : Sought). TakeSays n t c o map) e s in
-        create_kept c (create-plan.Refused is.NoSpace) (inr (z, inl (omega (arith, k.is.sum, k.is.some), refl))) is.NoSpace map' refl q
+        create_kept c is.NoSpace map' (inr (z, inl (omega (arith, k.is.sum, k.is.some), refl))) q
 
     module _ (x m : ℕ) (e : r ≡ Within x m) where
       taken_in : TakenIn n t c x m map
@@ -122,105 +118,66 @@ module _ (n : ℕ) (t : Bytes) (v : Volume n t) (g : words.Bytes t) where
             at = ap (λ (j : ℕ). j - 1) q;
             cut = taken_in.is;
           } in
-          create_mapped c (create-plan.Cut (h - 1) x m) at (h - 1) x m u map refl p taken_in.shows
+          create_mapped c (h - 1) x m at u map p taken_in.shows
 
   -- resize
-  module _ (b c : ℕ) (r : ResizePlan) (s : ResizePlanned n t b c r) where
-    pub resize_left : (a : Answer) (map : List ℕ) → r ≡ resize-plan.Refused a → map ≡ map_of n t → ResizeMapped n t b c (change_gives a t) map
-    resize_left a map e q = record { sound = resize_refused n t b c r s a e; kept = q }
+  module _ (b c : ℕ) where
+    pub resize_left : (a : Answer) (map : List ℕ) → Given (resize_tests n t b c) a → map ≡ map_of n t → ResizeMapped n t b c (change_gives a t) map
+    resize_left a map s q = record { sound = resize_refused n t b c a s; kept = q }
 
-    pub resize_same : (map : List ℕ) → r ≡ resize-plan.Same → map ≡ map_of n t → ResizeMapped n t b c (change_gives is.Done t) map
-    resize_same map e q = record { sound = resize_kept n t v g b c r s e; kept = q }
+    module _ (r : ResizePlan) (s : ResizePlanned n t b c (Ok r)) where
+      pub resize_same : (map : List ℕ) → r ≡ Same → map ≡ map_of n t → ResizeMapped n t b c (change_gives is.Done t) map
+      resize_same map e q = record { sound = resize_kept n t v g b c r s e; kept = q }
 
-    module _ (y x m : ℕ) (e : r ≡ resize-plan.Shrink y x m) where
-      shrink_as : ShrinkAt n t b c y x m
-      shrink_as = subst (ResizePlanned n t b c) e s
+      module _ (y x m : ℕ) (e : r ≡ Shrink y x m) where
+        shrunk : ShrinkAt n t b c y x m
+        shrunk = subst (λ (p : ResizePlan). ResizePlanned n t b c (Ok p)) e s
 
-      -- joined with the free chain, the cut is where it was
-      shrink_recut : RecutAt n t b c y x m
-      shrink_recut =
-          let w : Inside (file_at n t b) c x m = shrink_as.cut in
-          record {
-            may = shrink_as.may;
-            end = shrink_as.end;
-            cut = record {
-              before = w.before;
-              node = w.node;
-              after = w.after ++ free_at n t;
-              is = ap (λ (l : List Run). l ++ free_at n t) w.is ∙ append_assoc w.before (w.node ∷ w.after) (free_at n t);
-              at = w.at;
-              sum = w.sum;
-              some = w.some;
-              fits = w.fits;
-            };
-          }
+        pub shrink_cut : CutAt n t x m
+        shrink_cut = record { file = b; count = c; is = shrunk.may.file; cut = shrunk.cut }
 
-      pub shrink_cut : CutAt n t x m
-      shrink_cut = record { file = b; count = c; is = shrink_as.may.file; cut = shrink_as.cut }
+        pub shrink_mapped : (u : Bytes) (map : List ℕ) → ((b c : ℕ) → RecutAt n t b c y x m → u ≡ resized n t b c)
+            → ((f c : ℕ) → File t n f → Inside (file_at n t f) c x m → map ≡ words_from (words_in n) 0 (λ (x : ℕ). covers x (left (file_at n t f) c ++ free_at n t)))
+            → ResizeMapped n t b c (change_gives is.Done u) map
+        shrink_mapped u map p q =
+            let k : ShrinkAt n t b c y x m = shrunk in
+            let w : Whole n t = whole_of n t v g in
+            let few : c ≤ total (file_at n t b) = inside_count n t (file_at n t b) c x m (file_chain n t w b k.may.file).chain k.cut in
+            record {
+              sound = recut_done n t b c r s y x m (inl e) u p;
+              kept = subst⁻¹ (λ (z : Bytes). map ≡ map_of n z) (p b c (shrink_as n t b c y x m k))
+                  (map_as n (resized n t b c) (left (file_at n t b) c ++ free_at n t) map (q b c k.may.file k.cut) (free_shrunk n t w b c k.may.file k.may.some few));
+            }
 
-      pub shrink_mapped : (u : Bytes) (map : List ℕ) → ((b c : ℕ) → RecutAt n t b c y x m → u ≡ resized n t b c)
-          → ((f c : ℕ) → File t n f → Inside (file_at n t f) c x m → map ≡ words_from (words_in n) 0 (λ (x : ℕ). covers x (left (file_at n t f) c ++ free_at n t)))
-          → ResizeMapped n t b c (change_gives is.Done u) map
-      shrink_mapped u map p q =
-          let k : ShrinkAt n t b c y x m = shrink_as in
-          let w : Whole n t = whole_of n t v g in
-          let few : c ≤ total (file_at n t b) = inside_count n t (file_at n t b) c x m (file_chain n t w b k.may.file).chain k.cut in
-          record {
-            sound = shrink_done n t b c r s y x m e u p;
-            kept = subst⁻¹ (λ (z : Bytes). map ≡ map_of n z) (p b c shrink_recut)
-                (map_as n (resized n t b c) (left (file_at n t b) c ++ free_at n t) map (q b c k.may.file k.cut) (free_shrunk n t w b c k.may.file k.may.some few));
-          }
+      module _ (y x m : ℕ) (e : r ≡ Grow y x m) where
+        grown : GrowAt n t b c y x m
+        grown = subst (λ (p : ResizePlan). ResizePlanned n t b c (Ok p)) e s
 
-    module _ (y x m : ℕ) (e : r ≡ resize-plan.Grow y x m) where
-      grow_as : GrowAt n t b c y x m
-      grow_as = subst (ResizePlanned n t b c) e s
+        pub grow_take : TakeAt n t x m
+        grow_take = record { count = c - total (file_at n t b); cut = grown.cut }
 
-      grow_recut : RecutAt n t b c y x m
-      grow_recut =
-          let w : Inside (free_at n t) (c - total (file_at n t b)) x m = grow_as.cut in
-          record {
-            may = grow_as.may;
-            end = grow_as.end;
-            cut = record {
-              before = file_at n t b ++ w.before;
-              node = w.node;
-              after = w.after;
-              is = ap (λ (l : List Run). file_at n t b ++ l) w.is ∙ sym (append_assoc (file_at n t b) w.before (w.node ∷ w.after));
-              at = w.at;
-              sum = omega (arith, grow_as.more, w.sum, total_append (file_at n t b) w.before);
-              some = w.some;
-              fits = w.fits;
-            };
-          }
-
-      pub grow_take : TakeAt n t x m
-      grow_take = record { count = c - total (file_at n t b); cut = grow_as.cut }
-
-      pub grow_mapped : (u : Bytes) (map : List ℕ) → ((b c : ℕ) → RecutAt n t b c y x m → u ≡ resized n t b c)
-          → ((c : ℕ) → Inside (free_at n t) c x m → map ≡ words_from (words_in n) 0 (λ (x : ℕ). covers x (left (free_at n t) c)))
-          → ResizeMapped n t b c (change_gives is.Done u) map
-      grow_mapped u map p q =
-          let k : GrowAt n t b c y x m = grow_as in
-          let d : ℕ = c - total (file_at n t b) in
-          record {
-            sound = grow_done n t b c r s y x m e u p;
-            kept = subst⁻¹ (λ (z : Bytes). map ≡ map_of n z) (p b c grow_recut)
-                (map_as n (resized n t b c) (left (free_at n t) d) map (q d k.cut)
-                (free_grown n t (whole_of n t v g) b c d k.may.file (omega (arith, k.more)) (omega (arith, k.more, k.may.enough)) (omega (arith, k.more))));
-          }
+        pub grow_mapped : (u : Bytes) (map : List ℕ) → ((b c : ℕ) → RecutAt n t b c y x m → u ≡ resized n t b c)
+            → ((c : ℕ) → Inside (free_at n t) c x m → map ≡ words_from (words_in n) 0 (λ (x : ℕ). covers x (left (free_at n t) c)))
+            → ResizeMapped n t b c (change_gives is.Done u) map
+        grow_mapped u map p q =
+            let k : GrowAt n t b c y x m = grown in
+            let d : ℕ = c - total (file_at n t b) in
+            record {
+              sound = recut_done n t b c r s y x m (inr e) u p;
+              kept = subst⁻¹ (λ (z : Bytes). map ≡ map_of n z) (p b c (grow_as n t b c y x m k))
+                  (map_as n (resized n t b c) (left (free_at n t) d) map (q d k.cut)
+                  (free_grown n t (whole_of n t v g) b c d k.may.file (omega (arith, k.more)) (omega (arith, k.more, k.may.enough)) (omega (arith, k.more))));
+            }
 
   -- delete
-  module _ (b : ℕ) (r : DeletePlan) (s : DeletePlanned n t b r) where
-    pub delete_left : (a : Answer) (map : List ℕ) → r ≡ delete-plan.Refused a → map ≡ map_of n t → DeleteMapped n t b (change_gives a t) map
-    delete_left a map e q = record { sound = delete_refused n t b r s a e; kept = q }
+  module _ (b : ℕ) where
+    pub delete_left : (a : Answer) (map : List ℕ) → Given (delete_tests n t b) a → map ≡ map_of n t → DeleteMapped n t b (change_gives a t) map
+    delete_left a map s q = record { sound = delete_refused n t b a s; kept = q }
 
-    pub delete_file : (y : ℕ) → r ≡ delete-plan.Join y → File t n b
-    delete_file y e = (delete_goes n t b r s y e).may.file
-
-    pub delete_mapped : (y : ℕ) (u : Bytes) (map : List ℕ) → r ≡ delete-plan.Join y → u ≡ deleted n t b
+    pub delete_mapped : (y : ℕ) → DeleteAt n t b y → (u : Bytes) (map : List ℕ) → u ≡ deleted n t b
         → map ≡ words_from (words_in n) 0 (λ (x : ℕ). covers x (file_at n t b ++ free_at n t)) → DeleteMapped n t b (change_gives is.Done u) map
-    delete_mapped y u map e p q = record {
-      sound = delete_done_lem n t b r s y e u p;
+    delete_mapped y w u map p q = record {
+      sound = delete_done_lem n t b y w u p;
       kept = subst⁻¹ (λ (z : Bytes). map ≡ map_of n z) p
-          (map_as n (deleted n t b) (file_at n t b ++ free_at n t) map q (free_deleted n t (whole_of n t v g) b (delete_file y e)));
+          (map_as n (deleted n t b) (file_at n t b ++ free_at n t) map q (free_deleted n t (whole_of n t v g) b w.may.file));
     }

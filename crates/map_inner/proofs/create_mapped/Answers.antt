@@ -6,17 +6,17 @@ use Rattle.map_inner.proofs.create_mapped.Goals as goal
 pub returns-then-block_count-eq0 : goal.returns-then-block_count-eq0
 returns-then-block_count-eq0 c = search (create_zero, are_bytes)
 
-pub seek_take-sought-requires : goal.seek_take-sought-requires
-seek_take-sought-requires c = record { volume = search rules; first_value = (search rules, search rules); map_value = search rules }
+pub seek_take-requires : goal.seek_take-requires
+seek_take-requires c = record { volume = search rules; first_value = (search rules, search rules); map_value = search rules }
 
 pub draw-requires : goal.draw-requires
-draw-requires c = record { volume = search rules; map_value = all_out _ _ c.requires.volume (are_bytes _ c.slice_known-1.given) _ _ _ c.seek_take-sought.ensures _ _ c.in-Past.is }
+draw-requires c = record { volume = search rules; map_value = all_out _ _ c.requires.volume (are_bytes _ c.slice_known-1.given) _ _ _ c.seek_take.ensures _ _ c.in-Past.is }
 
 pub create_step-requires : goal.create_step-requires
-create_step-requires c = record { volume = search rules; take_at = cut_at _ _ c.requires.volume (are_bytes _ c.slice_known-1.given) _ _ _ c.seek_take-sought.ensures _ _ c.in-Within.is }
+create_step-requires c = record { volume = search rules; take_at = cut_at _ _ c.requires.volume (are_bytes _ c.slice_known-1.given) _ _ _ c.seek_take.ensures _ _ c.in-Within.is }
 
-pub overflow_sub-first : goal.overflow_sub-first
-overflow_sub-first c = search (front_some, are_bytes)
+pub overflow_sub-result : goal.overflow_sub-result
+overflow_sub-result c = search (front_some, are_bytes)
 
 pub returns-in-Past : goal.returns-in-Past
 returns-in-Past c = search (create_full, are_bytes)
