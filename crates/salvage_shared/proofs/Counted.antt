@@ -6,9 +6,10 @@ use mathlib.Core.Logic.{◌⊎◌, inl, inr, ⊎_elim}
 use Prim.Native.Nat.{ℕ, zero, suc, ◌+◌, ◌-◌, ◌≤◌, ◌<◌}
 use native.Mathlib.Omega.{arith}
 use lib.Dec.{leb, eqb}
-use lib.ListN.{length, get_or, set, replicate, length-set}
-use lib.Seq.{get_or-set_same, get_or-set_other}
-use borrow.Author.Tests.{le-leb, lt-leb}
+use lib.ListN.{length, get_or, set, take, drop, replicate, length-set}
+use lib.Seq.{get_or-set_same, get_or-set_other, drop-cons}
+use borrow.Author.Tests.{le-leb, lt-leb, eq-eqb, ne_eqb}
+use Rattle.std.specs.List.{list_any}
 use Rattle.fat_node.specs.Node.{Run, run}
 use Rattle.fat_node.proofs.Nodes.{le_or_lt}
 use Rattle.fat_table.specs.Layout.{hits, covers}
@@ -50,7 +51,7 @@ more_high v h = record { at = λ c e. high v c h e }
 
 -- ---- a run
 
-pub added_begin : (w : List ℕ) (b : ℕ) → Added w w (run b 0 ∷ [])
+added_begin : (w : List ℕ) (b : ℕ) → Added w w (run b 0 ∷ [])
 added_begin w b = record {
   at = λ x c e. e ∙ ap two (⊎_elim
       (λ h. omega (arith, hits_hi x (run b 0) (omega (arith, h))))
@@ -70,7 +71,7 @@ module _ (w₀ w : List ℕ) (b k : ℕ) (a : Added w₀ w (run b k ∷ [])) (ro
       → get_or (set w (b + k) v) x 0 ≡ two (c + covers x (run b (k + 1) ∷ []))
   there x c q z e = get_or-set_other w (b + k) x v 0 q ∙ a.at x c e ∙ ap two (omega (arith, z))
 
-  pub added_turn : Added w₀ (set w (b + k) v) (run b (k + 1) ∷ [])
+  added_turn : Added w₀ (set w (b + k) v) (run b (k + 1) ∷ [])
   added_turn = record {
     at = λ x c e. ⊎_elim
         (λ lo. ⊎_elim
@@ -85,8 +86,18 @@ module _ (w₀ w : List ℕ) (b k : ℕ) (a : Added w₀ w (run b k ∷ [])) (ro
     long = length-set w (b + k) v ∙ a.long;
   }
 
-pub added_end : (w w' : List ℕ) (b k size : ℕ) → Added w w' (run b k ∷ []) → k ≤ size → size ≤ k → Added w w' (run b size ∷ [])
-added_end w w' b k size a h l = let q : k ≡ size = omega (arith, h, l) in subst (λ (s : ℕ). Added w w' (run b s ∷ [])) q a
+-- the blocks from b up to x are counted
+pub run_begin : (w : List ℕ) (b : ℕ) → Added w w (run b (b - b) ∷ [])
+run_begin w b = let q : 0 ≡ b - b = omega arith in subst (λ (k : ℕ). Added w w (run b k ∷ [])) q (added_begin w b)
+
+pub run_turn : (w₀ w : List ℕ) (b x : ℕ) → b ≤ x → Added w₀ w (run b (x - b) ∷ []) → x < length w → (v : ℕ) → More (get_or w x 0) v
+    → Added w₀ (set w x v) (run b (x + 1 - b) ∷ [])
+run_turn w₀ w b x low a room v h =
+    let q : b + (x - b) ≡ x = omega (arith, low) in
+    let s : x - b + 1 ≡ x + 1 - b = omega (arith, low) in
+    subst (λ (k : ℕ). Added w₀ (set w x v) (run b k ∷ [])) s
+    (subst (λ (y : ℕ). Added w₀ (set w y v) (run b (x - b + 1) ∷ [])) q
+    (added_turn w₀ w b (x - b) a (omega (arith, q, room)) v (subst⁻¹ (λ (y : ℕ). More (get_or w y 0) v) q h)))
 
 -- ---- runs
 
@@ -107,40 +118,26 @@ added_clear n w w' l e a x =
 
 -- ---- what a count tells
 
-count_two : (w : List ℕ) (l : List Run) (x : ℕ) → Counts w l → get_or w x 0 ≡ 2 → leb 2 (covers x l) ≡ true
-count_two w l x c e = ⊎_elim
-    (λ h. le-leb 2 (covers x l) h)
-    (λ h. absurd (omega (arith, c x, e, two_few (covers x l) (omega (arith, h)), h)))
+count_is : (w : List ℕ) (l : List Run) (x : ℕ) → Counts w l → eqb (get_or w x 0) 2 ≡ leb 2 (covers x l)
+count_is w l x c = ⊎_elim
+    (λ h. eq-eqb (get_or w x 0) 2 (c x ∙ two_many (covers x l) h) ∙ sym (le-leb 2 (covers x l) h))
+    (λ h. ne_eqb (get_or w x 0) 2 (λ e. omega (arith, c x, e, two_few (covers x l) (omega (arith, h)), h)) ∙ sym (lt-leb 2 (covers x l) h))
     (le_or_lt 2 (covers x l))
 
-count_less : (w : List ℕ) (l : List Run) (x : ℕ) → Counts w l → (get_or w x 0 ≡ 2 → ⊥) → leb 2 (covers x l) ≡ false
-count_less w l x c e = ⊎_elim
-    (λ h. absurd (e (c x ∙ two_many (covers x l) h)))
-    (λ h. lt-leb 2 (covers x l) h)
-    (le_or_lt 2 (covers x l))
+-- one of the s blocks from b on is counted twice
+twice_any : (s b : ℕ) (w : List ℕ) (l : List Run) → Counts w l → b + s ≤ length w → list_any (λ y. eqb y 2) (take s (drop b w)) ≡ twice s b l
+twice_any zero b w l c h = refl
+twice_any (suc s) b w l c h =
+    ap (λ (r : List ℕ). list_any (λ y. eqb y 2) (take (suc s) r)) (drop-cons w b 0 (omega (arith, h)))
+    ∙ ap (λ (x : Bool). x || list_any (λ y. eqb y 2) (take s (drop (suc b) w))) (count_is w l b c)
+    ∙ ap (λ (x : Bool). leb 2 (covers b l) || x) (twice_any s (suc b) w l c (omega (arith, h)))
 
--- from block x on, up to the end, it is not decided yet
-pub record Looking (w : List ℕ) (b size x : ℕ) : Type 0 where
-  pub is : (l : List Run) → Counts w l → twice size b l ≡ twice (b + size - x) x l
-
-pub look_begin : (w : List ℕ) (b size : ℕ) → Looking w b size b
-look_begin w b size = record { is = λ l c. let q : size ≡ b + size - b = omega arith in ap (λ (s : ℕ). twice s b l) q }
-
-module _ (w : List ℕ) (b size x : ℕ) (k : Looking w b size x) where
-  step : x < b + size → (l : List Run) → twice (b + size - x) x l ≡ (leb 2 (covers x l) || twice (b + size - (x + 1)) (x + 1) l)
-  step h l =
-      let q : b + size - x ≡ suc (b + size - (x + 1)) = omega (arith, h) in
-      let o : suc x ≡ x + 1 = omega arith in
-      ap (λ (s : ℕ). twice s x l) q ∙ ap (λ (y : ℕ). leb 2 (covers x l) || twice (b + size - (x + 1)) y l) o
-
-  pub look_found : x < b + size → get_or w x 0 ≡ 2 → MeetsRun w b size true
-  look_found h e = record { is = λ l c. sym (k.is l c ∙ step h l ∙ ap (λ (y : Bool). y || twice (b + size - (x + 1)) (x + 1) l) (count_two w l x c e)) }
-
-  pub look_turn : x < b + size → (get_or w x 0 ≡ 2 → ⊥) → Looking w b size (x + 1)
-  look_turn h e = record { is = λ l c. k.is l c ∙ step h l ∙ ap (λ (y : Bool). y || twice (b + size - (x + 1)) (x + 1) l) (count_less w l x c e) }
-
-  pub look_end : b + size ≤ x → MeetsRun w b size false
-  look_end h = record { is = λ l c. let q : b + size - x ≡ 0 = omega (arith, h) in sym (k.is l c ∙ ap (λ (s : ℕ). twice s x l) q) }
+pub meets_run : (w : List ℕ) (b s : ℕ) (r : Bool) → b + s ≤ length w → r ≡ list_any (λ y. eqb y 2) (take (b + s - b) (drop b w)) → MeetsRun w b s r
+meets_run w b s r h e = record {
+  is = λ l c.
+      let q : b + s - b ≡ s = omega arith in
+      e ∙ ap (λ (k : ℕ). list_any (λ y. eqb y 2) (take k (drop b w))) q ∙ twice_any s b w l c h;
+}
 
 -- ---- chains
 

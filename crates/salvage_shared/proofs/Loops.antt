@@ -78,8 +78,8 @@ module _ (n : ℕ) (t : Bytes) (b : ℕ) where
   pub out : n ≤ b → salvaged n t b ≡ salvage [] (unread n t 0 b)
   out h = follow_none n n t [] 0 b (unreadable n t b (none h))
 
-  pub judge_out : (w : List ℕ) (m spent : ℕ) → MayJudge n t w m spent → spent ≤ 4 * n → (x : ℕ) → x ≡ b → n ≤ x → Judges n t b m spent w 1 spent
-  judge_out w m spent a s x q k = let h : n ≤ b = omega (arith, q, k) in record {
+  pub judge_out : (w : List ℕ) (m spent : ℕ) → MayJudge n t w m spent → spent ≤ 4 * n → n ≤ b → Judges n t b m spent w 1 spent
+  judge_out w m spent a s h = record {
     next = next_more spent 1 spent s (kind_cut (λ z. unread_not n t b 0 (unreadable n t b (none h)) (ap (λ x. x.why.rule) (sym (out h)) ∙ z))) (omega (arith, ap (λ x. total x.runs) (out h)));
     free = λ x. omega (arith, a.free x);
     few = a.few;
@@ -98,23 +98,15 @@ module _ (n : ℕ) (t : Bytes) (b : ℕ) where
       long = s.long;
     }
 
-    judge_at_whole : (spent' : ℕ) → spent' ≡ spent + count → why.rule ≡ 0 → Judges n t b m spent w' 0 spent'
-    judge_at_whole spent' q e = judged 0 spent' (kind_whole (ap (λ (f : Fault). f.rule) (sym s.ended) ∙ e)) q
+    pub judge_whole : (spent' : ℕ) → spent' ≡ spent + count → why.rule ≡ 0 → Judges n t b m spent w' 0 spent'
+    judge_whole spent' q e = judged 0 spent' (kind_whole (ap (λ (f : Fault). f.rule) (sym s.ended) ∙ e)) q
 
-    judge_at_cut : (spent' : ℕ) → spent' ≡ spent + count → (why.rule ≡ 0 → ⊥) → Judges n t b m spent w' 1 spent'
-    judge_at_cut spent' q e = judged 1 spent' (kind_cut (λ z. e (ap (λ (f : Fault). f.rule) s.ended ∙ z))) q
+    pub judge_cut : (spent' : ℕ) → spent' ≡ spent + count → (why.rule ≡ 0 → ⊥) → Judges n t b m spent w' 1 spent'
+    judge_cut spent' q e = judged 1 spent' (kind_cut (λ z. e (ap (λ (f : Fault). f.rule) s.ended ∙ z))) q
 
 pub judge_fits : (n : ℕ) (t : Bytes) (b m spent count : ℕ) (why : Fault) (w w' : List ℕ) → MayJudge n t w m spent → WalkSays n t b m count why w' → spent ≤ 4 * n
     → spent + count < 18446744073709551616
 judge_fits n t b m spent count why w w' a s h = omega (arith, judge_room n t b m spent count why w' s h, a.sized.small)
-
--- the block is handed on as a wider number
-module _ (n : ℕ) (t : Bytes) (b m spent x count : ℕ) (why : Fault) (w' : List ℕ) (q : x ≡ b) (s : WalkSays n t x m count why w') (h : spent ≤ 4 * n) where
-  pub judge_whole : (spent' : ℕ) → spent' ≡ spent + count → why.rule ≡ 0 → Judges n t b m spent w' 0 spent'
-  judge_whole spent' p e = subst (λ (y : ℕ). Judges n t y m spent w' 0 spent') q (judge_at_whole n t x m spent count why w' s h spent' p e)
-
-  pub judge_cut : (spent' : ℕ) → spent' ≡ spent + count → (why.rule ≡ 0 → ⊥) → Judges n t b m spent w' 1 spent'
-  judge_cut spent' p e = subst (λ (y : ℕ). Judges n t y m spent w' 1 spent') q (judge_at_cut n t x m spent count why w' s h spent' p e)
 
 -- the first blocks before place i are judged
 pub record Judging (n : ℕ) (t : Bytes) (firsts l₀ work l : List ℕ) (spent i : ℕ) : Type 0 where
@@ -185,22 +177,19 @@ kinds_whole n t (b ∷ bs) spent (suc i) h = go (leb spent (4 * n)) (λ s. kinds
 
 -- ---- what is counted
 
-pub whole_runs_lem : (n : ℕ) (t : Bytes) (b k : ℕ) → k ≡ 0 → (salvaged n t b).runs ≡ whole_runs n t b k
+whole_runs_lem : (n : ℕ) (t : Bytes) (b k : ℕ) → k ≡ 0 → (salvaged n t b).runs ≡ whole_runs n t b k
 unfolding whole_runs
 whole_runs_lem n t b k e = rw (eq-eqb k 0 e)
 
-pub no_runs : (n : ℕ) (t : Bytes) (b k : ℕ) → (k ≡ 0 → ⊥) → [] ≡ whole_runs n t b k
+no_runs : (n : ℕ) (t : Bytes) (b k : ℕ) → (k ≡ 0 → ⊥) → [] ≡ whole_runs n t b k
 unfolding whole_runs
 no_runs n t b k e = rw (ne_eqb k 0 e)
 
-pub lay_whole : (n : ℕ) (t : Bytes) (w w' : List ℕ) (b x k : ℕ) → x ≡ b → k ≡ 0 → Added w w' (salvaged n t x).runs → Added w w' (whole_runs n t b k)
-lay_whole n t w w' b x k q e a = subst (Added w w') (ap (λ (y : ℕ). (salvaged n t y).runs) q ∙ whole_runs_lem n t b k e) a
+pub lay_whole : (n : ℕ) (t : Bytes) (w w' : List ℕ) (b k : ℕ) → k ≡ 0 → Added w w' (salvaged n t b).runs → Added w w' (whole_runs n t b k)
+lay_whole n t w w' b k e a = subst (Added w w') (whole_runs_lem n t b k e) a
 
 pub lay_not : (n : ℕ) (t : Bytes) (w : List ℕ) (b k : ℕ) → (k ≡ 0 → ⊥) → Added w w (whole_runs n t b k)
 lay_not n t w b k e = subst (Added w w) (no_runs n t b k e) (added_none w)
-
-pub told_whole : (n : ℕ) (t : Bytes) (w : List ℕ) (b x k : ℕ) → Told n t w b k → x ≡ b → k ≡ 0 → WholeAt n t w x
-told_whole n t w b x k a q e = record { sized = a.sized; whole = subst⁻¹ (λ (y : ℕ). (salvaged n t y).why.rule ≡ 0) q (a.whole e) }
 
 -- the first blocks before place i are counted
 pub record Laying (n : ℕ) (t : Bytes) (firsts ks w₀ w : List ℕ) (i : ℕ) : Type 0 where
@@ -246,22 +235,19 @@ module _ (n : ℕ) (t : Bytes) (w : List ℕ) (b k : ℕ) where
   pub tell_cut : (k ≡ 0 → ⊥) → Tells n t w b k k
   tell_cut e = record { is = λ l c. cut e l }
 
-  module _ (e : k ≡ 0) (x : ℕ) (q : x ≡ b) (r : Bool) (m : MeetsRuns w (salvaged n t x).runs r) where
-    met : (l : List Run) → Counts w l → r ≡ meets (salvaged n t b).runs l
-    met l c = m.is l c ∙ ap (λ (y : ℕ). meets (salvaged n t y).runs l) q
-
+  module _ (e : k ≡ 0) (r : Bool) (m : MeetsRuns w (salvaged n t b).runs r) where
     shared : r ≡ true → (l : List Run) → Counts w l → 2 ≡ told n t l b k
     unfolding told
-    shared f l c = rw (eq-eqb k 0 e, sym (met l c) ∙ f)
+    shared f l c = rw (eq-eqb k 0 e, sym (m.is l c) ∙ f)
 
-    alone : r ≡ false → (l : List Run) → Counts w l → 0 ≡ told n t l b k
+    alone : r ≡ false → (l : List Run) → Counts w l → k ≡ told n t l b k
     unfolding told
-    alone f l c = rw (eq-eqb k 0 e, sym (met l c) ∙ f)
+    alone f l c = e ∙ rw (eq-eqb k 0 e, sym (m.is l c) ∙ f)
 
-    pub tell_shared : r ≡ true → Tells n t w b k 2
-    tell_shared f = record { is = shared f }
+    pub tell_shared : (v : ℕ) → v ≡ 2 → r ≡ true → Tells n t w b k v
+    tell_shared v z f = record { is = λ l c. z ∙ shared f l c }
 
-    pub tell_alone : r ≡ false → Tells n t w b k 0
+    pub tell_alone : r ≡ false → Tells n t w b k k
     tell_alone f = record { is = alone f }
 
 -- of the first blocks before place i it is told; the later places have what was judged

@@ -1,5 +1,5 @@
 -- The ways out of the call that tells of some chains.
-use mathlib.Core.Path.{◌≡◌, refl, sym, ap, subst⁻¹, ◌∙◌}
+use mathlib.Core.Path.{◌≡◌, refl, sym, ap, subst, subst⁻¹, ◌∙◌}
 use mathlib.Core.List.{List, [], ◌∷◌, ◌++◌}
 use mathlib.Core.Bool.{Bool, true, false}
 use mathlib.Core.Logic.{◌⊎◌, inl, inr, ⊎_elim}
@@ -7,15 +7,21 @@ use Prim.Native.Nat.{ℕ, ◌≤◌, ◌<◌}
 use native.Mathlib.Omega.{arith}
 use lib.ListN.{length, take, drop, replicate, length-replicate}
 use lib.Seq.{length-take-le}
-use Rattle.order.specs.Beside.{beside}
-use Rattle.order.proofs.Beside.{passed}
+use Rattle.std.specs.Prelude.{Ok, Err}
 use Rattle.order.specs.Answer as is
+use Rattle.order.specs.Answer.{Answer}
+use Rattle.order.specs.Beside.{beside}
+use Rattle.order.specs.First.{First}
+use Rattle.order.specs.Gate.{cleared}
+use Rattle.order.specs.Given.{None}
+use Rattle.order.specs.declared.Refusal.{Refusal}
+use Rattle.order.proofs.Beside.{passed, refused}
+use Rattle.order.proofs.Gate.{gate_given}
 use Rattle.fat_node.specs.Entry.{Bytes}
 use Rattle.fat_node.specs.Sizes.{blocks, Misfit, Outside}
-use Rattle.fat_node.proofs.Sizes.{denied, fit, inside}
 use Rattle.salvage_shared.specs.Shared.{kinds, laid, tells, trusts}
 use Rattle.salvage_shared.specs.Calls.{Shared, shared_gives, shared_rows, shared_done, shared_gate, SharedPromise}
-use Rattle.salvage_shared.specs.Inner.Says.{Added, TellsAll, Sized, Kinds, MayShare, JudgedAll, Shares, SharedSays}
+use Rattle.salvage_shared.specs.Inner.Says.{Added, TellsAll, Sized, Kinds, MayShare, JudgedAll, Shares, SharedSays, Fitting, BlocksFor}
 use Rattle.salvage_shared.proofs.Counted.{added_clear}
 use Rattle.salvage_shared.proofs.Loops.{kinds_many, kinds_whole}
 
@@ -80,36 +86,32 @@ out_done n t w firsts list l h s = record {
 pub taken : (k : ℕ) (l : List ℕ) → k ≤ length l → k ≡ length (take k l)
 taken k l h = sym (length-take-le k l h)
 
--- ---- the rows of sizes and work list: x and y are what the two tests of the table say
+-- ---- the rows of sizes and work list
 
--- a table whose sizes fit, and the first places of the work list
-pub sized : (t : Bytes) (work : List ℕ) (x y : Bool) → (Misfit t → x ≡ true) → x ≡ false → (Outside t → y ≡ true) → y ≡ false → blocks t ≤ length work
-    → Sized (blocks t) t (take (blocks t) work)
-sized t work x y mis ex out ey h =
-    record { room = fit t (denied x mis ex); small = (inside t (denied y out ey)).1; long = length-take-le (blocks t) work h }
+module _ (t : Bytes) (work firsts : List ℕ) (n : ℕ) (f : Fitting t (length firsts) (length work) n) where
+  -- a table whose sizes fit, and the first places of the work list
+  pub sized : Sized n t (take n work)
+  sized = record { room = f.room; small = f.small; long = length-take-le n work f.enough }
 
-module _ (t : Bytes) (work firsts list : List ℕ) (x : Bool) where
-  pub size_misfit : (x ≡ true → Misfit t) → x ≡ true → SharedPromise t work firsts list (beside (shared_gives is.SizeMismatch list) work)
-  size_misfit d h = inl (d h, refl)
+  -- none of the rows applies, whatever a refusal gives
+  pub fits : {A : Type 0} (refuse : Answer → List ℕ → A) → None (shared_gate refuse t work firsts)
+  fits refuse = (f.fits, (⊎_elim f.inside (λ h. omega (arith, h, f.few)), ((λ h. omega (arith, h, f.is, f.enough)), tt)))
 
-  module _ (mis : Misfit t → x ≡ true) (ex : x ≡ false) where
-    pub size_many : 1000000 < length firsts → SharedPromise t work firsts list (beside (shared_gives is.InvalidValue list) work)
-    size_many h = inr (denied x mis ex, inl (inr h, refl))
+  -- the first places are clear, one a block
+  pub cleared_is : (v : List ℕ) → v ≡ replicate n 0 → v ++ drop n work ≡ cleared (blocks t) work
+  cleared_is v e = ap (λ (x : List ℕ). x ++ drop n work) e ∙ ap (λ (k : ℕ). cleared k work) f.is
 
-    module _ (y : Bool) where
-      pub size_outside : (y ≡ true → Outside t) → y ≡ true → SharedPromise t work firsts list (beside (shared_gives is.InvalidValue list) work)
-      size_outside d h = inr (denied x mis ex, inl (inl (d h), refl))
+module _ (t : Bytes) (work firsts list : List ℕ) where
+  pub size_refused : (why : Refusal) → BlocksFor t (length firsts) (length work) (Err why) → SharedPromise t work firsts list (beside (shared_gives (Err why) list) work)
+  size_refused why g =
+      refused (shared_gate (λ a w. beside (shared_gives a list) w) t work firsts) (cleared (blocks t) work) (shared_rows firsts list) (shared_done (blocks t) t firsts list)
+      (beside (shared_gives (Err why) list) work)
+      (gate_given (λ a w. beside (shared_gives a list) w) (blocks t) work (Misfit t) (Outside t ⊎ (1000000 < length firsts)) (length work < blocks t) [] (Err why) work
+      (g firsts work refl refl))
 
-      module _ (out : Outside t → y ≡ true) (ey : y ≡ false) (f : length firsts ≤ 1000000) where
-        valid : Outside t ⊎ (1000000 < length firsts) → ⊥
-        valid = ⊎_elim (denied y out ey) (λ h. omega (arith, h, f))
-
-        pub size_short : length work < blocks t → SharedPromise t work firsts list (beside (shared_gives is.WorkTooShort list) work)
-        size_short h = inr (denied x mis ex, inr (valid, inl (h, refl)))
-
-        pub size_passed : blocks t ≤ length work → (o : Shared) (w : List ℕ) → SharedSays (blocks t) t firsts list o w
-            → SharedPromise t work firsts list (beside o (w ++ drop (blocks t) work))
-        size_passed h o w s =
-            subst⁻¹ (λ (v : List ℕ). SharedPromise t work firsts list (beside o (v ++ drop (blocks t) work))) s.clear
-            (passed (shared_gate (λ a w. beside (shared_gives a list) w) t work firsts) (replicate (blocks t) 0 ++ drop (blocks t) work) (shared_rows firsts list)
-            (shared_done (blocks t) t firsts list) o (denied x mis ex, (valid, ((λ k. omega (arith, h, k)), tt))) s.given)
+  pub size_passed : (n : ℕ) (f : Fitting t (length firsts) (length work) n) (o : Shared) (w : List ℕ) → SharedSays n t firsts list o w
+      → SharedPromise t work firsts list (beside o (w ++ drop n work))
+  size_passed n f o w s =
+      subst⁻¹ (λ (v : List ℕ). SharedPromise t work firsts list (beside o v)) (cleared_is t work firsts n f w s.clear)
+      (passed (shared_gate (λ a w. beside (shared_gives a list) w) t work firsts) (cleared (blocks t) work) (shared_rows firsts list) (shared_done (blocks t) t firsts list) o
+      (fits t work firsts n f (λ a w. beside (shared_gives a list) w)) (subst (λ (m : ℕ). First (shared_rows firsts list) (shared_done m t firsts list) o) f.is s.given))

@@ -1,6 +1,6 @@
 -- `salvage_shared::chain_meets` meets its contract.
 use borrow.Author.Rules.{rules}
-use Rattle.salvage_shared.proofs.Goings.{meet_begin, meet_on, meet_end, meet_found, going_here, going_left, going_less, node_room, whole_below}
+use Rattle.salvage_shared.proofs.Goings.{meet_begin, meet_on, meet_found, going_here, whole_below}
 use Rattle.salvage_shared.proofs.chain_meets.Goals as goal
 
 pub overflow_add-i : goal.overflow_add-i
@@ -12,23 +12,8 @@ loop-i-init c = search (meet_begin)
 pub node_size-size-requires : goal.node_size-size-requires
 node_size-size-requires c = search (going_here)
 
-pub run_meets-requires : goal.run_meets-requires
-run_meets-requires c = search (node_room, rules)
-
 pub returns-then-run_meets : goal.returns-then-run_meets
 returns-then-run_meets c = search (meet_found)
 
-pub overflow_sub-left : goal.overflow_sub-left
-overflow_sub-left c = search (going_left)
-
-pub node_next-i-requires : goal.node_next-i-requires
-node_next-i-requires c = search (going_here)
-
-pub loop-i-smaller : goal.loop-i-smaller
-loop-i-smaller c = search (going_less)
-
 pub loop-i-preserved : goal.loop-i-preserved
 loop-i-preserved c = search (meet_on)
-
-pub returns : goal.returns
-returns c = search (meet_end)

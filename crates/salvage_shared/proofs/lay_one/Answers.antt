@@ -1,12 +1,10 @@
 -- `salvage_shared::lay_one` meets its contract.
-use Rattle.salvage_shared.proofs.Loops.{lay_whole, lay_not, told_whole}
+use native.Mathlib.Omega.{arith}
+use Rattle.salvage_shared.proofs.Loops.{lay_whole, lay_not}
 use Rattle.salvage_shared.proofs.lay_one.Goals as goal
 
-pub lay_chain-requires : goal.lay_chain-requires
-lay_chain-requires c = search (told_whole)
+pub returns-then-kind-number : goal.returns-then-kind-number
+returns-then-kind-number c = lay_whole _ _ _ _ _ _ (omega arith) c.lay_chain.ensures
 
-pub returns-then-kind-eq0 : goal.returns-then-kind-eq0
-returns-then-kind-eq0 c = search (lay_whole)
-
-pub returns-else-kind-eq0 : goal.returns-else-kind-eq0
-returns-else-kind-eq0 c = search (lay_not)
+pub returns-else-kind-number : goal.returns-else-kind-number
+returns-else-kind-number c = lay_not _ _ _ _ _ (λ e. c.if-kind-number.false (omega (arith, e)))

@@ -5,5 +5,5 @@ use Rattle.salvage_shared.proofs.one_more.Goals as goal
 pub returns-then-v-lt2 : goal.returns-then-v-lt2
 returns-then-v-lt2 c = search (more_low)
 
-pub returns : goal.returns
-returns c = search (more_high)
+pub returns-else-v-lt2 : goal.returns-else-v-lt2
+returns-else-v-lt2 c = search (more_high)
