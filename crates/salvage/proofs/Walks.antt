@@ -65,27 +65,14 @@ pub look_broken : (n : ℕ) (t : Bytes) (p b : ℕ) (f : Fault) → b < n → Un
 look_broken n t p b f h u = λ k seen. follow_none k n t seen p b (unreadable n t b u.none) ∙ ap (salvage seen) (unread_in n t p b h ∙ sym u.first)
 
 module _ (n : ℕ) (t : Bytes) (p b : ℕ) (x : Node) (w : Reads t n b (Ok x)) where
-  pub look_node : x.prev ≡ p → LookSays n t p b (Ok x)
-  look_node h = record { node = w.0; prev = sym w.1 ∙ h; on = w.2 }
-
   pub look_missed : n ≤ 1000000 → (x.prev ≡ p → ⊥) → (why : Fault) → why ≡ missed p b → LookSays n t p b (Err why)
   look_missed small h why q = λ k seen.
       follow_missed k n t seen p b (node_readable n t b x.size small w.0) (λ z. h (w.1 ∙ z)) ∙ ap (salvage seen) (sym q)
 
 -- ---- whether a node can be read
 
-pub says_out : (n : ℕ) (t : Bytes) (b : ℕ) → n ≤ b → Tells n t b false
-says_out n t b h = record { yes = λ e. untrue e; no = λ e s w. omega (arith, h, w.some, w.within) }
-
-pub says_read : (n : ℕ) (t : Bytes) (b : ℕ) (r : Result Node Fault) → b < n → Reads t n b r → Tells n t b (is_ok r)
-says_read n t b (Ok x) h w = record { yes = λ q. (h, (x.size, w.0)); no = λ q. untrue (sym q) }
-says_read n t b (Err f) h w = record { yes = λ q. untrue q; no = λ q. w.none }
-
 -- where one can be read
 module _ (n : ℕ) (t : Bytes) (b : ℕ) (r : Bool) (w : Tells n t b r) (e : r ≡ true) where
-  pub read_below : b < n
-  read_below = (w.yes e).0
-
   pub read_some : (s : ℕ) × NodeAt t n b s
   read_some = (w.yes e).1
 
@@ -100,16 +87,6 @@ pub record Taking (w : List ℕ) (b x m : ℕ) (w' : List ℕ) : Type 0 where
   pub from : b ≤ x
   pub long : length w' ≡ length w
 
-pub take_begin : (w : List ℕ) (b m : ℕ) → Taking w b b m w
-take_begin w b m = record {
-  free = λ y h k. absurd (omega (arith, h, k));
-  marked = λ y h k. absurd (omega (arith, h, k));
-  before = λ y h. refl;
-  after = λ y h. refl;
-  from = omega arith;
-  long = refl;
-}
-
 module _ (w : List ℕ) (b x m : ℕ) (w' : List ℕ) (a : Taking w b x m w') where
   least : Below w (m + 1) → Below w' (m + 1)
   least h y = ⊎_elim
@@ -119,41 +96,6 @@ module _ (w : List ℕ) (b x m : ℕ) (w' : List ℕ) (a : Taking w b x m w') wh
       (le_or_lt x y))
       (λ lo. omega (arith, h y, a.before y lo))
       (le_or_lt b y)
-
-  pub take_clash : (s : ℕ) → x < b + s → get_or w' x 0 ≡ m → TakeSays w b s m w' false
-  take_clash s h k = record {
-    yes = λ e. untrue e;
-    no = λ e. record { at = x; low = a.from; high = h; taken = sym (a.after x (omega arith)) ∙ k };
-    least = least;
-  }
-
-  pub take_on : x < length w' → (get_or w' x 0 ≡ m → ⊥) → Taking w b (x + 1) m (set w' x m)
-  take_on h z = record {
-    free = λ y lo hi. ⊎_elim
-        (λ k. let q : y ≡ x = omega (arith, k, hi) in λ e. z (a.after x (omega arith) ∙ ap (λ (i : ℕ). get_or w i 0) (sym q) ∙ e))
-        (λ k. a.free y lo k)
-        (le_or_lt x y);
-    marked = λ y lo hi. ⊎_elim
-        (λ k. let q : y ≡ x = omega (arith, k, hi) in subst⁻¹ (λ (i : ℕ). get_or (set w' x m) i 0 ≡ m) q (get_or-set_same w' x m 0 h))
-        (λ k. get_or-set_other w' x y m 0 (λ q. omega (arith, q, k)) ∙ a.marked y lo k)
-        (le_or_lt x y);
-    before = λ y lo. get_or-set_other w' x y m 0 (λ q. omega (arith, q, lo, a.from)) ∙ a.before y lo;
-    after = λ y hi. get_or-set_other w' x y m 0 (λ q. omega (arith, q, hi)) ∙ a.after y (omega (arith, hi));
-    from = omega (arith, a.from);
-    long = length-set w' x m ∙ a.long;
-  }
-
-  pub take_end : (s : ℕ) → x ≡ b + s → TakeSays w b s m w' true
-  take_end s e = record {
-    yes = λ q. record {
-      free = λ y lo hi. a.free y lo (omega (arith, hi, e));
-      marked = λ y lo hi. a.marked y lo (omega (arith, hi, e));
-      before = a.before;
-      after = λ y hi. a.after y (omega (arith, hi, e));
-    };
-    no = λ q. untrue (sym q);
-    least = least;
-  }
 
 -- ---- the walk
 
@@ -210,13 +152,7 @@ module _ (n : ℕ) (t : Bytes) (first m : ℕ) (work : List ℕ) (i p count : �
     at : salvaged n t first ≡ follow (suc w.fuel) n t w.seen p (suc b)
     at = w.is ∙ ap (follow (suc w.fuel) n t w.seen p) eb
 
-    pub walk_stop : (why : Fault) → LookSays n t p b (Err why) → WalkSays n t first m count why work
-    walk_stop why s = says why work walk_least w.long (at ∙ s w.fuel w.seen)
-
     module _ (s q : ℕ) (looked : Looked n t p b s q) where
-      pub walk_room : b + s ≤ length work
-      walk_room = omega (arith, looked.node.within, w.long)
-
       size : size_at t b ≡ s
       size = node_size t n b s looked.node
 

@@ -69,11 +69,6 @@ none_left n t p i rest end stop z = refl
 none_left n t p i rest end (node {b = b} w back r) z = absurd (omega (arith, z))
 
 module _ (n : ℕ) (t : Bytes) (b i room : ℕ) (P : List Run → Type 0) (w : Going n t b i room P) where
-  pub going_end : i ≡ 0 → P (salvaged n t b).runs
-  going_end z =
-      let q : w.rest ≡ [] = none_left n t w.before i w.rest w.end w.stands z in
-      subst⁻¹ P (w.is ∙ ap (λ (r : List Run). w.passed ++ r) q ∙ append-nil w.passed) w.done
-
   module _ (h : (i ≡ 0) → ⊥) where
     some : 0 < i
     some = omega (arith, h)
@@ -90,12 +85,6 @@ module _ (n : ℕ) (t : Bytes) (b i room : ℕ) (P : List Run → Type 0) (w : G
 
       first : w.rest ≡ run (i - 1) s ∷ at.after
       first = at.is ∙ ap (λ (m : ℕ). run (i - 1) m ∷ at.after) (sym size)
-
-      pub going_left : s ≤ room
-      going_left = omega (arith, w.fits, ap total first)
-
-      pub going_less : room - s < room
-      going_less = omega (arith, going_left, k.some)
 
       -- what P of the nodes passed gives of one more
       pub going_on : (q : ℕ) (Q : List Run → Type 0) → q ≡ next_at t (i - 1) → ((l : List Run) → P l → Q (l ++ run (i - 1) s ∷ [])) → Going n t b q (room - s) Q
@@ -132,9 +121,6 @@ module _ (n : ℕ) (t : Bytes) (b i room : ℕ) (w₀ w : List ℕ) (g : Going n
   pub lay_on : (q : ℕ) (w' : List ℕ) → q ≡ next_at t (i - 1) → Added w w' (run (i - 1) s ∷ []) → Going n t b q (room - s) (Added w₀ w')
   lay_on q w' e a = going_on n t b i room (Added w₀ w) g h s k q (Added w₀ w') e (λ l d. added_append w₀ w w' l (run (i - 1) s ∷ []) d a)
 
-pub lay_end : (n : ℕ) (t : Bytes) (b i room : ℕ) (w₀ w : List ℕ) → Going n t b i room (Added w₀ w) → i ≡ 0 → Added w₀ w (salvaged n t b).runs
-lay_end n t b i room w₀ w g e = going_end n t b i room (Added w₀ w) g e
-
 -- ---- looking along a chain
 
 -- no block of these nodes is counted twice
@@ -145,9 +131,6 @@ pub meet_begin : (n : ℕ) (t : Bytes) (w : List ℕ) (b i : ℕ) → WholeAt n 
 meet_begin n t w b i a e = going_begin n t b i (Alone w) a.whole e (record { is = λ l c. refl })
 
 module _ (n : ℕ) (t : Bytes) (b i room : ℕ) (w : List ℕ) (g : Going n t b i room (Alone w)) where
-  pub meet_end : i ≡ 0 → MeetsRuns w (salvaged n t b).runs false
-  meet_end e = record { is = λ l c. sym ((going_end n t b i room (Alone w) g e).is l c) }
-
   module _ (h : (i ≡ 0) → ⊥) (s : ℕ) (k : NodeAt t n (i - 1) s) (r : Bool) (m : MeetsRun w (i - 1) s r) where
     pub meet_found : r ≡ true → MeetsRuns w (salvaged n t b).runs true
     meet_found e = record { is = λ l c. sym (going_met n t b i room (Alone w) g h s k l (sym (m.is l c) ∙ e)) }
@@ -161,16 +144,9 @@ module _ (n : ℕ) (t : Bytes) (b i room : ℕ) (w : List ℕ) (g : Going n t b 
               ∙ ap (λ (x : Bool). x || false) (sym (m.is l c) ∙ e);
         })
 
--- a work list with a place for each block has room for a node
-pub node_room : (n : ℕ) (t : Bytes) (b s : ℕ) (w w₀ : List ℕ) (x : ℕ) → WholeAt n t w₀ x → length w ≡ length w₀ → NodeAt t n b s → b + s ≤ length w
-node_room n t b s w w₀ x a e k = omega (arith, a.sized.long, e, k.within)
-
 -- what is read of a node
 pub here_below : (n : ℕ) (t : Bytes) (b : ℕ) → NodeHere n t b → b < n
 here_below n t b h = omega (arith, h.node.1.some, h.node.1.within)
-
-pub here_room : (n : ℕ) (t : Bytes) (b : ℕ) → NodeHere n t b → 8 * b + 16 ≤ length t
-here_room n t b h = omega (arith, h.node.1.some, h.node.1.within, h.room)
 
 -- a whole chain starts below n
 pub whole_below : (n : ℕ) (t : Bytes) (w : List ℕ) (b : ℕ) → WholeAt n t w b → b + 1 < 18446744073709551616

@@ -64,14 +64,6 @@ module _ (n : ℕ) (t : Bytes) (b : ℕ) where
       ∙ ap (λ (k : ℕ). k ∷ kinds n t bs (spent + total (salvaged n t b).runs)) e
       ∙ ap (λ (s : ℕ). kind ∷ kinds n t bs s) (sym q)
 
-  pub judge_crowded : (w : List ℕ) (m spent : ℕ) → MayJudge n t w m spent → 4 * n < spent → Judges n t b m spent w 3 spent
-  judge_crowded w m spent a h = record {
-    next = λ bs. ap (λ (x : Bool). cond x (kind_of n t b ∷ kinds n t bs (spent + total (salvaged n t b).runs)) (3 ∷ kinds n t bs spent)) (lt-leb spent (4 * n) h);
-    free = λ x. omega (arith, a.free x);
-    few = a.few;
-    long = a.sized.long;
-  }
-
   none : n ≤ b → (s : ℕ) → NodeAt t n b s → ⊥
   none h s w = omega (arith, h, w.some, w.within)
 
@@ -114,30 +106,7 @@ pub record Judging (n : ℕ) (t : Bytes) (firsts l₀ work l : List ℕ) (spent 
   pub long : length l ≡ length l₀
   pub next : MayJudge n t work (i + 1) spent
 
-pub judging_begin : (n : ℕ) (t : Bytes) (firsts l work : List ℕ) → MayShare n t work firsts l → Judging n t firsts l work l 0 0
-judging_begin n t firsts l work a = record {
-  is = refl;
-  long = refl;
-  next = record { sized = a.sized; free = λ x. omega (arith, clear_below n work a.clear x); few = omega arith };
-}
-
 module _ (n : ℕ) (t : Bytes) (firsts l₀ work l : List ℕ) (spent i : ℕ) (g : Judging n t firsts l₀ work l spent i) where
-  pub judging_on : i < length firsts → (work' : List ℕ) (kind spent' : ℕ) → Judges n t (get_or firsts i 0) (i + 1) spent work' kind spent'
-      → Judging n t firsts l₀ work' (set l i kind) spent' (i + 1)
-  judging_on h work' kind spent' j =
-      let q : suc i ≡ i + 1 = omega arith in
-      record {
-        is = g.is
-            ∙ ap (λ (bs : List ℕ). sets l i (kinds n t bs spent)) (from_at firsts i h)
-            ∙ ap (sets l i) (j.next (drop (i + 1) firsts))
-            ∙ ap (λ (k : ℕ). sets (set l i kind) k (kinds n t (drop (i + 1) firsts) spent')) q;
-        long = length-set l i kind ∙ g.long;
-        next = record { sized = record { room = g.next.sized.room; small = g.next.sized.small; long = j.long }; free = j.free; few = j.few };
-      }
-
-  pub judging_may : MayJudge n t work (i + 1) spent
-  judging_may = g.next
-
   ended : length firsts ≤ i → l ≡ sets l₀ 0 (kinds n t firsts 0)
   ended h = sym (g.is ∙ ap (λ (bs : List ℕ). sets l i (kinds n t bs spent)) (drop_of_length-le firsts {i = i} h))
 
@@ -197,16 +166,7 @@ pub record Laying (n : ℕ) (t : Bytes) (firsts ks w₀ w : List ℕ) (i : ℕ) 
   pub added : Added w₀ w done
   pub is : laid n t firsts ks ≡ done ++ laid n t (drop i firsts) (drop i ks)
 
-pub laying_begin : (n : ℕ) (t : Bytes) (firsts ks w : List ℕ) → Laying n t firsts ks w w 0
-laying_begin n t firsts ks w = record { done = []; added = added_none w; is = refl }
-
 module _ (n : ℕ) (t : Bytes) (firsts ks w₀ w : List ℕ) (i : ℕ) (g : Laying n t firsts ks w₀ w i) where
-  pub laying_told : i < length firsts → Kinds n t w₀ firsts ks → Told n t w (get_or firsts i 0) (get_or ks i 0)
-  laying_told h a = record {
-    sized = record { room = a.sized.room; small = a.sized.small; long = g.added.long ∙ a.sized.long };
-    whole = a.whole i h;
-  }
-
   pub laying_on : i < length firsts → Kinds n t w₀ firsts ks → (w' : List ℕ) → Added w w' (whole_runs n t (get_or firsts i 0) (get_or ks i 0)) → Laying n t firsts ks w₀ w' (i + 1)
   laying_on h a w' d =
       let one : List Run = whole_runs n t (get_or firsts i 0) (get_or ks i 0) in
@@ -218,12 +178,6 @@ module _ (n : ℕ) (t : Bytes) (firsts ks w₀ w : List ℕ) (i : ℕ) (g : Layi
             ∙ ap (λ (qs : List ℕ). g.done ++ laid n t (get_or firsts i 0 ∷ drop (i + 1) firsts) qs) (from_at ks i (omega (arith, h, a.many)))
             ∙ sym (append_assoc g.done one (laid n t (drop (i + 1) firsts) (drop (i + 1) ks)));
       }
-
-  pub laying_end : length firsts ≤ i → Added w₀ w (laid n t firsts ks)
-  laying_end h =
-      subst⁻¹ (Added w₀ w)
-      (g.is ∙ ap (λ (bs : List ℕ). g.done ++ laid n t bs (drop i ks)) (drop_of_length-le firsts {i = i} h) ∙ append-nil g.done)
-      g.added
 
 -- ---- what is told
 
@@ -256,9 +210,6 @@ pub record Telling (n : ℕ) (t : Bytes) (w firsts ks l : List ℕ) (i : ℕ) : 
   pub same : (j : ℕ) → i ≤ j → get_or l j 0 ≡ get_or ks j 0
   pub long : length l ≡ length ks
 
-pub telling_begin : (n : ℕ) (t : Bytes) (w firsts ks : List ℕ) → Telling n t w firsts ks ks 0
-telling_begin n t w firsts ks = record { is = λ c d. refl; same = λ j h. refl; long = refl }
-
 tells_many : (n : ℕ) (t : Bytes) (c : List Run) (firsts ks : List ℕ) → length ks ≡ length firsts → length (tells n t c firsts ks) ≡ length ks
 tells_many n t c [] [] e = refl
 tells_many n t c [] (k ∷ ks) e = absurd (omega (arith, e))
@@ -266,25 +217,6 @@ tells_many n t c (b ∷ bs) [] e = refl
 tells_many n t c (b ∷ bs) (k ∷ ks) e = ap suc (tells_many n t c bs ks (omega (arith, e)))
 
 module _ (n : ℕ) (t : Bytes) (w firsts ks l : List ℕ) (i : ℕ) (g : Telling n t w firsts ks l i) where
-  pub telling_told : i < length firsts → Kinds n t w firsts ks → Told n t w (get_or firsts i 0) (get_or l i 0)
-  telling_told h a = record { sized = a.sized; whole = λ e. a.whole i h (sym (g.same i (omega arith)) ∙ e) }
-
-  pub telling_on : i < length firsts → Kinds n t w firsts ks → (v : ℕ) → Tells n t w (get_or firsts i 0) (get_or l i 0) v
-      → Telling n t w firsts ks (set l i v) (i + 1)
-  telling_on h a v f =
-      let q : suc i ≡ i + 1 = omega arith in
-      record {
-        is = λ c d.
-            g.is c d
-            ∙ ap (λ (bs : List ℕ). sets l i (tells n t c bs (drop i ks))) (from_at firsts i h)
-            ∙ ap (λ (qs : List ℕ). sets l i (tells n t c (get_or firsts i 0 ∷ drop (i + 1) firsts) qs)) (from_at ks i (omega (arith, h, a.many)))
-            ∙ ap (λ (x : ℕ). sets (set l i x) (suc i) (tells n t c (drop (i + 1) firsts) (drop (i + 1) ks)))
-            (ap (told n t c (get_or firsts i 0)) (sym (g.same i (omega arith))) ∙ sym (f.is c d))
-            ∙ ap (λ (j : ℕ). sets (set l i v) j (tells n t c (drop (i + 1) firsts) (drop (i + 1) ks))) q;
-        same = λ j k. get_or-set_other l i j v 0 (λ z. omega (arith, z, k)) ∙ g.same j (omega (arith, k));
-        long = length-set l i v ∙ g.long;
-      }
-
   pub telling_end : length firsts ≤ i → Kinds n t w firsts ks → TellsAll n t w firsts ks l
   telling_end h a = record {
     is = λ c d.

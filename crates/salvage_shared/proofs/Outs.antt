@@ -62,29 +62,6 @@ module _ (n : ℕ) (t : Bytes) (w₀ w₁ w firsts l₀ ks : List ℕ) (a : MayS
     shares list w'' f z = record { told = all_told list f; clear = all_clear n w'' w' z (b.long ∙ clear_long n w clear) }
 
 module _ (n : ℕ) (t : Bytes) (w₀ w firsts list : List ℕ) (a : Sized n t w₀) (e : w ≡ replicate (length w₀) 0) where
-  pub out_short : length list < length firsts → SharedSays n t firsts list (shared_gives is.ListTooShort list) w
-  out_short h = record { given = inl (h, refl); clear = all_clear n w w₀ e a.long }
-
-  pub may_share : length firsts ≤ 1000000 → length firsts ≤ length list → MayShare n t w firsts (take (length firsts) list)
-  may_share f h =
-      let c = all_clear n w w₀ e a.long in
-      record {
-        sized = record { room = a.room; small = a.small; long = clear_long n w c };
-        clear = c;
-        many = length-take-le (length firsts) list h;
-        few = f;
-      }
-
-pub out_done : (n : ℕ) (t : Bytes) (w firsts list l : List ℕ) → length firsts ≤ length list → Shares n t firsts l w
-    → SharedSays n t firsts list (shared_gives is.Done (l ++ drop (length firsts) list)) w
-out_done n t w firsts list l h s = record {
-  given = inr ((λ z. omega (arith, h, z)), ap (λ (x : List ℕ). shared_gives is.Done (x ++ drop (length firsts) list)) s.told);
-  clear = s.clear;
-}
-
--- the first places of a list
-pub taken : (k : ℕ) (l : List ℕ) → k ≤ length l → k ≡ length (take k l)
-taken k l h = sym (length-take-le k l h)
 
 -- ---- the rows of sizes and work list
 

@@ -46,9 +46,6 @@ module _ (w : ℕ) (t : List ℕ) (n : ℕ) (work₀ work : List ℕ) (x left : 
   ends : met_from left (collision w t) n g.met x ≡ g.met → Marks work (gone w t)
   ends e = subst⁻¹ (Marks work) (g.is ∙ e) g.marks
 
-  pub marking_full : left ≡ 0 → Marks work (gone w t)
-  marking_full e = ends (ap (λ (k : ℕ). met_from k (collision w t) n g.met x) e)
-
   pub marking_zero : x ≡ 0 → Marks work (gone w t)
   marking_zero e = ends (met_stop left (collision w t) n g.met x (stops_zero n g.met x e))
 
@@ -79,23 +76,10 @@ module _ (w : ℕ) (t : List ℕ) (n : ℕ) (work₀ work : List ℕ) (x left : 
             long = length-set work x 1 ∙ g.long;
           })
 
--- an entry that is looked at lies in the table
-pub entry_in : (w : ℕ) (t : List ℕ) (n : ℕ) (work : List ℕ) (x : ℕ) → Sized w t n work → x < n → x * w + w ≤ length t
-entry_in w t n work x s h = omega (arith, s.inside, mul-le-mul_right w (suc_le x n h), suc_mul x w)
-  where
-    suc_le : (a b : ℕ) → a < b → suc a ≤ b
-    suc_le a b h = omega (arith, h)
-
-    suc_mul : (a b : ℕ) → suc a * b ≡ a * b + b
-    suc_mul a b = omega arith
-
 -- ---- along the entries
 
 next_left : (x n : ℕ) → x < n → n - x ≡ suc (n - (x + 1))
 next_left x n h = omega (arith, h)
-
-none_left : (x n : ℕ) (work : List ℕ) → n ≤ x → unmarked (n - x) x work ≡ []
-none_left x n work h = let q : n - x ≡ 0 = omega (arith, h) in ap (λ (k : ℕ). unmarked k x work) q
 
 more : (x n : ℕ) (work : List ℕ) → x < n → (get_or work x 0 ≡ 0) → unmarked (n - x) x work ≡ x ∷ unmarked (n - (x + 1)) (x + 1) work
 more x n work h e =
@@ -111,9 +95,6 @@ pub record Counting (n : ℕ) (work : List ℕ) (x count : ℕ) : Type 0 where
   pub sum : count + length (unmarked (n - x) x work) ≡ length (unmarked (n - 1) 1 work)
   pub few : count ≤ x
 
-pub counting_begin : (n : ℕ) (work : List ℕ) → Counting n work 1 0
-counting_begin n work = record { sum = omega arith; few = omega arith }
-
 module _ (n : ℕ) (work : List ℕ) (x count : ℕ) (g : Counting n work x count) where
   -- place i is that of entry x, and m the count then
   pub counting_hit : x < n → (i : ℕ) → i ≡ x → get_or work i 0 ≡ 0 → (m : ℕ) → m ≡ count + 1 → Counting n work (x + 1) m
@@ -125,21 +106,12 @@ module _ (n : ℕ) (work : List ℕ) (x count : ℕ) (g : Counting n work x coun
   counting_skip h i q e m k =
       record { sum = omega (arith, g.sum, ap length (skip x n work h (λ z. e (subst⁻¹ (λ (j : ℕ). get_or work j 0 ≡ 0) q z))), k); few = omega (arith, g.few, k) }
 
-  pub counting_end : n ≤ x → count ≡ length (unmarked (n - 1) 1 work)
-  counting_end h = omega (arith, g.sum, ap length (none_left x n work h))
-
 pub record Listing (n : ℕ) (work l₀ l : List ℕ) (x at : ℕ) : Type 0 where
   pub is : sets l₀ 0 (unmarked (n - 1) 1 work) ≡ sets l at (unmarked (n - x) x work)
   pub sum : at + length (unmarked (n - x) x work) ≡ length (unmarked (n - 1) 1 work)
   pub long : length l ≡ length l₀
 
-pub listing_begin : (n : ℕ) (work l : List ℕ) → Listing n work l l 1 0
-listing_begin n work l = record { is = refl; sum = omega arith; long = refl }
-
 module _ (n : ℕ) (work l₀ l : List ℕ) (x at : ℕ) (g : Listing n work l₀ l x at) where
-  pub listing_room : x < n → length (unmarked (n - 1) 1 work) ≤ length l₀ → (i : ℕ) → i ≡ x → get_or work i 0 ≡ 0 → at < length l
-  listing_room h r i q e = omega (arith, g.sum, g.long, r, ap length (more x n work h (subst (λ (j : ℕ). get_or work j 0 ≡ 0) q e)))
-
   pub listing_hit : x < n → (i : ℕ) → i ≡ x → get_or work i 0 ≡ 0 → (l' : List ℕ) → l' ≡ set l at x → (at' : ℕ) → at' ≡ at + 1 → Listing n work l₀ l' (x + 1) at'
   listing_hit h i q e l' p at' k =
       let m = more x n work h (subst (λ (j : ℕ). get_or work j 0 ≡ 0) q e) in
@@ -160,6 +132,3 @@ module _ (n : ℕ) (work l₀ l : List ℕ) (x at : ℕ) (g : Listing n work l�
         sum = omega (arith, g.sum, ap length m, k);
         long = ap length p ∙ g.long;
       }
-
-  pub listing_end : n ≤ x → l ≡ sets l₀ 0 (unmarked (n - 1) 1 work)
-  listing_end h = sym (g.is ∙ ap (sets l at) (none_left x n work h))

@@ -41,10 +41,6 @@ begins : (t : List ℕ) (x : ℕ) → way t x ≡ way_from (bound 40 t) t (bound
 unfolding way
 begins t x = refl
 
--- a directory that is looked at lies in the table
-pub ready_in : (t : List ℕ) (n : ℕ) (work : List ℕ) (x : ℕ) → Ready t n work → x < n → x * 40 + 40 ≤ length t
-ready_in t n work x r h = omega (arith, r.sized.inside, h)
-
 -- ---- a step
 
 -- at directory x, with what was met before marked
@@ -63,9 +59,6 @@ climb_begin t n work x r = record {
 }
 
 module _ (t : List ℕ) (n : ℕ) (work₀ work : List ℕ) (x left : ℕ) (rest : List ℕ) (g : Climbing t n work₀ work x left rest) where
-  full : left ≡ 0 → rest ≡ []
-  full e = g.is ∙ ap (λ (k : ℕ). way_from k t n g.met x) e
-
   stop : goes n g.met x ≡ false → rest ≡ []
   stop e = g.is ∙ way_stop left t n g.met x e
 
@@ -112,9 +105,6 @@ count_begin t n work inode r = record { rest = way t inode; climbing = climb_beg
 module _ (t : List ℕ) (n : ℕ) (work₀ work : List ℕ) (inode x left count : ℕ) (g : Counting t n work₀ work inode x left count) where
   counted : g.rest ≡ [] → count ≡ length (way t inode)
   counted e = omega (arith, g.sum, ap length e)
-
-  pub count_full : left ≡ 0 → count ≡ length (way t inode)
-  count_full e = counted (full t n work₀ work x left g.rest g.climbing e)
 
   pub count_zero : x ≡ 0 → count ≡ length (way t inode)
   count_zero e = counted (at_zero t n work₀ work x left g.rest g.climbing e)

@@ -21,13 +21,6 @@ use Rattle.salvage_way.specs.Way.{way}
 use Rattle.salvage_way.specs.Calls.{way_rows, way_done, WayPromise}
 use Rattle.salvage_way.specs.Inner.Says.{Ready, WaySays}
 
-pub resized : (t : List ℕ) (n : ℕ) (work₀ work : List ℕ) → Sized 40 t n work₀ → length work ≡ length work₀ → Sized 40 t n work
-resized t n work₀ work s e = record { wide = s.wide; some = s.some; is = s.is; inside = s.inside; few = s.few; long = omega (arith, s.long, e) }
-
-pub made_ready : (t : List ℕ) (n : ℕ) (work₀ work₁ work : List ℕ) → Sized 40 t n work₀ → work₁ ≡ replicate (length work₀) 0 → length work ≡ length work₁ → Marks work (gone 40 t)
-    → Ready t n work
-made_ready t n work₀ work₁ work s e l m = record { sized = resized t n work₁ work (still_sized 40 t n work₀ work₁ s e) l; marks = m }
-
 -- ---- the rows of sizes and work list
 
 module _ (t work : List ℕ) (x : ℕ) (list : List ℕ) where

@@ -9,6 +9,6 @@ returns-then-chain_meets c = tell_shared _ _ _ _ _ (omega arith) _ c.chain_meets
 
 pub returns : goal.returns
 returns c = elim c.else-kind-number.branch [
-  else-kind-number-via-then-kind-number+else-chain_meets w ↦ tell_alone _ _ _ _ _ (omega arith) _ w.chain_meets.ensures w.if-chain_meets.false
+  | else-kind-number-via-then-kind-number+else-chain_meets w ↦ tell_alone _ _ _ _ _ (omega arith) _ w.chain_meets.ensures w.if-chain_meets.false
   | else-kind-number-via-else-kind-number w ↦ tell_cut _ _ _ _ _ (λ e. w.if-kind-number.false (omega (arith, e)))
 ]
