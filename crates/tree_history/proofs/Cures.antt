@@ -18,7 +18,6 @@ use Rattle.tree_key.specs.Key.{name_key}
 use Rattle.tree_table.specs.View.{LiveIn}
 use Rattle.tree_test.specs.Gate.{tree_gate}
 use Rattle.tree_test.specs.Promise.{tested, test_done, TestPromise}
-use Rattle.tree_test.specs.declared.Tested.{Tested}
 use Rattle.tree_sound.specs.Tables.{Tables, rooms_in}
 use Rattle.tree_opens.specs.Opens.{opened}
 use Rattle.tree_opens.specs.Record.{writer}
@@ -73,9 +72,9 @@ module _ (s : Tables) (w : Whole s) (work : List ℕ) (long : rooms_in s ≤ len
       (looked (λ a. lookup_gives a 0 0) (lookup_rows (kind_view kind s) (name_key p name)) (lookup_done (kind_view kind s) (name_key p name)) o q)
 
   -- name_sound: and the test accepts the tables that it stands in
-  pub name_sound : (kind : Kind) (x : ℕ) (o : Tested × List ℕ) → TestPromise s work o → o.0.answer ≡ named_test (legal (name_in ((kind_view kind s).key x)))
+  pub name_sound : (kind : Kind) (x : ℕ) (o : Answer × List ℕ) → TestPromise s work o → o.0 ≡ named_test (legal (name_in ((kind_view kind s).key x)))
   name_sound kind x o =
-      of_first (λ (y : Tested × List ℕ). y.0.answer ≡ Done) (tree_gate tested s work) (test_done s work) o
+      of_first (λ (y : Answer × List ℕ). y.0 ≡ Done) (tree_gate tested s work) (test_done s work) o
       (λ m. absurd (w.fits m), (λ m. absurd (w.inside m), (λ (k : length work < rooms_in s). absurd (omega arith), (λ n. absurd (n w.sound), tt))))
       (λ _. refl)
 

@@ -11,7 +11,6 @@ use Rattle.tree_key.specs.Key.{name_key}
 use Rattle.tree_table.specs.View.{View}
 use Rattle.tree_test.specs.Gate.{tree_gate}
 use Rattle.tree_test.specs.Promise.{tested, test_done, TestPromise}
-use Rattle.tree_test.specs.declared.Tested.{Tested}
 use Rattle.tree_sound.specs.Tables.{Tables, dirs, files}
 use Rattle.tree_promises.specs.declared.Kind.{Kind}
 use Rattle.tree_promises.specs.Kinds.{carried_many, kind_view}
@@ -33,9 +32,9 @@ module _ (s : State) (L : Lent s.tables) (work : List ℕ) where
   looked : Whole t → Good s Done s
   looked w = good_done s s (whole_step t w t (after_wrote t [] [] [] []) w.sound) (λ a. a)
 
-  pub good_test : (o : Tested × List ℕ) → TestPromise t work o → Good s o.0.answer s
+  pub good_test : (o : Answer × List ℕ) → TestPromise t work o → Good s o.0 s
   good_test o =
-      of_first (λ (x : Tested × List ℕ). Good s x.0.answer s) (tree_gate tested t work) (test_done t work) o (
+      of_first (λ (x : Answer × List ℕ). Good s x.0 s) (tree_gate tested t work) (test_done t work) o (
         λ _. good_refused s SizeMismatch (omega arith, λ e. omega arith),
         (
           λ _. good_refused s InvalidValue (omega arith, λ e. omega arith),

@@ -8,7 +8,6 @@ use Rattle.order.specs.Answer.{Answer}
 use Rattle.order.specs.Answer.{Done, BrokenTree}
 use Rattle.tree_test.specs.Gate.{tree_gate}
 use Rattle.tree_test.specs.Promise.{tested, test_done, TestPromise}
-use Rattle.tree_test.specs.declared.Tested.{Tested}
 use Rattle.tree_sound.specs.Tables.{rooms_in}
 use Rattle.tree_promises.specs.Kinds.{kind_view}
 use Rattle.tree_promises.specs.Calls.{Carry}
@@ -76,13 +75,13 @@ pub never_broken : (s t u : State) (answer : Answer) → Whole s.tables → Run 
 never_broken s t u answer w r c = let v = run_sound s t w r in (good t v.lent c).unbroken v.sound
 
 -- test_accepts: and the test, lent a work list that is long enough, answers Done
-pub test_accepts : (s t : State) (work : List ℕ) (o : Tested × List ℕ) → Whole s.tables → Run s t
+pub test_accepts : (s t : State) (work : List ℕ) (o : Answer × List ℕ) → Whole s.tables → Run s t
     → rooms_in t.tables ≤ length work
     → TestPromise t.tables work o
-    → o.0.answer ≡ Done
+    → o.0 ≡ Done
 test_accepts s t work o w r h =
     let v : Whole t.tables = run_sound s t w r in
-    of_first (λ (x : Tested × List ℕ). x.0.answer ≡ Done)
+    of_first (λ (x : Answer × List ℕ). x.0 ≡ Done)
     (tree_gate tested t.tables work)
     (test_done t.tables work) o (
       λ m. absurd (v.fits m),

@@ -7,8 +7,7 @@ use native.Mathlib.Omega.{arith}
 use lib.ListN.{length, length-set}
 use Rattle.tree_packed.specs.Packed.{Packed, rec}
 use Rattle.tree_packed.specs.Put.{Put, gives, put_of}
-use Rattle.tree_packed.specs.declared.Kept.{Kept}
-use Rattle.tree_packed.specs.declared.Kept.TheVariants.{Records, Full}
+use Rattle.std.specs.Prelude.{Option, Some, None}
 use Rattle.tree_packed.proofs.Theorems.{put_keeps, full_only, same_put, none_packed}
 use Rattle.tree_opens.specs.Opens.{opened, with_open}
 use Rattle.tree_packed.specs.Opens.{Opens, opens, InOrder, NoPlace, many, with_record}
@@ -23,7 +22,7 @@ module _ (d : List ℕ) (o : Opens) (A : Alike d o) (P : InOrder o) (x r : ℕ) 
   l = o.list
 
   -- what a put leaves, where it is not full
-  kept : (m : ℕ) (l' : List ℕ) → put_of k l x r ≡ gives (Records m) l' → Alike (with_open d x r) (opens m l') × InOrder (opens m l')
+  kept : (m : ℕ) (l' : List ℕ) → put_of k l x r ≡ gives (Some m) l' → Alike (with_open d x r) (opens m l') × InOrder (opens m l')
   unfolding opened with_open
   kept m l' e = (
     record {
@@ -33,9 +32,9 @@ module _ (d : List ℕ) (o : Opens) (A : Alike d o) (P : InOrder o) (x r : ℕ) 
     (put_keeps P some e).packed,
   )
 
-  by_kept : (a : Kept) (l' : List ℕ) → put_of k l x r ≡ gives a l' → Alike (with_open d x r) (opens (many k a) l') × InOrder (opens (many k a) l')
-  by_kept (Records m) l' e = kept m l' e
-  by_kept Full l' e = let f = full_only P some e in absurd (place f.0 f.1)
+  by_kept : (a : Option ℕ) (l' : List ℕ) → put_of k l x r ≡ gives a l' → Alike (with_open d x r) (opens (many k a) l') × InOrder (opens (many k a) l')
+  by_kept (Some m) l' e = kept m l' e
+  by_kept None l' e = let f = full_only P some e in absurd (place f.0 f.1)
 
   pub put_alike : Alike (with_open d x r) (with_record o x r) × InOrder (with_record o x r)
   put_alike = by_kept (put_of k l x r).kept (put_of k l x r).list refl
