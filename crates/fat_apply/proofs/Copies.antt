@@ -27,7 +27,7 @@ copied_sets d from to len f t d' e =
     let long : length (take len (drop from d)) ≡ len = length-take-le len (drop from d) (omega (arith, length-drop from d, f)) in
     e
     ∙ ap (λ (k : ℕ). paste d to (drop from d) k) q
-    ∙ ap (λ (k : ℕ). take to d ++ (take len (drop from d) ++ drop (to + k) d)) (sym long)
+    ∙ ap (λ (k : ℕ). take to d ++ take len (drop from d) ++ drop (to + k) d) (sym long)
     ∙ sym (sets-eq (take len (drop from d)) d to (omega (arith, long, t)))
 
 -- the sources of a plan -----------------------------------------------------------------------------------------------

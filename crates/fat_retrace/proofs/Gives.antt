@@ -112,8 +112,8 @@ module _ (n : ℕ) (t : Bytes) (c : List Run) (k₀ : ℕ) (l₀ : List ℕ) (i 
     pub giving_small : i - 1 ≤ 1000000
     giving_small = omega (arith, at.at, mid_within n t at.before at.x g.done chain_here, C.few)
 
-    pub giving_less : (r : ℕ) (l' : List ℕ) → 2 * (k₀ + length c) ≤ length l₀ → Written (delete (i - 1) ∷ []) k l r l' → length l₀ - r < length l₀ - k
-    giving_less r l' o q = omega (arith, giving_place o, written_long g.put, q.next)
+    pub giving_less : (r : ℕ) → 2 * (k₀ + length c) ≤ length l₀ → r ≡ k + 1 → length l₀ - r < length l₀ - k
+    giving_less r o q = omega (arith, giving_place o, written_long g.put, q)
 
     pub giving_sum : (s : ℕ) → s ≡ size_at t (i - 1) → m + s ≤ 1000000
     giving_sum s e = omega (arith, e, size_here, g.sum, C.sum, C.few, ap total at.is, total_append at.before (at.x ∷ g.done))

@@ -2,9 +2,20 @@ use native.Mathlib.Omega.{arith}
 use Rattle.fat_retrace.proofs.Joined.{join_later, join_free, join_one, several, join_room, join_place, join_small, join_done}
 use Rattle.fat_retrace.proofs.Puts.{put_create}
 use Rattle.fat_retrace.proofs.join_at.Goals as goal
+use Rattle.fat_retrace.proofs.join_at.Goals.{
+  then-prev_of-ne0-via-then-prev_of-ne0,
+  then-prev_of-ne0-via-else-prev_of-ne0+then-head_of-b,
+  then-prev_of-ne0-via-else-prev_of-ne0+else-head_of-b+then-next_of-eq0,
+}
 
 pub returns-then-prev_of-ne0 : goal.returns-then-prev_of-ne0
-returns-then-prev_of-ne0 c = ?
+returns-then-prev_of-ne0 c = elim c.then-prev_of-ne0.branch [
+    then-prev_of-ne0-via-then-prev_of-ne0 w ↦ join_later _ _ _ _ _ _ c.prev_of.ensures w.if-prev_of-ne0.true
+  | then-prev_of-ne0-via-else-prev_of-ne0+then-head_of-b w ↦ join_free _ _ _ _ _ _ w.head_of.ensures w.if-head_of-b.true
+  | then-prev_of-ne0-via-else-prev_of-ne0+else-head_of-b+then-next_of-eq0 w ↦
+      join_one _ _ _ c.requires.volume (record { byte = λ k. omega (arith, c.type_inv.table k) }) c.requires.node _ _ _
+      c.prev_of.ensures w.if-prev_of-ne0.false w.head_of.ensures w.if-head_of-b.false w.next_of.ensures _ _ w.if-next_of-eq0.true
+  ]
 
 pub give_up-given-requires : goal.give_up-given-requires
 give_up-given-requires c = let w = several _ _ _ c.requires.volume (record { byte = λ k. omega (arith, c.type_inv.table k) }) c.requires.node _ _ _
