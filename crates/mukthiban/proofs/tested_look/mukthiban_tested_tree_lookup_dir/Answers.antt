@@ -1,7 +1,0 @@
--- `mukthiban_tested_tree_lookup_dir` meets its contract.
-use Rattle.tree_look.proofs.Lookups.{with_key}
-use borrow.Author.Rules.{rules}
-use Rattle.mukthiban.proofs.tested_look.mukthiban_tested_tree_lookup_dir.Goals as goal
-
-pub returns : goal.returns
-returns c = search (rules, with_key)
