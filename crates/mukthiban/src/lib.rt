@@ -37,13 +37,13 @@ pub struct Plain {
     pub answer: u32,
 }
 
-impl<T: Drop> From<Result<T, Refusal>> for Plain {
+impl From<Result<(), Refusal>> for Plain {
     ghost use Rattle.std.specs.Prelude.{◌≡◌};
-    ghost use Rattle.order.specs.Answer.{answer_of, number_of};
+    ghost use Rattle.order.specs.Answer.{number_of};
 
-    ghost from_gives = { λ r p. p ≡ record { answer = number_of (answer_of r) } };
+    ghost from_gives = { λ r p. p.answer ≡ number_of r };
 
-    fn from(r: Result<T, Refusal>) -> Plain {
+    fn from(r: Result<(), Refusal>) -> Plain {
         Plain {
             answer: order::number(&r),
         }
@@ -62,13 +62,9 @@ pub struct Answered {
 
 impl From<Result<(), Refusal>> for Answered {
     ghost use Rattle.std.specs.Prelude.{◌≡◌};
-    ghost use Rattle.order.specs.Answer.{answer_of, fault_in, number_of};
+    ghost use Rattle.order.specs.Answer.{fault, fault_in, number_of};
 
-    ghost from_gives = { λ r a. a ≡ record {
-      answer = number_of (answer_of r);
-      entry = (fault_in (answer_of r)).entry;
-      rule = (fault_in (answer_of r)).rule;
-    } };
+    ghost from_gives = { λ r a. (a.answer ≡ number_of r) × (fault a.entry a.rule ≡ fault_in r) };
 
     fn from(r: Result<(), Refusal>) -> Answered {
         let found = order::broken_at(&r);
@@ -127,14 +123,12 @@ pub struct Created {
 impl From<Result<usize, Refusal>> for Created {
     ghost use Rattle.std.specs.Prelude.{◌≡◌};
     ghost use Rattle.std.specs.Result.{result_unwrap_or};
-    ghost use Rattle.order.specs.Answer.{answer_of, fault_in, number_of};
+    ghost use Rattle.order.specs.Answer.{answer_of, fault, fault_in, number_of};
 
-    ghost from_gives = { λ r c. c ≡ record {
-      answer = number_of (answer_of r);
-      first_block = result_unwrap_or r 0;
-      entry = (fault_in (answer_of r)).entry;
-      rule = (fault_in (answer_of r)).rule;
-    } };
+    ghost from_gives = { λ r c.
+      (c.answer ≡ number_of (answer_of r))
+      × (fault c.entry c.rule ≡ fault_in (answer_of r))
+      × (c.first_block ≡ result_unwrap_or r 0) };
 
     fn from(r: Result<usize, Refusal>) -> Created {
         let found = order::broken_at(&r);
@@ -160,7 +154,7 @@ impl From<Result<u32, Refusal>> for Made {
     ghost use Rattle.std.specs.Result.{result_unwrap_or};
     ghost use Rattle.order.specs.Answer.{answer_of, number_of};
 
-    ghost from_gives = { λ r m. m ≡ record { answer = number_of (answer_of r); inode = result_unwrap_or r 0 } };
+    ghost from_gives = { λ r m. (m.answer ≡ number_of (answer_of r)) × (m.inode ≡ result_unwrap_or r 0) };
 
     fn from(r: Result<u32, Refusal>) -> Made {
         Made {
@@ -183,14 +177,12 @@ pub struct Opened {
 impl From<Result<usize, Refusal>> for Opened {
     ghost use Rattle.std.specs.Prelude.{◌≡◌};
     ghost use Rattle.std.specs.Result.{result_unwrap_or};
-    ghost use Rattle.order.specs.Answer.{answer_of, fault_in, number_of};
+    ghost use Rattle.order.specs.Answer.{answer_of, fault, fault_in, number_of};
 
-    ghost from_gives = { λ r o. o ≡ record {
-      answer = number_of (answer_of r);
-      count = result_unwrap_or r 0;
-      entry = (fault_in (answer_of r)).entry;
-      rule = (fault_in (answer_of r)).rule;
-    } };
+    ghost from_gives = { λ r o.
+      (o.answer ≡ number_of (answer_of r))
+      × (fault o.entry o.rule ≡ fault_in (answer_of r))
+      × (o.count ≡ result_unwrap_or r 0) };
 
     fn from(r: Result<usize, Refusal>) -> Opened {
         let found = order::broken_at(&r);
@@ -216,7 +208,7 @@ impl From<Result<usize, Refusal>> for Listed {
     ghost use Rattle.std.specs.Result.{result_unwrap_or};
     ghost use Rattle.order.specs.Answer.{answer_of, number_of};
 
-    ghost from_gives = { λ r l. l ≡ record { answer = number_of (answer_of r); count = result_unwrap_or r 0 } };
+    ghost from_gives = { λ r l. (l.answer ≡ number_of (answer_of r)) × (l.count ≡ result_unwrap_or r 0) };
 
     fn from(r: Result<usize, Refusal>) -> Listed {
         Listed {
@@ -278,11 +270,10 @@ impl From<Looked> for Found {
     ghost use Rattle.std.specs.Result.{result_unwrap_or};
     ghost use Rattle.order.specs.Answer.{answer_of, number_of};
 
-    ghost from_gives = { λ l f. f ≡ record {
-      answer = number_of (answer_of l.inode);
-      inode = result_unwrap_or l.inode 0;
-      compared = l.compared;
-    } };
+    ghost from_gives = { λ l f.
+      (f.answer ≡ number_of (answer_of l.inode))
+      × (f.inode ≡ result_unwrap_or l.inode 0)
+      × (f.compared ≡ l.compared) };
 
     fn from(l: Looked) -> Found {
         Found {
@@ -340,7 +331,7 @@ impl From<Result<usize, Refusal>> for Named {
     ghost use Rattle.std.specs.Result.{result_unwrap_or};
     ghost use Rattle.order.specs.Answer.{answer_of, number_of};
 
-    ghost from_gives = { λ r n. n ≡ record { answer = number_of (answer_of r); offset = result_unwrap_or r 0 } };
+    ghost from_gives = { λ r n. (n.answer ≡ number_of (answer_of r)) × (n.offset ≡ result_unwrap_or r 0) };
 
     fn from(r: Result<usize, Refusal>) -> Named {
         Named {
@@ -363,14 +354,12 @@ pub struct Audited {
 impl From<Result<usize, Refusal>> for Audited {
     ghost use Rattle.std.specs.Prelude.{◌≡◌};
     ghost use Rattle.std.specs.Result.{result_unwrap_or};
-    ghost use Rattle.order.specs.Answer.{answer_of, fault_in, number_of};
+    ghost use Rattle.order.specs.Answer.{answer_of, fault, fault_in, number_of};
 
-    ghost from_gives = { λ r a. a ≡ record {
-      answer = number_of (answer_of r);
-      count = result_unwrap_or r 0;
-      entry = (fault_in (answer_of r)).entry;
-      rule = (fault_in (answer_of r)).rule;
-    } };
+    ghost from_gives = { λ r a.
+      (a.answer ≡ number_of (answer_of r))
+      × (fault a.entry a.rule ≡ fault_in (answer_of r))
+      × (a.count ≡ result_unwrap_or r 0) };
 
     fn from(r: Result<usize, Refusal>) -> Audited {
         let found = order::broken_at(&r);
@@ -396,14 +385,12 @@ pub struct Planned {
 impl From<Result<usize, Refusal>> for Planned {
     ghost use Rattle.std.specs.Prelude.{◌≡◌};
     ghost use Rattle.std.specs.Result.{result_unwrap_or};
-    ghost use Rattle.order.specs.Answer.{answer_of, fault_in, number_of};
+    ghost use Rattle.order.specs.Answer.{answer_of, fault, fault_in, number_of};
 
-    ghost from_gives = { λ r p. p ≡ record {
-      answer = number_of (answer_of r);
-      count = result_unwrap_or r 0;
-      entry = (fault_in (answer_of r)).entry;
-      rule = (fault_in (answer_of r)).rule;
-    } };
+    ghost from_gives = { λ r p.
+      (p.answer ≡ number_of (answer_of r))
+      × (fault p.entry p.rule ≡ fault_in (answer_of r))
+      × (p.count ≡ result_unwrap_or r 0) };
 
     fn from(r: Result<usize, Refusal>) -> Planned {
         let found = order::broken_at(&r);
@@ -463,14 +450,12 @@ pub struct Profiled {
 impl From<Result<u32, Refusal>> for Profiled {
     ghost use Rattle.std.specs.Prelude.{◌≡◌};
     ghost use Rattle.std.specs.Result.{result_unwrap_or};
-    ghost use Rattle.order.specs.Answer.{answer_of, fault_in, number_of};
+    ghost use Rattle.order.specs.Answer.{answer_of, fault, fault_in, number_of};
 
-    ghost from_gives = { λ r p. p ≡ record {
-      answer = number_of (answer_of r);
-      broken = result_unwrap_or r 0;
-      entry = (fault_in (answer_of r)).entry;
-      rule = (fault_in (answer_of r)).rule;
-    } };
+    ghost from_gives = { λ r p.
+      (p.answer ≡ number_of (answer_of r))
+      × (fault p.entry p.rule ≡ fault_in (answer_of r))
+      × (p.broken ≡ result_unwrap_or r 0) };
 
     fn from(r: Result<u32, Refusal>) -> Profiled {
         let found = order::broken_at(&r);
@@ -496,7 +481,7 @@ impl From<Result<usize, Refusal>> for Counted {
     ghost use Rattle.std.specs.Result.{result_unwrap_or};
     ghost use Rattle.order.specs.Answer.{answer_of, number_of};
 
-    ghost from_gives = { λ r c. c ≡ record { answer = number_of (answer_of r); free = result_unwrap_or r 0 } };
+    ghost from_gives = { λ r c. (c.answer ≡ number_of (answer_of r)) × (c.free ≡ result_unwrap_or r 0) };
 
     fn from(r: Result<usize, Refusal>) -> Counted {
         Counted {

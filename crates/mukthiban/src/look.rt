@@ -55,7 +55,9 @@ pub extern "C" fn mukthiban_tree_carried_dir(
 {
     let r = tree::carry::carried_dir(dir_hash, dir_table, file_hash, file_table, work, inode);
     *carried = r.unwrap_or([0; 4]);
-    r.into()
+    Plain {
+        answer: order::number(&r),
+    }
 }
 
 #[unsafe(no_mangle)]
@@ -123,7 +125,9 @@ pub extern "C" fn mukthiban_tree_carried_file(
 {
     let r = tree::carry::carried_file(dir_hash, dir_table, file_hash, file_table, work, inode);
     *carried = r.unwrap_or([0; 20]);
-    r.into()
+    Plain {
+        answer: order::number(&r),
+    }
 }
 
 #[unsafe(no_mangle)]

@@ -38,7 +38,7 @@ pub extern "C" fn mukthiban_tree_open_dir(
     ensures { Exported result.answer (λ a. OpenKindPromise Directory (tables dir_hash.now dir_table.now file_hash.now file_table.now) (packed.opens opened.old opens.old) work.old inode kind (beside (gives a 0 (tables dir_hash.now dir_table.now file_hash.now file_table.now) (packed.opens opened.new opens.new)) work.new)) }
 {
     if kind > 1 {
-        return Plain::from(Err::<(), _>(other_kind(
+        return Plain::from(Err(other_kind(
             dir_hash, dir_table, file_hash, file_table,
         )));
     }
@@ -62,7 +62,7 @@ pub extern "C" fn mukthiban_tree_open_file(
     ensures { Exported result.answer (λ a. OpenKindPromise File (tables dir_hash.now dir_table.now file_hash.now file_table.now) (packed.opens opened.old opens.old) work.old inode kind (beside (gives a 0 (tables dir_hash.now dir_table.now file_hash.now file_table.now) (packed.opens opened.new opens.new)) work.new)) }
 {
     if kind > 1 {
-        return Plain::from(Err::<(), _>(other_kind(
+        return Plain::from(Err(other_kind(
             dir_hash, dir_table, file_hash, file_table,
         )));
     }
@@ -86,7 +86,7 @@ pub extern "C" fn mukthiban_tree_close_dir(
     ensures { Exported result.answer (λ a. CloseKindPromise Directory (tables dir_hash.now dir_table.now file_hash.now file_table.now) (packed.opens opened.old opens.old) work.old inode kind (beside (gives a 0 (tables dir_hash.now dir_table.now file_hash.now file_table.now) (packed.opens opened.new opens.new)) work.new)) }
 {
     if kind > 1 {
-        return Plain::from(Err::<(), _>(other_kind(
+        return Plain::from(Err(other_kind(
             dir_hash, dir_table, file_hash, file_table,
         )));
     }
@@ -110,7 +110,7 @@ pub extern "C" fn mukthiban_tree_close_file(
     ensures { Exported result.answer (λ a. CloseKindPromise File (tables dir_hash.now dir_table.now file_hash.now file_table.now) (packed.opens opened.old opens.old) work.old inode kind (beside (gives a 0 (tables dir_hash.now dir_table.now file_hash.now file_table.now) (packed.opens opened.new opens.new)) work.new)) }
 {
     if kind > 1 {
-        return Plain::from(Err::<(), _>(other_kind(
+        return Plain::from(Err(other_kind(
             dir_hash, dir_table, file_hash, file_table,
         )));
     }

@@ -23,7 +23,9 @@ pub extern "C" fn mukthiban_tested_tree_carried_dir(
 {
     let r = tree_carry::carried_dir(dir_hash, dir_table, inode);
     *carried = r.unwrap_or([0; 4]);
-    r.into()
+    Plain {
+        answer: order::number(&r),
+    }
 }
 
 #[unsafe(no_mangle)]
@@ -40,7 +42,9 @@ pub extern "C" fn mukthiban_tested_tree_carried_file(
 {
     let r = tree_carry::carried_file(file_hash, file_table, inode);
     *carried = r.unwrap_or([0; 20]);
-    r.into()
+    Plain {
+        answer: order::number(&r),
+    }
 }
 
 #[unsafe(no_mangle)]
