@@ -177,7 +177,7 @@ pub fn hash_misfit(hash: &[u8]) -> bool
 }
 
 // Whether one of the four does not fit.
-fn misfit(dir_hash: &[u8], dir_table: &[u8], file_hash: &[u8], file_table: &[u8]) -> bool
+pub fn misfit(dir_hash: &[u8], dir_table: &[u8], file_hash: &[u8], file_table: &[u8]) -> bool
     ensures { Tells (Misfit dir_hash.now dir_table.now file_hash.now file_table.now) result }
 {
     if hash_misfit(dir_hash) {
