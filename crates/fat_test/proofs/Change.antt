@@ -1,34 +1,28 @@
 -- Rows after soundness: what the gate without them tells, carried to a gate that has them.
-use mathlib.Core.Path.{◌≡◌, refl, sym, subst, subst⁻¹, ◌∙◌}
+use mathlib.Core.Path.{◌≡◌, refl, sym, subst⁻¹, ◌∙◌}
 use mathlib.Core.Bool.{Bool, true, false}
 use mathlib.Core.List.{List, []}
 use mathlib.Core.Logic.{◌⊎◌, inl, inr, ⊎_elim}
 use Prim.Native.Nat.{ℕ, ◌*◌, ◌≤◌, ◌<◌}
 use native.Mathlib.Nat.{mul-le-mul}
-use lib.Dec.{eqb}
-use borrow.Author.Tests.{eqb-true, eq-eqb}
+use Rattle.std.specs.Prelude.{Result, Ok, Err}
+use Rattle.order.specs.declared.Refusal as why
+use Rattle.order.specs.declared.Refusal.TheVariants as refusals
 use Rattle.order.specs.First.{Row}
 use Rattle.order.specs.Gate.{Refusal, refusal}
 use Rattle.order.specs.Given.{Given, None}
 use Rattle.order.specs.Tells.{Tells}
 use Rattle.order.specs.Answer.{Answer}
-use Rattle.order.specs.Answer.{SizeMismatch, InvalidValue, ReadOnlyVolume}
+use Rattle.order.specs.Answer.{ReadOnlyVolume}
 use Rattle.order.proofs.Gate.{later_says, later_past}
 use Rattle.fat_node.specs.Entry.{Bytes}
+use Rattle.fat_node.specs.declared.Counts.{Counts}
 use Rattle.fat_node.specs.Sizes.{blocks, Misfit, Outside}
 use Rattle.fat_node.proofs.Cases.{untrue}
 use Rattle.fat_test.specs.Gate.{InUse, retired, Uneven, gate_with}
 use Rattle.fat_test.specs.Inner.Gated.{OpenedWith, GateOf, ChangeGateOf, TableGateOf}
-use Rattle.fat_test.specs.declared.Gated.{Gated}
-use Rattle.fat_test.specs.declared.Gated.TheVariants.{Open, Refused}
 
--- whether a block length is in use is decided
-pub in_use_one : (l : ℕ) → l ≡ 512 → Tells (InUse l) true
-in_use_one l e = record { yes = λ _. inl e; only = λ _. refl }
-
-pub in_use_other : (l : ℕ) → (l ≡ 512 → ⊥) → Tells (InUse l) (eqb l 4096)
-in_use_other l n = record { yes = λ e. inr (eqb-true l 4096 e); only = λ u. ⊎_elim (λ e. absurd (n e)) (λ e. eq-eqb l 4096 e) u }
-
+-- a block length that is told not to be in use
 pub not_in_use : (l : ℕ) (r : Bool) → Tells (InUse l) r → r ≡ false → InUse l → ⊥
 not_in_use l r t e u = untrue (sym e ∙ t.only u)
 
@@ -65,41 +59,38 @@ module _ (misfit : Type 0) (t : Bytes) (l : ℕ) (work : List ℕ) (more : List 
 
 -- the gate of a call that changes something ------------------------------------------------------------------
 
-module _ (t : Bytes) (d l : ℕ) (work work' : List ℕ) (r : Gated) (g : GateOf t d l work work' r) where
-  pub change_refused : (a : Answer) → r ≡ Refused a → ChangeGateOf t d l work work' (Refused a)
-  change_refused a e = with_refused (Uneven t d l) t l work (retired l) (refusal a work') (subst (GateOf t d l work work') e g)
+module _ (t : Bytes) (d l : ℕ) (work work' : List ℕ) where
+  pub change_refused : (a : why.Refusal) → GateOf t d l work work' (Err a) → ChangeGateOf t d l work work' (Err a)
+  change_refused a g = with_refused (Uneven t d l) t l work (retired l) (refusal (Err a) work') g
 
-  module _ (free files : ℕ) (e : r ≡ Open free files) (b : Bool) (u : Tells (InUse l) b) where
-    pub change_open : b ≡ true → ChangeGateOf t d l work work' (Open free files)
-    change_open q =
-        with_none (Uneven t d l) t l work (retired l) work' free files (subst (GateOf t d l work work') e g) ((λ n. n (u.yes q)), tt)
+  module _ (c : Counts) (g : GateOf t d l work work' (Ok c)) (b : Bool) (u : Tells (InUse l) b) where
+    pub change_open : b ≡ true → ChangeGateOf t d l work work' (Ok c)
+    change_open q = with_none (Uneven t d l) t l work (retired l) work' c.free c.files g ((λ n. n (u.yes q)), tt)
 
-    pub change_retired : b ≡ false → ChangeGateOf t d l work work' (Refused ReadOnlyVolume)
-    change_retired q =
-        with_row (Uneven t d l) t l work (retired l) work' free files (subst (GateOf t d l work work') e g) ReadOnlyVolume
-        (inl (not_in_use l b u q, refl))
+    pub change_retired : b ≡ false → ChangeGateOf t d l work work' (Err refusals.ReadOnlyVolume)
+    change_retired q = with_row (Uneven t d l) t l work (retired l) work' c.free c.files g ReadOnlyVolume (inl (not_in_use l b u q, refl))
 
 -- and of one that is lent no data ----------------------------------------------------------------------------
 
 module _ (t : Bytes) (l : ℕ) (work : List ℕ) where
-  pub table_misfit : Misfit t → TableGateOf t l work work (Refused SizeMismatch)
+  pub table_misfit : Misfit t → TableGateOf t l work work (Err refusals.SizeMismatch)
   table_misfit m = inl (m, refl)
 
   module _ (m : Misfit t → ⊥) where
-    pub table_outside : Outside t → TableGateOf t l work work (Refused InvalidValue)
+    pub table_outside : Outside t → TableGateOf t l work work (Err refusals.InvalidValue)
     table_outside o = inr (m, inl (inl o, refl))
 
-    pub table_unfit : (l < 1) ⊎ (65536 < l) → TableGateOf t l work work (Refused InvalidValue)
+    pub table_unfit : (l < 1) ⊎ (65536 < l) → TableGateOf t l work work (Err refusals.InvalidValue)
     table_unfit o = inr (m, inl (inr o, refl))
 
     -- data that fit are no reason to refuse
     even : (d : ℕ) → d ≡ blocks t * l → Uneven t d l → ⊥
     even d e u = ⊎_elim m (λ n. n e) u
 
-    pub table_told : (d : ℕ) → d ≡ blocks t * l → (work' : List ℕ) (r : Gated) → ChangeGateOf t d l work work' r → TableGateOf t l work work' r
-    table_told d e work' (Refused a) (inl p) = absurd (even d e p.0)
-    table_told d e work' (Refused a) (inr p) = inr (m, p.1)
-    table_told d e work' (Open free files) g = record { none = (m, g.none.1); sound = g.sound; clear = g.clear; count = g.count; others = g.others }
+    pub table_told : (d : ℕ) → d ≡ blocks t * l → (work' : List ℕ) (r : Result Counts why.Refusal) → ChangeGateOf t d l work work' r → TableGateOf t l work work' r
+    table_told d e work' (Err a) (inl p) = absurd (even d e p.0)
+    table_told d e work' (Err a) (inr p) = inr (m, p.1)
+    table_told d e work' (Ok c) g = record { none = (m, g.none.1); sound = g.sound; clear = g.clear; count = g.count; others = g.others }
 
 -- the product of blocks and block length is small
 pub table_small : (n l : ℕ) → n ≤ 1000000 → l ≤ 65536 → n * l ≤ 65536000000

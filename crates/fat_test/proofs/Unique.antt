@@ -5,8 +5,7 @@ use Prim.Native.Nat.{ℕ}
 use Rattle.order.proofs.One.{one}
 use Rattle.fat_node.specs.Entry.{Bytes}
 use Rattle.fat_test.specs.Gate.{test_gate}
-use Rattle.fat_test.specs.Promise.{test_refused, test_done, TestPromise}
-use Rattle.fat_test.specs.declared.Tested.{Tested}
+use Rattle.fat_test.specs.Promise.{Tested, test_refused, test_done, TestPromise}
 
 pub one_answer : (t : Bytes) (work : List ℕ) (o o' : Tested × List ℕ)
     → TestPromise t work o → TestPromise t work o' → o ≡ o'

@@ -1,14 +1,15 @@
+-- `fat_test::change_gate` meets its contract.
+use Rattle.std.proofs.lemmas.Result.{err_from_is_err_and}
 use Rattle.fat_test.proofs.Change.{change_refused, change_open, change_retired}
 use Rattle.fat_test.proofs.change_gate.Goals as goal
 
-pub returns-then-in_use : goal.returns-then-in_use
-returns-then-in_use c =
-    change_open c.args.table.now _ c.args.block_len c.args.work.now _ _ c.gate-gated.ensures _ _ c.in-Open.is _ c.in_use.ensures c.if-in_use.true
+pub returns-in_err-counts : goal.returns-in_err-counts
+returns-in_err-counts c =
+    let p = err_from_is_err_and c.from_residual.result c.from_residual.ensures.1 in
+    rw (p.1, p.2) (change_refused _ _ _ _ _ _ c.in_err-counts.ensures)
 
-pub returns-in-Refused : goal.returns-in-Refused
-returns-in-Refused c =
-    change_refused c.args.table.now _ c.args.block_len c.args.work.now _ _ c.gate-gated.ensures _ c.in-Refused.is
+pub returns-then-not-in_use : goal.returns-then-not-in_use
+returns-then-not-in_use c = change_retired _ _ _ _ _ _ c.in_ok-counts.ensures _ c.in_use.ensures c.if-not-in_use.true
 
-pub returns-else-in_use : goal.returns-else-in_use
-returns-else-in_use c =
-    change_retired c.args.table.now _ c.args.block_len c.args.work.now _ _ c.gate-gated.ensures _ _ c.in-Open.is _ c.in_use.ensures c.if-in_use.false
+pub returns : goal.returns
+returns c = change_open _ _ _ _ _ _ c.in_ok-counts.ensures _ c.in_use.ensures c.if-not-in_use.false

@@ -1,25 +1,21 @@
-use Rattle.fat_test.proofs.Change.{table_misfit, table_outside, table_unfit, table_told, table_small}
-use Rattle.fat_node.proofs.Sizes.{denied, inside}
-use Rattle.fat_node.proofs.Nodes.{le_or_lt}
+-- `fat_test::table_gate` meets its contract.
+use Rattle.std.proofs.Common.{ap, ℕ, ◌*◌, ◌≤◌, arith}
 use mathlib.Core.Logic.{inr, ⊎_elim}
-use mathlib.Core.Path.{ap}
-use Prim.Native.Nat.{ℕ, ◌*◌, ◌≤◌}
-use native.Mathlib.Omega.{arith}
+use Rattle.fat_node.proofs.Nodes.{le_or_lt}
+use Rattle.fat_node.proofs.Sizes.{denied, inside}
+use Rattle.fat_test.proofs.Change.{table_misfit, table_outside, table_unfit, table_told, table_small}
 use Rattle.fat_test.proofs.table_gate.Goals as goal
+use Rattle.fat_test.proofs.table_gate.Goals.{then-outside-via-then-outside, then-outside-via-else-outside+then-unfit}
 
 pub returns-then-misfit : goal.returns-then-misfit
-returns-then-misfit c =
-    table_misfit c.args.table.now c.args.block_len c.args.work.now (c.misfit.ensures.0 c.if-misfit.true)
+returns-then-misfit c = table_misfit _ _ _ (c.misfit.ensures.0 c.if-misfit.true)
 
 pub returns-then-outside : goal.returns-then-outside
 returns-then-outside c =
-    table_outside c.args.table.now c.args.block_len c.args.work.now (denied _ c.misfit.ensures.1 c.if-misfit.false)
-    (c.outside.ensures.0 c.if-outside.true)
-
-pub returns-then-unfit : goal.returns-then-unfit
-returns-then-unfit c =
-    table_unfit c.args.table.now c.args.block_len c.args.work.now (denied _ c.misfit.ensures.1 c.if-misfit.false)
-    (c.unfit.ensures.0 c.if-unfit.true)
+    elim c.then-outside.branch [
+      | then-outside-via-then-outside w ↦ table_outside _ _ _ (denied _ c.misfit.ensures.1 c.if-misfit.false) (c.outside.ensures.0 w.if-outside.true)
+      | then-outside-via-else-outside+then-unfit w ↦ table_unfit _ _ _ (denied _ c.misfit.ensures.1 c.if-misfit.false) (w.unfit.ensures.0 w.if-unfit.true)
+    ]
 
 pub overflow_mul-n : goal.overflow_mul-n
 overflow_mul-n c =
