@@ -1,11 +1,13 @@
 -- The loops over the first blocks: what is followed, told and written of those before place i.
 use mathlib.Core.Path.{◌≡◌, refl, sym, ap, subst, subst⁻¹, ◌∙◌}
-use mathlib.Core.List.{List, [], ◌∷◌, ◌++◌}
+use mathlib.Core.List.{List, [], ◌∷◌, ◌++◌, append_assoc}
 use mathlib.Core.Logic.{⊎_elim}
 use Prim.Native.Nat.{ℕ, zero, suc, ◌+◌, ◌*◌, ◌-◌, ◌≤◌, ◌<◌}
 use native.Mathlib.Omega.{arith}
-use lib.ListN.{length, get_or, set, drop, drop_of_length-le}
-use lib.Seq.{sets, length-sets}
+use lib.ListN.{length, get_or, set, take, drop, drop_of_length-le}
+use lib.Seq.{sets, sets-eq, length-sets}
+use Rattle.std.proofs.lemmas.List.{drop-drop}
+use borrow.Rule.Slice.PartMut.{put_mid}
 use borrow.Author.Tests.{le-leb, lt-leb}
 use Rattle.order.specs.Answer.{fault}
 use Rattle.order.specs.declared.Fault.{Fault}
@@ -60,11 +62,11 @@ module _ (n : ℕ) (t : Bytes) (b : ℕ) where
     pub one_crowded : 4 * n < spent → OneSays n t b m spent 0 (fault 0 9) w
     one_crowded h = nothing (fault 0 9) (one_not spent h)
 
-    pub one_out : spent ≤ 4 * n → (x : ℕ) → x ≡ b → n ≤ x → OneSays n t b m spent 0 (fault 0 7) w
-    one_out h x q k = nothing (fault 0 7) (one_is spent h ∙ no_block (omega (arith, q, k)))
+    pub one_out : spent ≤ 4 * n → n ≤ b → OneSays n t b m spent 0 (fault 0 7) w
+    one_out h k = nothing (fault 0 7) (one_is spent h ∙ no_block k)
 
-    walked_at : spent ≤ 4 * n → (count : ℕ) (why : Fault) (w' : List ℕ) → WalkSays n t b m count why w' → OneSays n t b m spent count why w'
-    walked_at h count why w' s = record {
+    pub one_walked : spent ≤ 4 * n → (count : ℕ) (why : Fault) (w' : List ℕ) → WalkSays n t b m count why w' → OneSays n t b m spent count why w'
+    one_walked h count why w' s = record {
       sum = s.sum ∙ sym (ap (λ (c : Salvage). total c.runs) (one_is spent h));
       ended = s.ended ∙ sym (ap (λ (c : Salvage). c.why) (one_is spent h));
       free = s.least;
@@ -72,19 +74,14 @@ module _ (n : ℕ) (t : Bytes) (b : ℕ) where
       long = s.long;
     }
 
-    pub one_walked : spent ≤ 4 * n → (x : ℕ) → x ≡ b → (count : ℕ) (why : Fault) (w' : List ℕ) → WalkSays n t x m count why w' → OneSays n t b m spent count why w'
-    one_walked h x q count why w' s = walked_at h count why w' (subst (λ (y : ℕ). WalkSays n t y m count why w') q s)
-
 -- ---- what is told of it
 
-pub put_done : (e : List ℕ) (at count entry rule r : ℕ) → r ≡ rule
-    → set (set (set e at count) (at + 1) entry) (at + 2) r ≡ set (set (set e at count) (suc at) entry) (suc (suc at)) rule
-put_done e at count entry rule r q =
-    let j : at + 1 ≡ suc at = omega arith in
-    let k : at + 2 ≡ suc (suc at) = omega arith in
-    ap (λ (x : ℕ). set (set (set e at count) x entry) (at + 2) r) j
-    ∙ ap (λ (x : ℕ). set (set (set e at count) (suc at) entry) x r) k
-    ∙ ap (set (set (set e at count) (suc at) entry) (suc (suc at))) q
+-- three places copied over are three places written
+pub put_is : (e : List ℕ) (at : ℕ) (vs ys : List ℕ) (k : ℕ) → ys ≡ vs → k ≡ length vs → at + length vs ≤ length e → put_mid at k e ys ≡ sets e at vs
+put_is e at vs ys k p q h =
+    ap (λ (r : List ℕ). put_mid at k e r) p ∙ ap (λ (j : ℕ). put_mid at j e vs) q
+    ∙ ap (λ (r : List ℕ). take at e ++ (vs ++ r)) (drop-drop (length vs) at e)
+    ∙ sym (append_assoc (take at e) vs (drop (at + length vs) e)) ∙ sym (sets-eq vs e at h)
 
 -- ---- its blocks
 
@@ -97,21 +94,15 @@ module _ (n : ℕ) (t : Bytes) (b spent count : ℕ) (l : List ℕ) (at : ℕ) (
   number_none e =
       sym (ap (sets l at) (none_left (blocks_of (one n t b spent).runs) (length_blocks (one n t b spent).runs ∙ sym a.sum ∙ e)))
 
-  module _ (h : count ≡ 0 → ⊥) (x : ℕ) (q : x ≡ b) where
+  module _ (h : count ≡ 0 → ⊥) where
     some : (one n t b spent ≡ salvaged n t b) × (b < n)
     some = one_some n t b spent (λ e. h (a.sum ∙ e))
 
-    number_sum : count ≡ total (salvaged n t x).runs
-    number_sum = a.sum ∙ ap (λ (c : Salvage). total c.runs) some.0 ∙ ap (λ (y : ℕ). total (salvaged n t y).runs) (sym q)
+    pub number_may : ((n ≤ 1000000) × (b < n)) × ((count ≡ total (salvaged n t b).runs) × (at + count ≤ length l))
+    number_may = ((a.small, some.1), (a.sum ∙ ap (λ (c : Salvage). total c.runs) some.0, a.fits))
 
-    pub number_may : (length t ≡ 8 * (n + 1)) × (((n ≤ 1000000) × (x < n)) × ((count ≡ total (salvaged n t x).runs) × (at + count ≤ length l)))
-    number_may = (a.room, ((a.small, omega (arith, q, some.1)), (number_sum, a.fits)))
-
-    pub number_done : (l' : List ℕ) → l' ≡ sets l at (blocks_of (salvaged n t x).runs) → l' ≡ sets l at (blocks_of (one n t b spent).runs)
-    number_done l' p =
-        p
-        ∙ ap (λ (y : ℕ). sets l at (blocks_of (salvaged n t y).runs)) q
-        ∙ sym (ap (λ (c : Salvage). sets l at (blocks_of c.runs)) some.0)
+    pub number_done : (l' : List ℕ) → l' ≡ sets l at (blocks_of (salvaged n t b).runs) → l' ≡ sets l at (blocks_of (one n t b spent).runs)
+    number_done l' p = p ∙ sym (ap (λ (c : Salvage). sets l at (blocks_of c.runs)) some.0)
 
 -- ---- how many there are
 
@@ -132,26 +123,11 @@ summing_begin n t firsts w a = record {
 }
 
 module _ (n : ℕ) (t : Bytes) (firsts w : List ℕ) (at i : ℕ) (g : Summing n t firsts w at i) where
-  pub summing_may : MayJudge n t w (i + 1) at
-  summing_may = g.next
-
-  pub summing_end : length firsts ≤ i → Summed n t firsts at w
-  summing_end h = record {
-    sum = omega (arith, g.is, ap (λ (bs : List ℕ). many (chains_from n t bs at)) (drop_of_length-le firsts {i = i} h));
-    long = g.next.sized.long;
-  }
-
   module _ (h : i < length firsts) (count : ℕ) (why : Fault) (w' : List ℕ) (s : OneSays n t (get_or firsts i 0) (i + 1) at count why w') where
     left : many (chains_from n t (drop i firsts) at) ≡ count + many (rest n t firsts at i count)
     left =
         ap (λ (bs : List ℕ). many (chains_from n t bs at)) (from_at firsts i h)
         ∙ ap (λ (k : ℕ). k + many (chains_from n t (drop (i + 1) firsts) (at + k))) (sym s.sum)
-
-    pub summing_fits : at + count < 18446744073709551616
-    summing_fits = omega (arith, s.few, g.next.sized.small)
-
-    pub summing_room : at + count ≤ many (chains n t firsts)
-    summing_room = omega (arith, g.is, left)
 
     pub summing_on : Summing n t firsts w' (at + count) (i + 1)
     summing_on = record {
@@ -174,33 +150,8 @@ unfolding chains
 writing_begin n t firsts w e l a = record { before = summing_begin n t firsts w a; told_is = refl; list_is = refl; told_long = refl; list_long = refl }
 
 module _ (n : ℕ) (t : Bytes) (firsts e₀ l₀ w e l : List ℕ) (at i : ℕ) (g : Writing n t firsts e₀ l₀ w e l at i) where
-  pub writing_may : MayJudge n t w (i + 1) at
-  writing_may = g.before.next
-
-  pub writing_end : length firsts ≤ i → Wrote n t firsts e₀ l₀ e l w at
-  writing_end h = record {
-    told_is = sym (g.told_is ∙ ap (λ (bs : List ℕ). sets e (3 * i) (ends_of (chains_from n t bs at))) (drop_of_length-le firsts {i = i} h));
-    list_is = sym (g.list_is ∙ ap (λ (bs : List ℕ). sets l at (followed (chains_from n t bs at))) (drop_of_length-le firsts {i = i} h));
-    sum = (summing_end n t firsts w at i g.before h).sum;
-    long = g.before.next.sized.long;
-  }
-
   module _ (a : Rooms n t firsts e₀ l₀) (h : i < length firsts) where
-    pub writing_three : 3 * i + 3 ≤ length e
-    writing_three = omega (arith, a.three, h, g.told_long)
-
     module _ (count : ℕ) (why : Fault) (w' : List ℕ) (s : OneSays n t (get_or firsts i 0) (i + 1) at count why w') where
-      pub writing_fits : at + count < 18446744073709551616
-      writing_fits = summing_fits n t firsts w at i g.before h count why w' s
-
-      pub writing_number : MayNumber n t (get_or firsts i 0) at count l at
-      writing_number = record {
-        room = g.before.next.sized.room;
-        small = g.before.next.sized.small;
-        sum = s.sum;
-        fits = omega (arith, summing_room n t firsts w at i g.before h count why w' s, a.blocks, g.list_long);
-      }
-
       pub writing_on : (e' l' : List ℕ) → e' ≡ sets e (3 * i) (told count why) → l' ≡ sets l at (blocks_of (one n t (get_or firsts i 0) at).runs)
           → Writing n t firsts e₀ l₀ w' e' l' (at + count) (i + 1)
       writing_on e' l' p q =

@@ -61,8 +61,6 @@ module _ (n : ℕ) (t : Bytes) (w₀ w₁ w firsts l₀ ks : List ℕ) (a : MayS
     pub shares : (list w'' : List ℕ) → TellsAll n t w' firsts ks list → w'' ≡ replicate (length w') 0 → Shares n t firsts list w''
     shares list w'' f z = record { told = all_told list f; clear = all_clear n w'' w' z (b.long ∙ clear_long n w clear) }
 
-module _ (n : ℕ) (t : Bytes) (w₀ w firsts list : List ℕ) (a : Sized n t w₀) (e : w ≡ replicate (length w₀) 0) where
-
 -- ---- the rows of sizes and work list
 
 module _ (t : Bytes) (work firsts : List ℕ) (n : ℕ) (f : Fitting t (length firsts) (length work) n) where

@@ -2,12 +2,14 @@
 use Rattle.salvage_chains.proofs.Loops.{number_none, number_may, number_done}
 use Rattle.salvage_chains.proofs.number_one.Goals as goal
 
-pub returns-then-count-eq0 : goal.returns-then-count-eq0
-returns-then-count-eq0 c = search (number_none)
+pub number_chain-requires-clause-n_bound : goal.number_chain-requires-clause-n_bound
+number_chain-requires-clause-n_bound c = (number_may _ _ _ _ _ _ _ c.requires c.if-count-ne0.true).0
 
-pub number_chain-requires : goal.number_chain-requires
-number_chain-requires c =
-    let r = number_may _ _ _ _ _ _ _ c.requires c.if-count-eq0.false _ c.wide.ensures in record { table_len = r.0; n_bound = r.1.0; count_value = r.1.1 }
+pub number_chain-requires-clause-count_value : goal.number_chain-requires-clause-count_value
+number_chain-requires-clause-count_value c = (number_may _ _ _ _ _ _ _ c.requires c.if-count-ne0.true).1
 
-pub returns : goal.returns
-returns c = search (number_done)
+pub returns-then-count-ne0 : goal.returns-then-count-ne0
+returns-then-count-ne0 c = search (number_done)
+
+pub returns-else-count-ne0 : goal.returns-else-count-ne0
+returns-else-count-ne0 c = search (number_none)

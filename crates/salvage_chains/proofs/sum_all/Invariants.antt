@@ -1,11 +1,6 @@
 -- `salvage_chains::sum_all` meets its contract.
-use lib.ListN.{length}
-use Prim.Native.Nat.{◌-◌}
 use Rattle.salvage_chains.proofs.Loops.{Summing}
 use Rattle.salvage_chains.proofs.sum_all.Given as goal
 
 abbrev pub invariant-loop-i : goal.invariant-loop-i
 invariant-loop-i l = Summing l.n l.table l.firsts l.work l.at l.i
-
-abbrev pub decreases-loop-i : goal.decreases-loop-i
-decreases-loop-i l = length l.firsts - l.i
