@@ -3,19 +3,20 @@ use mathlib.Core.Path.{◌≡◌, refl, sym, ap, ◌∙◌, subst}
 use mathlib.Core.List.{List, [], ◌∷◌}
 use mathlib.Core.Logic.{◌⊎◌, inl, inr, ⊎_elim, ◌≢◌, ◌↔◌}
 use mathlib.Core.Bool.{Bool, true, false, false≢true}
-use Prim.Native.Nat.{ℕ, zero, suc, ◌+◌, ◌-◌, ◌*◌, ◌≤◌, ◌<◌}
+use Prim.Native.Nat.{ℕ, ◌+◌, ◌-◌, ◌≤◌, ◌<◌}
 use native.Mathlib.Omega.{arith}
-use lib.Dec.{eqb}
-use borrow.Author.Tests.{eqb-true, eq-eqb}
-use lib.ListN.{length, get_or, set}
+use lib.ListN.{length, get_or, set, take, drop, length-set}
+use Rattle.std.proofs.lemmas.List.{set-get_or}
+use lib.Seq.{get_or-take, get_or-drop, get_or-set_same, get_or-set_other}
 use Rattle.links.specs.Links.{◌∈◌, Links, Holds}
 use Rattle.links.proofs.Laws.{one_list, positive}
 use Rattle.links.proofs.Held.{same_or}
 use Rattle.order.specs.Tells.{Tells}
 use Rattle.tree_marks.specs.Inner.Marks.{gone, mark_at, Unmarked, Marked, ListMarked, Within}
-use Rattle.tree_marks.proofs.Walks.{le_or_lt, within_refl, within_trans, within_set, mark_same, mark_other}
+use Rattle.tree_marks.proofs.Walks.{le_or_lt, within_refl, within_trans}
+use Rattle.tree_marks.proofs.Parts.{patched, part_within, part_mark, part_room}
 use Rattle.tree_table.specs.View.{Live}
-use Rattle.tree_marks.specs.Inner.Gather.{Gathered, Gathers, any, GoneMarked, DirMarked, GoneKept, ParentMarked}
+use Rattle.tree_marks.specs.Inner.Gather.{Gathered, Gathers, GoneMarked, DirMarked, GoneKept}
 
 pub in_or : (y : ℕ) (xs : List ℕ) → (y ∈ xs) ⊎ (y ∈ xs → ⊥)
 in_or y [] = inr (λ h. h)
@@ -281,65 +282,60 @@ dir_some {nx} {count} {head} {p} {off} {i} {first} {work} {work'} {r} e k f L = 
   some = λ _. subst (λ y. ListMarked nx count y p off work work' r) (f ∙ ap head e) L;
 }
 
--- ---- the loop of keep_gone, before place y
+-- ---- the loop of keep_gone, before place y of the marks
 
-pub record Keeping (off count : ℕ) (work₀ work : List ℕ) (y : ℕ) : Type 0 where
-  pub dead : (z : ℕ) → z < y → mark_at work₀ off z ≡ gone → mark_at work off z ≡ gone
-  pub others : (z : ℕ) → z < y → (mark_at work₀ off z ≡ gone → ⊥) → mark_at work off z ≡ 0
-  pub rest : (z : ℕ) → y ≤ z → mark_at work off z ≡ mark_at work₀ off z
-  pub within : Within off count work₀ work
+pub record Sifting (marks₀ marks : List ℕ) (y : ℕ) : Type 0 where
+  pub size : length marks ≡ length marks₀
+  pub dead : (z : ℕ) → z < y → get_or marks₀ z 0 ≡ gone → get_or marks z 0 ≡ gone
+  pub others : (z : ℕ) → z < y → (get_or marks₀ z 0 ≡ gone → ⊥) → get_or marks z 0 ≡ 0
+  pub rest : (z : ℕ) → y ≤ z → get_or marks z 0 ≡ get_or marks₀ z 0
 
-pub keep_begin : (off count : ℕ) (work : List ℕ) → Keeping off count work work 0
-keep_begin off count work = record {
-  dead = λ z h. absurd (omega arith);
-  others = λ z h. absurd (omega arith);
-  rest = λ z h. refl;
-  within = within_refl off count work;
-}
+pub sift_begin : (marks : List ℕ) → Sifting marks marks 0
+sift_begin marks = record { size = refl; dead = λ z h. absurd (omega arith); others = λ z h. absurd (omega arith); rest = λ z h. refl }
 
-pub keep_on : {off count : ℕ} {work₀ work : List ℕ} {y : ℕ} (i m : ℕ) → Keeping off count work₀ work y → i ≡ y → y < count → off + count ≤ length work
-    → (get_or work (off + i) 0 ≡ gone → m ≡ gone) × ((get_or work (off + i) 0 ≡ gone → ⊥) → m ≡ 0) → Keeping off count work₀ (set work (off + i) m) (y + 1)
-keep_on {off} {count} {work₀} {work} {y} i m K ei hc hl M = record {
-  dead = λ z h g.
-      ⊎_elim
-      (λ (e : z ≡ i). at z e ∙ M.0 (ap (mark_at work off) (sym e) ∙ K.rest z (omega arith) ∙ g))
-      (λ (n : z ≢ i). mark_other work off i m z n ∙ K.dead z (omega arith) g)
-      (same_or z i);
-  others = λ z h g.
-      ⊎_elim
-      (λ (e : z ≡ i). at z e ∙ M.1 (λ (k : mark_at work off i ≡ gone). g (sym (K.rest z (omega arith)) ∙ ap (mark_at work off) e ∙ k)))
-      (λ (n : z ≢ i). mark_other work off i m z n ∙ K.others z (omega arith) g)
-      (same_or z i);
-  rest = λ z h. mark_other work off i m z (omega arith) ∙ K.rest z (omega arith);
-  within = within_trans K.within (within_set off count i m work (omega arith));
-}
-  where
-    at : (z : ℕ) → z ≡ i → mark_at (set work (off + i) m) off z ≡ m
-    at z e = ap (mark_at (set work (off + i) m) off) e ∙ mark_same work off i m (omega arith)
+module _ {marks₀ marks : List ℕ} {y : ℕ} (S : Sifting marks₀ marks y) where
+  kept : get_or marks y 0 ≡ gone → Sifting marks₀ marks (y + 1)
+  kept g = record {
+    size = S.size;
+    dead = λ z h e. ⊎_elim (λ (q : z ≡ y). ap (λ i. get_or marks i 0) q ∙ g) (λ (n : z ≢ y). S.dead z (omega arith) e) (same_or z y);
+    others = λ z h e. ⊎_elim (λ (q : z ≡ y). absurd (e (sym (S.rest z (omega arith)) ∙ ap (λ i. get_or marks i 0) q ∙ g))) (λ (n : z ≢ y). S.others z (omega arith) e) (same_or z y);
+    rest = λ z h. S.rest z (omega arith);
+  }
 
-pub keep_done : {off count : ℕ} {work₀ work : List ℕ} {y : ℕ} → Keeping off count work₀ work y → count ≤ y → GoneKept off count work₀ work
-keep_done K h = record { dead = λ z l. K.dead z (omega arith); others = λ z l. K.others z (omega arith); within = K.within }
+  out : y < length marks → (get_or marks y 0 ≡ gone → ⊥) → Sifting marks₀ (set marks y 0) (y + 1)
+  out l g = record {
+    size = length-set marks y 0 ∙ S.size;
+    dead = λ z h e.
+        ⊎_elim (λ (q : z ≡ y). absurd (g (ap (λ i. get_or marks i 0) (sym q) ∙ S.rest z (omega arith) ∙ e)))
+        (λ (n : z ≢ y). get_or-set_other marks y z 0 0 n ∙ S.dead z (omega arith) e) (same_or z y);
+    others = λ z h e.
+        ⊎_elim (λ (q : z ≡ y). ap (λ i. get_or (set marks y 0) i 0) q ∙ get_or-set_same marks y 0 0 l)
+        (λ (n : z ≢ y). get_or-set_other marks y z 0 0 n ∙ S.others z (omega arith) e) (same_or z y);
+    rest = λ z h. get_or-set_other marks y z 0 0 (λ q. omega arith) ∙ S.rest z (omega arith);
+  }
 
--- ---- named, and the loop of check_parents
+  pub sift_kept : {marks' : List ℕ} → marks' ≡ set marks y (get_or marks y 0) → get_or marks y 0 ≡ gone → Sifting marks₀ marks' (y + 1)
+  sift_kept e g = subst (λ (z : List ℕ). Sifting marks₀ z (y + 1)) (sym (e ∙ set-get_or marks y 0)) (kept g)
 
-pub named_gone : (root y mark parent : ℕ) → mark ≡ gone → Tells (ParentMarked root y mark parent) true
-named_gone root y mark parent e = record { yes = λ _. inl e; only = λ _. refl }
+  pub sift_out : {marks' : List ℕ} → marks' ≡ set marks y 0 → y < length marks → (get_or marks y 0 ≡ gone → ⊥) → Sifting marks₀ marks' (y + 1)
+  sift_out e l g = subst (λ (z : List ℕ). Sifting marks₀ z (y + 1)) (sym e) (out l g)
 
-pub named_other : (root y mark parent : ℕ) → (mark ≡ gone → ⊥) → (mark ≡ parent → ⊥) → Tells (ParentMarked root y mark parent) false
-named_other root y mark parent g n = record {
-  yes = λ e. absurd (false≢true e);
-  only = λ p. absurd (⊎_elim g (λ (q : (mark ≡ parent) × ((0 < mark) ⊎ (y ≡ root))). n q.0) p);
-}
+-- the part of the work list that was gone through, back in its place
+pub sift_done : (work : List ℕ) {marks : List ℕ} (off count i : ℕ) {y : ℕ} → i ≡ count → off + count ≤ length work → Sifting (take (off + i - off) (drop off work)) marks y
+    → length (take (off + i - off) (drop off work)) ≤ y → GoneKept off count work (patched work off (off + i - off) marks)
+sift_done work {marks} off count i {y} e h S l =
+    let r : length (take (off + i - off) (drop off work)) ≡ count = part_room work off i count e h in
+    let k : off + i - off ≡ count = omega arith in
+    let m : length marks ≡ off + i - off = S.size ∙ r ∙ sym k in
+    let was : (z : ℕ) → z < count → get_or (take (off + i - off) (drop off work)) z 0 ≡ mark_at work off z =
+    λ z g. get_or-take (off + i - off) (drop off work) z 0 (omega arith) ∙ get_or-drop off work z 0 in
+    record {
+      dead = λ z g d. part_mark work marks off count (off + i - off) h k m z g ∙ S.dead z (omega arith) (was z g ∙ d);
+      others = λ z g d. part_mark work marks off count (off + i - off) h k m z g ∙ S.others z (omega arith) (λ q. d (sym (was z g) ∙ q));
+      within = part_within work marks off count (off + i - off) h k m;
+    }
 
-pub named_some : (root y mark parent : ℕ) → mark ≡ parent → (mark ≡ 0 → ⊥) → Tells (ParentMarked root y mark parent) true
-named_some root y mark parent e n = record { yes = λ _. inr (e, inl (omega arith)); only = λ _. refl }
-
-pub named_root : (root y mark parent : ℕ) (r : Bool) → mark ≡ parent → mark ≡ 0 → r ≡ eqb y root → Tells (ParentMarked root y mark parent) r
-named_root root y mark parent r e z t = record {
-  yes = λ q. inr (e, inr (eqb-true y root (sym t ∙ q)));
-  only = λ p. t ∙ eq-eqb y root (⊎_elim (λ (g : mark ≡ gone). absurd (omega arith))
-      (λ (q : (mark ≡ parent) × ((0 < mark) ⊎ (y ≡ root))). ⊎_elim (λ (a : 0 < mark). absurd (omega arith)) (λ (a : y ≡ root). a) q.1) p);
-}
+-- ---- the loop of check_parents
 
 pub record Checking (P : ℕ → Type 0) (y : ℕ) : Type 0 where
   pub some : 0 < y

@@ -1,3 +1,4 @@
 pub mod Walks
 pub mod Gathering
 pub mod Climbing
+pub mod Parts

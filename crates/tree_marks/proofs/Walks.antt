@@ -1,22 +1,19 @@
 -- Going along a list and marking its entries.
 use mathlib.Core.Path.{◌≡◌, refl, sym, ap, ◌∙◌, subst}
 use mathlib.Core.List.{List, [], ◌∷◌, ◌++◌}
-use mathlib.Core.Logic.{◌⊎◌, inl, inr, ⊎_elim, ◌≢◌, ◌↔◌}
-use mathlib.Core.Bool.{Bool, true, false, false≢true}
-use Prim.Native.Nat.{ℕ, zero, suc, ◌+◌, ◌-◌, ◌*◌, ◌≤◌, ◌<◌}
+use mathlib.Core.Logic.{◌⊎◌, inl, inr, ⊎_elim, ◌≢◌}
+use mathlib.Core.Bool.{true, false, false≢true}
+use Prim.Native.Nat.{ℕ, zero, suc, ◌+◌, ◌*◌, ◌≤◌, ◌<◌}
 use native.Mathlib.Omega.{arith}
 use native.Mathlib.Nat.{mul-le-mul_right, suc-mul}
 use native.Mathlib.Decide.{dec_lt}
-use lib.Dec.{ltb}
+use Rattle.std.proofs.Common.{Option, Some, None}
 use lib.ListN.{length, get_or, set, length-set, length-append}
 use lib.Seq.{get_or-set_same, get_or-set_other}
 use Rattle.links.specs.Links.{◌∈◌, Links}
-use Rattle.links.proofs.Held.{same_or}
 use Rattle.links.proofs.Laws.{one_list}
-use borrow.Author.Tests.{lt-ltb}
 use Rattle.links.proofs.Way.{Way, way_on, way_end, way_new, in_left, in_right}
-use Rattle.tree_table.specs.Chain.{link_at}
-use Rattle.tree_marks.specs.Inner.Marks.{gone, mark_at, Within, Unmarked, Marked, ListMarked, ListCounted}
+use Rattle.tree_marks.specs.Inner.Marks.{mark_at, Within, Unmarked, Marked, ListMarked, ListCounted}
 
 pub in_snoc : (y x : ℕ) (ps : List ℕ) → y ∈ (ps ++ x ∷ []) → (y ∈ ps) ⊎ (y ≡ x)
 in_snoc y x [] (inr m) = elim m [ ]
@@ -37,6 +34,10 @@ abbrev pub zeros : List ℕ → ℕ
 zeros [] = 0
 zeros (zero ∷ xs) = suc (zeros xs)
 zeros (suc x ∷ xs) = zeros xs
+
+-- no number is none
+pub none_some : {n : ℕ} → ◌≡◌ {A = Option ℕ} None (Some n) → ⊥
+none_some e = let z : ◌≡◌ {A = ℕ} 0 1 = cc in omega arith
 
 pub zeros_set : (l : List ℕ) (i m : ℕ) → i < length l → get_or l i 0 ≡ 0 → 0 < m → zeros (set l i m) < zeros l
 zeros_set [] i m h z p = absurd (omega arith)
@@ -171,11 +172,11 @@ zeros_few (suc x ∷ xs) = let r : zeros xs ≤ length xs = zeros_few xs in omeg
 
 pub record Counting (nx : ℕ → ℕ) (count first m off : ℕ) (work₀ work : List ℕ) (x n : ℕ) : Type 0 where
   pub going : Going nx count first m off work₀ work x
-  pub size : n ≡ length going.ps + 1
+  pub size : n ≡ length going.ps
   -- each entry that was passed took one of the places that held 0
-  pub room : n + zeros work ≤ length work₀ + 1
+  pub room : n + zeros work ≤ length work₀
 
-pub counting_begin : (nx : ℕ → ℕ) (count first m off : ℕ) (work : List ℕ) → Counting nx count first m off work work first 1
+pub counting_begin : (nx : ℕ → ℕ) (count first m off : ℕ) (work : List ℕ) → Counting nx count first m off work work first 0
 unfolding going_begin
 counting_begin nx count first m off work = record { going = going_begin nx count first m off work; size = refl; room = (let z : zeros work ≤ length work = zeros_few work in omega arith) }
 
@@ -185,27 +186,34 @@ pub counting_on : {nx : ℕ → ℕ} {count first m off : ℕ} {work₀ work : L
 unfolding going_on
 counting_on {nx} {count} {first} {m} {off} {work₀} {work} {x} {n} i y C hm hi hc hz hl ei ey = record {
   going = going_on i y C.going hm hi hc hz hl ei ey;
-  size = (let s : n ≡ length C.going.ps + 1 = C.size in omega (arith, length-append C.going.ps (i ∷ [])));
-  room = (let z : zeros (set work (off + i) m) < zeros work = zeros_set work (off + i) m (omega arith) hz hm in let r : n + zeros work ≤ length work₀ + 1 = C.room in omega arith);
+  size = (let s : n ≡ length C.going.ps = C.size in omega (arith, length-append C.going.ps (i ∷ [])));
+  room = (let z : zeros (set work (off + i) m) < zeros work = zeros_set work (off + i) m (omega arith) hz hm in let r : n + zeros work ≤ length work₀ = C.room in omega arith);
 }
 
+-- one more entry, at a place that holds 0
+pub counting_room : {nx : ℕ → ℕ} {count first m off : ℕ} {work₀ work : List ℕ} {x n : ℕ} (i : ℕ) → Counting nx count first m off work₀ work x n
+    → i < length work → get_or work i 0 ≡ 0 → n < length work₀
+counting_room {nx} {count} {first} {m} {off} {work₀} {work} {x} {n} i C h z =
+    let s : zeros (set work i 1) < zeros work = zeros_set work i 1 h z (omega arith) in
+    let r : n + zeros work ≤ length work₀ = C.room in
+    omega arith
+
 pub counting_past : {nx : ℕ → ℕ} {count first m off : ℕ} {work₀ work : List ℕ} {x n : ℕ} → Counting nx count first m off work₀ work x n
-    → 0 < m → (x ≡ 0 → ⊥) → count ≤ x → ListCounted nx count first m off work₀ work 0
-counting_past C hm hx h = record { listed = going_past C.going hm hx h; size = λ p. absurd (omega arith) }
+    → 0 < m → (x ≡ 0 → ⊥) → count ≤ x → ListCounted nx count first m off work₀ work None
+counting_past C hm hx h = record { listed = going_past C.going hm hx h; size = λ n e. absurd (none_some e) }
 
 pub counting_met : {nx : ℕ → ℕ} {count first m off : ℕ} {work₀ work : List ℕ} {x n : ℕ} (i : ℕ) → Counting nx count first m off work₀ work x n
-    → 0 < m → (x ≡ 0 → ⊥) → i ≡ x → (get_or work (off + i) 0 ≡ 0 → ⊥) → ListCounted nx count first m off work₀ work 0
-counting_met i C hm hx ei h = record { listed = going_met i C.going hm hx ei h; size = λ p. absurd (omega arith) }
+    → 0 < m → (x ≡ 0 → ⊥) → i ≡ x → (get_or work (off + i) 0 ≡ 0 → ⊥) → ListCounted nx count first m off work₀ work None
+counting_met i C hm hx ei h = record { listed = going_met i C.going hm hx ei h; size = λ n e. absurd (none_some e) }
 
-pub counting_end : {nx : ℕ → ℕ} {count first m off : ℕ} {work₀ work : List ℕ} {x n : ℕ} → Counting nx count first m off work₀ work x n → x ≡ 0 → ListCounted nx count first m off work₀ work n
+pub counting_end : {nx : ℕ → ℕ} {count first m off : ℕ} {work₀ work : List ℕ} {x n : ℕ} → Counting nx count first m off work₀ work x n → x ≡ 0 → ListCounted nx count first m off work₀ work (Some n)
 counting_end {nx} {count} {first} {m} {off} {work₀} {work} {x} {n} C e =
-    let s : n ≡ length C.going.ps + 1 = C.size in
-    let t : ltb 0 n ≡ true = lt-ltb 0 n (omega arith) in
     record {
-      listed = subst (λ b. ListMarked nx count first m off work₀ work b) (sym t) (going_end C.going e);
-      size = λ _ xs l.
-          let q : xs ≡ C.going.ps = one_list nx first first xs C.going.ps refl l (way_end nx first C.going.ps (subst (λ z. Way nx first C.going.ps z) e C.going.walked.way)) in
-          omega (arith, ap length q);
+      listed = going_end C.going e;
+      size = λ k q xs l.
+          let s : n ≡ k = cc in
+          let t : xs ≡ C.going.ps = one_list nx first first xs C.going.ps refl l (way_end nx first C.going.ps (subst (λ z. Way nx first C.going.ps z) e C.going.walked.way)) in
+          sym s ∙ C.size ∙ sym (ap length t);
     }
 
 pub entry_in : (w x count n : ℕ) → x < count → count * w ≤ n → x * w + w ≤ n

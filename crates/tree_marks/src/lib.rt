@@ -10,7 +10,7 @@ ghost use Rattle.tree_table.specs.View.{Live};
 ghost use Rattle.tree_marks.specs.Inner.Gather.{Gathered, Gathers, GoneMarked, DirMarked, ParentMarked, GoneKept};
 ghost use Rattle.tree_marks.specs.Inner.Climb.{Tops, Flat, Risen, AllRisen};
 
-// Goes along a list and marks its entries. It answers one more than their number; 0 where it comes to an entry that is not below count, or that is marked.
+// Goes along a list and marks its entries. It answers their number; None where it comes to an entry that is not below count, or that is marked.
 pub fn mark_counted(
     table: &[u8],
     w: usize,
@@ -20,25 +20,25 @@ pub fn mark_counted(
     work: &mut [u32],
     off: usize,
     m: u32,
-) -> usize
+) -> Option<usize>
     requires { (count * w ≤ length table.now) × (link + 4 ≤ w) × (off + count ≤ length work.old) × (0 < m) }
     ensures { ListCounted (link_at table.now w link) count first m off work.old work.new result }
 {
     let mut x = first;
-    let mut answer: usize = 1;
+    let mut n = 0;
     while x != 0 {
         if x >= count {
-            return 0;
+            return None;
         }
         let i = tree_table::index(x);
         if work[off + i] != 0 {
-            return 0;
+            return None;
         }
         work[off + i] = m;
-        answer += 1;
+        n += 1;
         x = words::get_u32(table, i * w + link);
     }
-    answer
+    Some(n)
 }
 
 // The same where the number is not asked for.
@@ -55,7 +55,7 @@ pub fn mark_list(
     requires { (count * w ≤ length table.now) × (link + 4 ≤ w) × (off + count ≤ length work.old) × (0 < m) }
     ensures { ListMarked (link_at table.now w link) count first m off work.old work.new result }
 {
-    0 < mark_counted(table, w, link, count, first, work, off, m)
+    mark_counted(table, w, link, count, first, work, off, m).is_some()
 }
 
 // The mark of a removed entry.
@@ -112,21 +112,12 @@ pub fn mark_children(
         → Gathers (link_at table.now w (start w next_field)) count (link_at dirs.now 40 head) (Live bound RD) bound off R work.new result)
         × Within off count work.old work.new }
 {
-    let mut p: u32 = 1;
-    while p < bound {
+    for p in 1..bound {
         if !mark_dir(dirs, p, head, table, w, count, work, off) {
             return false;
         }
-        p += 1;
     }
     true
-}
-
-// A mark that stays only where it is that of a removed entry.
-fn kept(mark: u32) -> u32
-    ensures { (mark ≡ gone → result ≡ gone) × ((mark ≡ gone → ⊥) → result ≡ 0) }
-{
-    if mark == GONE { GONE } else { 0 }
 }
 
 // Takes away every mark but those of the removed entries.
@@ -134,12 +125,11 @@ pub fn keep_gone(work: &mut [u32], off: usize, count: u32)
     requires { off + count ≤ length work.old }
     ensures { GoneKept off count work.old work.new }
 {
-    let mut y: u32 = 0;
-    while y < count {
-        let i = off + tree_table::index(y);
-        let m = work[i];
-        work[i] = kept(m);
-        y += 1;
+    let end = off + tree_table::index(count);
+    for mark in &mut work[off..end] {
+        if *mark != GONE {
+            *mark = 0;
+        }
     }
 }
 
@@ -147,16 +137,7 @@ pub fn keep_gone(work: &mut [u32], off: usize, count: u32)
 fn named(root: u32, y: u32, mark: u32, parent: u32) -> bool
     ensures { Tells (ParentMarked root y mark parent) result }
 {
-    if mark == GONE {
-        return true;
-    }
-    if mark != parent {
-        return false;
-    }
-    if mark != 0 {
-        return true;
-    }
-    y == root
+    mark == GONE || mark == parent && (mark != 0 || y == root)
 }
 
 // Where an entry names its parent.
@@ -174,8 +155,7 @@ pub fn check_parents(
     requires { (count * w ≤ length table.now) × (4 ≤ w) × (off + count ≤ length work.now) }
     ensures { Tells ((y : ℕ) → 0 < y → y < count → ParentMarked root y (mark_at work.now off y) (link_at table.now w 0 y)) result }
 {
-    let mut y: u32 = 1;
-    while y < count {
+    for y in 1..count {
         let i = tree_table::index(y);
         if !named(
             root,
@@ -185,7 +165,6 @@ pub fn check_parents(
         ) {
             return false;
         }
-        y += 1;
     }
     true
 }
@@ -196,16 +175,16 @@ fn climbs(work: &[u32], count: u32, y: u32) -> bool
     ensures { Tells (Tops count work.now y) result }
 {
     let mut x = y;
-    let mut n: u32 = 0;
+    let mut steps = 0;
     while x != 0 {
         if x >= count {
             return false;
         }
-        if n == count {
+        if steps == count {
             return false;
         }
         x = work[tree_table::index(x)];
-        n += 1;
+        steps += 1;
     }
     true
 }
@@ -245,12 +224,10 @@ pub fn all_reach(work: &mut [u32], count: u32) -> bool
     requires { count ≤ length work.old }
     ensures { AllRisen count work.old work.new result }
 {
-    let mut y: u32 = 1;
-    while y < count {
+    for y in 1..count {
         if !rises(work, count, y) {
             return false;
         }
-        y += 1;
     }
     true
 }

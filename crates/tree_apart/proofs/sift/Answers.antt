@@ -1,5 +1,6 @@
 -- `sift` meets its contract.
-use Rattle.tree_apart.proofs.Differing.{part_bounded, part_within, part_room}
+use Rattle.tree_marks.proofs.Parts.{part_within, part_room}
+use Rattle.tree_apart.proofs.Differing.{part_bounded}
 use Prim.Native.Nat.{◌+◌, ◌-◌}
 use native.Mathlib.Omega.{arith}
 use Rattle.tree_apart.proofs.sift.Goals as goal

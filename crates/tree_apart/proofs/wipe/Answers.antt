@@ -1,5 +1,6 @@
 -- `wipe` meets its contract.
-use Rattle.tree_apart.proofs.Differing.{part_wiped, part_room}
+use Rattle.tree_marks.proofs.Parts.{part_room}
+use Rattle.tree_apart.proofs.Differing.{part_wiped}
 use Prim.Native.Nat.{◌+◌, ◌-◌}
 use native.Mathlib.Omega.{arith}
 use lib.ListN.{length, take, drop}

@@ -1,10 +1,6 @@
 -- `all_reach` meets its contract.
-use Prim.Native.Nat.{◌-◌}
 use Rattle.tree_marks.proofs.Climbing.{Reaching}
 use Rattle.tree_marks.proofs.all_reach.Given as goal
 
 abbrev pub invariant-loop-y : goal.invariant-loop-y
 invariant-loop-y l = Reaching l.count l.initial.work l.work l.y
-
-abbrev pub decreases-loop-y : goal.decreases-loop-y
-decreases-loop-y l = l.count - l.y

@@ -1,6 +1,5 @@
 -- `climbs` meets its contract.
 use mathlib.Core.Path.{refl}
-use Prim.Native.Nat.{◌-◌}
 use borrow.Author.Rules.{rules}
 use Rattle.tree_marks.proofs.Climbing.{climb_begin, climb_on, climb_end, climb_past, climb_long}
 use Rattle.tree_marks.proofs.climbs.Goals as goal
@@ -11,8 +10,8 @@ loop-x-init c = climb_begin _ _ _
 pub returns-then-x-count : goal.returns-then-x-count
 returns-then-x-count c = climb_past c.loop-x.invariant (search rules) (search rules)
 
-pub returns-then-n-count : goal.returns-then-n-count
-returns-then-n-count c = climb_long c.loop-x.invariant (search rules) (search rules) (search rules)
+pub returns-then-steps-count : goal.returns-then-steps-count
+returns-then-steps-count c = climb_long c.loop-x.invariant (search rules) (search rules) (search rules)
 
 pub loop-x-preserved : goal.loop-x-preserved
 loop-x-preserved c = climb_on c.loop-x.invariant _ _ c.index.ensures (search rules) (search rules) (search rules) refl

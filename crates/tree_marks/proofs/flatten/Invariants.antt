@@ -1,5 +1,4 @@
 -- `flatten` meets its contract.
-use Prim.Native.Nat.{◌-◌}
 use Rattle.tree_marks.proofs.Climbing.{Flattening, marks_left}
 use Rattle.tree_marks.proofs.flatten.Given as goal
 

@@ -1,14 +1,17 @@
--- `keep_gone` meets its contract.
-use Prim.Native.Nat.{◌-◌}
-use borrow.Author.Rules.{rules}
-use Rattle.tree_marks.proofs.Gathering.{keep_begin, keep_on, keep_done}
+use native.Mathlib.Omega.{arith}
+use Rattle.tree_marks.proofs.Gathering.{sift_begin, sift_kept, sift_out, sift_done}
 use Rattle.tree_marks.proofs.keep_gone.Goals as goal
+use Rattle.tree_marks.proofs.keep_gone.Goals.{then-mark-ne-GONE, else-mark-ne-GONE}
 
-pub loop-y-init : goal.loop-y-init
-loop-y-init c = keep_begin _ _ _
+pub loop-mark-init : goal.loop-mark-init
+loop-mark-init c = sift_begin _
 
-pub loop-y-preserved : goal.loop-y-preserved
-loop-y-preserved c = keep_on _ _ c.loop-y.invariant c.index.ensures (search rules) (search rules) c.kept.ensures
+pub loop-mark-preserved : goal.loop-mark-preserved
+loop-mark-preserved c =
+    elim c.if-mark-ne-GONE.branch [
+      | then-mark-ne-GONE w ↦ sift_out c.loop-mark.invariant w.mark-items-is (omega arith) w.if-mark-ne-GONE.true
+      | else-mark-ne-GONE w ↦ sift_kept c.loop-mark.invariant w.mark-items-is w.if-mark-ne-GONE.false
+    ]
 
 pub returns : goal.returns
-returns c = keep_done c.loop-y.invariant (search rules)
+returns c = sift_done c.args.work.now c.args.off c.args.count c.index.result c.index.ensures c.requires c.loop-mark.invariant c.loop-mark-test.false

@@ -1,5 +1,4 @@
 -- `mark_children` meets its contract.
-use Prim.Native.Nat.{◌-◌}
 use native.Mathlib.Omega.{arith}
 use borrow.Author.Tests.{not-true, not-false}
 use Rattle.tree_marks.proofs.Gathering.{children_begin, children_on, children_stop, children_done}

@@ -4,7 +4,7 @@ use Rattle.tree_marks.proofs.Walks.{zeros, Counting}
 use Rattle.tree_marks.proofs.mark_counted.Given as goal
 
 abbrev pub invariant-loop-x : goal.invariant-loop-x
-invariant-loop-x l = Counting (link_at l.table l.w l.link) l.count l.first l.m l.off l.initial.work l.work l.x l.answer
+invariant-loop-x l = Counting (link_at l.table l.w l.link) l.count l.first l.m l.off l.initial.work l.work l.x l.n
 
 abbrev pub decreases-loop-x : goal.decreases-loop-x
 decreases-loop-x l = zeros l.work

@@ -1,5 +1,4 @@
 -- `mark_dir` meets its contract.
-use Prim.Native.Nat.{◌-◌}
 use Rattle.tree_marks.proofs.Gathering.{dir_none, dir_some}
 use Rattle.tree_marks.proofs.mark_dir.Goals as goal
 

@@ -1,6 +1,5 @@
 -- `rises` meets its contract.
 use mathlib.Core.Path.{refl}
-use Prim.Native.Nat.{◌-◌}
 use borrow.Author.Tests.{not-true, not-false}
 use Rattle.tree_marks.proofs.Climbing.{rises_gone, rises_not, rises_up}
 use borrow.Author.Rules.{rules}

@@ -1,5 +1,6 @@
 -- What the walks of the tree's test promise: lists gone along, with marks left in the work list.
-use Rattle.std.specs.Prelude.{◌≡◌, List, Bool, true, false, ℕ, ◌+◌, ◌≤◌, ◌<◌, ltb, length, get_or}
+use Rattle.std.specs.Prelude.{◌≡◌, List, Option, Some, Bool, true, false, ℕ, ◌+◌, ◌≤◌, ◌<◌, length, get_or}
+use Rattle.std.specs.Option.{is_some}
 use Rattle.links.specs.Links.{◌∈◌, Links}
 
 -- the mark of a removed entry; more than any bucket's number counted from 1, and any inode
@@ -35,7 +36,7 @@ pub record ListMarked (nx : ℕ → ℕ) (count first m off : ℕ) (work work' :
   pub bad : r ≡ false → (xs : List ℕ) → Links nx first xs → Unmarked count (mark_at work off) xs → ⊥
   pub within : Within off count work work'
 
--- the same where the walk answers one more than the list's length, or 0
-pub record ListCounted (nx : ℕ → ℕ) (count first m off : ℕ) (work work' : List ℕ) (n : ℕ) : Type 0 where
-  pub listed : ListMarked nx count first m off work work' (ltb 0 n)
-  pub size : 0 < n → (xs : List ℕ) → Links nx first xs → n ≡ length xs + 1
+-- the same where the walk answers the list's length, or none
+pub record ListCounted (nx : ℕ → ℕ) (count first m off : ℕ) (work work' : List ℕ) (r : Option ℕ) : Type 0 where
+  pub listed : ListMarked nx count first m off work work' (is_some r)
+  pub size : (n : ℕ) → r ≡ Some n → (xs : List ℕ) → Links nx first xs → n ≡ length xs
