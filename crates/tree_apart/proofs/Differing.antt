@@ -1,18 +1,16 @@
 -- A bucket's entries have no equal key behind them exactly if the keys at its places differ pairwise.
-use mathlib.Core.Path.{◌≡◌, refl, sym, ap, ap₂, ◌∙◌, subst}
+use mathlib.Core.Path.{◌≡◌, refl, sym, ap, ◌∙◌, subst}
 use mathlib.Core.List.{List, [], ◌∷◌, ◌++◌}
-use mathlib.Core.Logic.{◌⊎◌, inl, inr, ⊎_elim, ◌≢◌}
+use mathlib.Core.Logic.{inl, inr, ⊎_elim, ◌≢◌}
 use mathlib.Core.Bool.{Bool, true, false, false≢true}
-use Prim.Native.Nat.{ℕ, zero, suc, ◌+◌, ◌-◌, ◌*◌, ◌/◌, ◌≤◌, ◌<◌}
+use Prim.Native.Nat.{ℕ, zero, suc, ◌+◌, ◌-◌, ◌/◌, ◌≤◌, ◌<◌}
 use native.Mathlib.Omega.{arith}
-use lib.Dec.{ltb}
 use borrow.Author.Tests.{lt-ltb, le-ltb}
-use lib.ListN.{length, get_or, take, drop, replicate, get_or-replicate, length-append, length-drop, get_or-append}
-use lib.Seq.{take_at, length-take-le, get_or-take, get_or-drop, get_or-append-add}
+use lib.ListN.{length, get_or, take, drop, replicate, get_or-replicate, length-append}
+use lib.Seq.{take_at}
 use Rattle.links.specs.Links.{◌∈◌, Links}
-use Rattle.links.proofs.Held.{same_or}
 use Rattle.tree_table.specs.Field.{field}
-use Rattle.tree_table.specs.View.{key_at}
+use Rattle.tree_table.specs.View.{key_at, hash_at}
 use Rattle.tree_table.specs.Chain.{link_at, list_at, Ends}
 use Rattle.tree_table.proofs.Chain.{goes, stops}
 use Rattle.order.specs.Tells.{Tells}
@@ -21,7 +19,7 @@ use Rattle.tree_marks.specs.Inner.Gather.{bucket_at}
 use Rattle.tree_marks.proofs.Walks.{le_or_lt, within_trans}
 use Rattle.tree_marks.proofs.Parts.{patched, part_within, part_mark, part_room}
 use Rattle.tree_marks.proofs.Gathering.{Checking, check_begin, check_on, check_stop, check_done}
-use Rattle.tree_sort.specs.Inner.Sort.{at, Inside, Different}
+use Rattle.tree_sort.specs.Inner.Sort.{Inside, Different}
 use Rattle.tree_apart.specs.Inner.Apart.{Apart, few, AllApart, far, Bounded, NoneFar, FarApart, Wiped, Sifted}
 
 -- ---- places and members
@@ -106,12 +104,6 @@ pub far_no : (t : List ℕ) (w first : ℕ) → length (list_at t w (w - 4) firs
 unfolding far
 far_no t w first h = sym (le-ltb few (length (list_at t w (w - 4) first)) h)
 
-pub near_apart : {t : List ℕ} {w first : ℕ} {r : Bool} → r ≡ far t w first → r ≡ false → Tells (far t w first ≡ true → AllApart t w first) true
-near_apart e f = record { yes = λ _ q. absurd (false≢true (sym f ∙ e ∙ q)); only = λ _. refl }
-
-pub long_apart : {t : List ℕ} {w first : ℕ} {r b : Bool} → r ≡ far t w first → r ≡ true → Tells (AllApart t w first) b → Tells (far t w first ≡ true → AllApart t w first) b
-long_apart e f T = record { yes = λ q _. T.yes q; only = λ A. T.only (A (sym e ∙ f)) }
-
 -- ---- bucket by bucket
 
 -- the buckets before i were seen
@@ -132,6 +124,10 @@ module _ (h : List ℕ) (P : ℕ → Type 0) {buckets i : ℕ} (S : Seeing h P b
 
   pub see_end : buckets < i → Tells ((j : ℕ) → 0 < j → j < length h / 4 + 1 → P j) true
   see_end l = check_done S.seen (omega (arith, S.whole))
+
+-- bucket b, counted from 0, is number b + 1
+pub numbered : (h : List ℕ) (b : ℕ) {x : ℕ} → x ≡ hash_at h b → x ≡ bucket_at h (b + 1)
+numbered h b e = e ∙ ap (hash_at h) (omega arith)
 
 -- what is asked of bucket j
 abbrev pub Right : List ℕ → List ℕ → ℕ → ℕ → Type 0

@@ -45,10 +45,7 @@ fn bucket_apart(table: &[u8], w: usize, first: u32, room: &mut [u32]) -> bool
     requires { Ends table.now w (start w collision_field) first × (24 ≤ w) × (length (list_at table.now w (start w collision_field) first) ≤ length room.old) }
     ensures { Tells (far table.now w first ≡ true → AllApart table.now w first) result }
 {
-    if !is_far(table, w, first) {
-        return true;
-    }
-    list_apart(table, w, first, room)
+    !is_far(table, w, first) || list_apart(table, w, first, room)
 }
 
 // Whether the keys of every long bucket differ.
@@ -57,13 +54,11 @@ fn far_apart(hash: &[u8], table: &[u8], w: usize, room: &mut [u32]) -> bool
     ensures { Tells (FarApart hash.now table.now w) result }
 {
     let buckets = hash.len() / 4;
-    let mut i: usize = 1;
-    while i <= buckets {
-        let first = tree_table::get_hash(hash, i - 1);
+    for b in 0..buckets {
+        let first = tree_table::get_hash(hash, b);
         if !bucket_apart(table, w, first, room) {
             return false;
         }
-        i += 1;
     }
     true
 }

@@ -1,5 +1,4 @@
 -- `test_far` meets its contract.
-use Prim.Native.Nat.{◌-◌}
 use borrow.Author.Tests.{not-true, not-false}
 use Rattle.tree_apart.proofs.Differing.{sift_stop, sift_end}
 use Rattle.tree_apart.proofs.test_far.Goals as goal

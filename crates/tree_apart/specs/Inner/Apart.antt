@@ -1,5 +1,5 @@
 -- Keys that differ within a bucket, and what the test of the long buckets promises.
-use Rattle.std.specs.Prelude.{◌≡◌, List, Bool, true, false, ℕ, ◌+◌, ◌-◌, ◌/◌, ◌≤◌, ◌<◌, ltb, length}
+use Rattle.std.specs.Prelude.{◌≡◌, List, Bool, true, false, ℕ, ◌+◌, ◌/◌, ◌≤◌, ◌<◌, ltb, length}
 use Rattle.links.specs.Links.{◌∈◌, Links}
 use Rattle.tree_table.specs.Field.{start, collision_field, field}
 use Rattle.tree_table.specs.View.{key_at}
