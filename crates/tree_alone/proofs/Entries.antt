@@ -6,9 +6,10 @@ use mathlib.Core.Bool.{Bool, true, false, false≢true}
 use Prim.Native.Nat.{ℕ, ◌+◌, ◌-◌, ◌*◌, ◌%◌, ◌≤◌, ◌<◌}
 use native.Mathlib.Omega.{arith}
 use lib.Dec.{eqb, ltb}
-use borrow.Author.Tests.{eqb-true, eq-eqb, lt-ltb, le-ltb}
+use Rattle.std.proofs.Common.{Some, None}
+use borrow.Author.Tests.{eqb-true, eq-eqb}
 use lib.ListN.{length, take, drop}
-use Rattle.links.specs.Links.{◌∈◌, Links}
+use Rattle.links.specs.Links.{◌∈◌}
 use Rattle.links.specs.Change.{pick}
 use Rattle.links.proofs.Laws.{positive, fewer}
 use Rattle.links.proofs.Held.{same_or}
@@ -20,16 +21,15 @@ use Rattle.tree_table.specs.Field.{field}
 use Rattle.tree_table.specs.View.{key_at}
 use Rattle.tree_table.specs.Chain.{link_at, list_at, Ends, seek_in}
 use Rattle.tree_table.specs.declared.Hit.{Hit}
-use Rattle.tree_table.proofs.Chain.{key_part, goes, stops, list_is, ends}
+use Rattle.tree_table.proofs.Chain.{key_part, goes, stops, ends}
 use Rattle.order.specs.Tells.{Tells}
 use Rattle.tree_marks.specs.Inner.Marks.{gone, mark_at, ListMarked, ListCounted, Within}
-use Rattle.tree_marks.proofs.Walks.{entry_in, within_refl, within_trans, le_or_lt}
+use Rattle.tree_marks.proofs.Walks.{entry_in, within_refl, within_trans, none_some}
 use Rattle.tree_marks.proofs.Gathering.{Checking, check_begin, check_on, gathers_more, gathers_stop}
 use Rattle.tree_marks.specs.Inner.Gather.{Gathered, any, bucket_at}
 use Rattle.tree_apart.specs.Inner.Apart.{Apart, far}
-use Rattle.tree_apart.proofs.Differing.{far_yes, far_no}
 use Rattle.tree_alone.specs.Inner.Entries.{Fits, AllFit}
-use Rattle.tree_alone.specs.Inner.Stage.{BucketFiled, BucketsFiled, BucketCounted, BucketsCounted}
+use Rattle.tree_alone.specs.Inner.Stage.{BucketFiled, BucketCounted, BucketsCounted}
 
 -- a search that finds nothing met no entry with the key
 pub seek_none : (key : ℕ → List ℕ) (k xs : List ℕ) (n : ℕ) → ((y : ℕ) → y ∈ xs → 0 < y) → (seek_in key k xs n).inode ≡ 0 → (z : ℕ) → z ∈ xs → key z ≡ k → ⊥
@@ -181,37 +181,33 @@ module _ {t : List ℕ} {w count buckets first i off : ℕ} {work work' : List �
 
 -- ---- the same with the bucket's length
 
-some : (n : ℕ) → 0 < n → ltb 0 n ≡ true
-some n p = lt-ltb 0 n p
-
-module _ (t : List ℕ) (w first : ℕ) {count i off : ℕ} {work work' : List ℕ} {n : ℕ} (A : ListCounted (link_at t w (w - 4)) count first i off work work' n)
-    (p : 0 < n) (h1 : 1 ≤ count) (hc : count ≤ 65536) (hl : count * w ≤ length t) where
+module _ (t : List ℕ) (w first : ℕ) {count i off : ℕ} {work work' : List ℕ} {n : ℕ} (A : ListCounted (link_at t w (w - 4)) count first i off work work' (Some n))
+    (h1 : 1 ≤ count) (hc : count ≤ 65536) (hl : count * w ≤ length t) where
   pub counted_ends : Ends t w (w - 4) first
-  counted_ends = filing_ends A.listed (some n p) h1 hc hl
+  counted_ends = filing_ends A.listed refl h1 hc hl
 
-  pub counted_size : n ≡ length (list_at t w (w - 4) first) + 1
-  counted_size = A.size p (list_at t w (w - 4) first) counted_ends.links
+  pub counted_size : n ≡ length (list_at t w (w - 4) first)
+  counted_size = A.size n refl (list_at t w (w - 4) first) counted_ends.links
 
-  pub counted_far : ltb 65 n ≡ far t w first
-  counted_far =
-      let e : n ≡ length (list_at t w (w - 4) first) + 1 = counted_size in
-      ⊎_elim (λ (k : n ≤ 65). le-ltb 65 n k ∙ far_no t w first (omega arith)) (λ (k : 65 < n). lt-ltb 65 n k ∙ far_yes t w first (omega arith)) (le_or_lt n 65)
+  pub counted_far : ltb 64 n ≡ far t w first
+  unfolding far
+  counted_far = ap (ltb 64) counted_size
 
-module _ {t : List ℕ} {w count buckets first i off : ℕ} {work work' : List ℕ} {n : ℕ} (A : ListCounted (link_at t w (w - 4)) count first i off work work' n) where
-  pub counted_stop : n ≡ 0 → BucketCounted t w count buckets first i off work work' 0
-  counted_stop e = record { filed = filing_stop A.listed (ap (ltb 0) e); longer = λ p. absurd (omega arith) }
+module _ {t : List ℕ} {w count buckets first i off : ℕ} {work work' : List ℕ} where
+  pub counted_stop : ListCounted (link_at t w (w - 4)) count first i off work work' None → BucketCounted t w count buckets first i off work work' None
+  counted_stop A = record { filed = filing_stop A.listed refl; longer = λ n e. absurd (none_some e) }
 
-  module _ (p : 0 < n) {b : Bool} (T : Tells (AllFit t w buckets first i) b) where
-    pub counted_no : b ≡ false → BucketCounted t w count buckets first i off work work' 0
+  module _ {n : ℕ} (A : ListCounted (link_at t w (w - 4)) count first i off work work' (Some n)) {b : Bool} (T : Tells (AllFit t w buckets first i) b) where
+    pub counted_no : b ≡ false → BucketCounted t w count buckets first i off work work' None
     counted_no e = record {
-      filed = subst (λ z. BucketFiled t w count buckets first i off work work' z) e (filing_done A.listed (some n p) T);
-      longer = λ q. absurd (omega arith);
+      filed = subst (λ z. BucketFiled t w count buckets first i off work work' z) e (filing_done A.listed refl T);
+      longer = λ n e. absurd (none_some e);
     }
 
-    pub counted_yes : 1 ≤ count → count ≤ 65536 → count * w ≤ length t → b ≡ true → BucketCounted t w count buckets first i off work work' n
+    pub counted_yes : 1 ≤ count → count ≤ 65536 → count * w ≤ length t → b ≡ true → BucketCounted t w count buckets first i off work work' (Some n)
     counted_yes h1 hc hl e = record {
-      filed = subst (λ z. BucketFiled t w count buckets first i off work work' z) (e ∙ sym (some n p)) (filing_done A.listed (some n p) T);
-      longer = λ _. (let k : n ≡ length (list_at t w (w - 4) first) + 1 = counted_size t w first A p h1 hc hl in omega arith);
+      filed = subst (λ z. BucketFiled t w count buckets first i off work work' z) e (filing_done A.listed refl T);
+      longer = λ m q. (let s : n ≡ m = cc in let k : n ≡ length (list_at t w (w - 4) first) = counted_size t w first A h1 hc hl in omega arith);
     }
 
 -- ---- the buckets one after the other
@@ -221,69 +217,67 @@ pub record Filling (h t : List ℕ) (w count buckets off : ℕ) (work₀ work : 
   pub size : length work ≡ length work₀
   pub lists : (R : List ℕ) → Gathered (link_at t w (w - 4)) count (bucket_at h) any R 1 (mark_at work₀ off) → Gathered (link_at t w (w - 4)) count (bucket_at h) any R i (mark_at work off)
   pub fit : Checking (λ j. AllFit t w buckets (bucket_at h j) j) i
-  pub one : 0 < longest
-  pub long : (j : ℕ) → 0 < j → j < i → length (list_at t w (w - 4) (bucket_at h j)) < longest
+  pub long : (j : ℕ) → 0 < j → j < i → length (list_at t w (w - 4) (bucket_at h j)) ≤ longest
   pub within : Within off count work₀ work
 
-pub filling_begin : (h t : List ℕ) (w count buckets off : ℕ) (work : List ℕ) → Filling h t w count buckets off work work 1 1
+pub filling_begin : (h t : List ℕ) (w count buckets off : ℕ) (work : List ℕ) → Filling h t w count buckets off work work 0 1
 filling_begin h t w count buckets off work = record {
   most = omega arith;
   size = refl;
   lists = λ R G. G;
   fit = check_begin _;
-  one = omega arith;
   long = λ j p l. absurd (omega arith);
   within = within_refl off count work;
 }
 
-module _ {h t : List ℕ} {w count buckets off : ℕ} {work₀ work work' : List ℕ} {longest i first n : ℕ} (C : Filling h t w count buckets off work₀ work longest i) (hi : i ≤ buckets) (hm : buckets ≤ 65536)
-    (e : first ≡ bucket_at h i) (B : BucketCounted t w count buckets first i off work work' n) where
-  filed : BucketFiled t w count buckets first i off work work' (ltb 0 n)
-  filed = B.filed
+module _ {h t : List ℕ} {w count buckets off : ℕ} {work₀ work work' : List ℕ} {longest i first : ℕ} (C : Filling h t w count buckets off work₀ work longest i) (hi : i ≤ buckets) (hm : buckets ≤ 65536)
+    (e : first ≡ bucket_at h i) where
+  module _ {n : ℕ} (B : BucketCounted t w count buckets first i off work work' (Some n)) where
+    filed : BucketFiled t w count buckets first i off work work' true
+    filed = B.filed
 
-  pub filling_on : 0 < n → {m : ℕ} → longest ≤ m → n ≤ m → Filling h t w count buckets off work₀ work' m (i + 1)
-  filling_on p {m} a b = record {
-    most = omega arith;
-    size = filed.within.size ∙ C.size;
-    lists = λ R G. gathers_more (buckets + 1) C.fit.some (omega arith) (omega arith) e tt listed (C.lists R G) refl;
-    fit = check_on C.fit (record { yes = λ _. subst (λ z. AllFit t w buckets z i) e (filed.good (some n p)).1; only = λ _. refl }) refl;
-    one = (let o : 0 < longest = C.one in omega arith);
-    long = λ j q l.
-        ⊎_elim
-        (λ (k : j ≡ i).
-        let s : length (list_at t w (w - 4) first) < n = B.longer p in
-        subst (λ z. length (list_at t w (w - 4) (bucket_at h z)) < m) (sym k) (subst (λ z. length (list_at t w (w - 4) z) < m) e (omega arith)))
-        (λ (k : j ≢ i). let s : length (list_at t w (w - 4) (bucket_at h j)) < longest = C.long j q (omega arith) in omega arith)
-        (same_or j i);
-    within = within_trans C.within filed.within;
-  }
-    where
-      listed : ListMarked (link_at t w (w - 4)) count first i off work work' true
-      listed = record { good = λ _. (filed.good (some n p)).0; bad = λ z. absurd (false≢true (sym z)); within = filed.within }
+    pub filling_on : {m : ℕ} → longest ≤ m → n ≤ m → Filling h t w count buckets off work₀ work' m (i + 1)
+    filling_on {m} a b = record {
+      most = omega arith;
+      size = filed.within.size ∙ C.size;
+      lists = λ R G. gathers_more (buckets + 1) C.fit.some (omega arith) (omega arith) e tt listed (C.lists R G) refl;
+      fit = check_on C.fit (record { yes = λ _. subst (λ z. AllFit t w buckets z i) e (filed.good refl).1; only = λ _. refl }) refl;
+      long = λ j q l.
+          ⊎_elim
+          (λ (k : j ≡ i).
+          let s : length (list_at t w (w - 4) first) ≤ n = B.longer n refl in
+          subst (λ z. length (list_at t w (w - 4) (bucket_at h z)) ≤ m) (sym k) (subst (λ z. length (list_at t w (w - 4) z) ≤ m) e (omega arith)))
+          (λ (k : j ≢ i). let s : length (list_at t w (w - 4) (bucket_at h j)) ≤ longest = C.long j q (omega arith) in omega arith)
+          (same_or j i);
+      within = within_trans C.within filed.within;
+    }
+      where
+        listed : ListMarked (link_at t w (w - 4)) count first i off work work' true
+        listed = record { good = λ _. (filed.good refl).0; bad = λ z. absurd (false≢true (sym z)); within = filed.within }
 
-  pub filling_stop : n ≡ 0 → BucketsCounted h t w count buckets off work₀ work' 0
-  filling_stop q = record {
+  pub filling_stop : BucketCounted t w count buckets first i off work work' None → BucketsCounted h t w count buckets off work₀ work' None
+  filling_stop B = record {
     filed = λ R G. record {
       good = λ z. absurd (false≢true z);
       bad = λ _ f right all.
           (gathers_stop (buckets + 1) C.fit.some (omega arith) (omega arith) e tt (listed (all i C.fit.some (omega arith))) (C.lists R G) refl).bad refl f right;
     };
-    longest = λ p. absurd (omega arith);
-    within = within_trans C.within filed.within;
+    longest = λ n q. absurd (none_some q);
+    within = within_trans C.within B.filed.within;
   }
     where
       listed : AllFit t w buckets (bucket_at h i) i → ListMarked (link_at t w (w - 4)) count first i off work work' false
-      listed all = record { good = λ z. absurd (false≢true z); bad = λ _ xs l f. filed.bad (ap (ltb 0) q) xs l f (subst (λ z. AllFit t w buckets z i) (sym e) all); within = filed.within }
+      listed all = record { good = λ z. absurd (false≢true z); bad = λ _ xs l f. B.filed.bad refl xs l f (subst (λ z. AllFit t w buckets z i) (sym e) all); within = B.filed.within }
 
 pub filling_done : {h t : List ℕ} {w count buckets off : ℕ} {work₀ work : List ℕ} {longest i : ℕ} → Filling h t w count buckets off work₀ work longest i → buckets < i
-    → BucketsCounted h t w count buckets off work₀ work longest
+    → BucketsCounted h t w count buckets off work₀ work (Some longest)
 filling_done {h} {t} {w} {count} {buckets} {off} {work₀} {work} {longest} {i} C l =
     let e : i ≡ buckets + 1 = let m : i ≤ buckets + 1 = C.most in omega arith in
     record {
       filed = λ R G. record {
         good = λ _. (subst (λ z. Gathered (link_at t w (w - 4)) count (bucket_at h) any R z (mark_at work off)) e (C.lists R G), λ j a b. C.fit.right j a (omega arith));
-        bad = λ q. absurd (false≢true (sym q ∙ some longest C.one));
+        bad = λ q. absurd (false≢true (sym q));
       };
-      longest = λ _ j a b. C.long j a (omega arith);
+      longest = λ n q j a b. (let s : longest ≡ n = cc in let k : length (list_at t w (w - 4) (bucket_at h j)) ≤ longest = C.long j a (omega arith) in omega arith);
       within = C.within;
     }

@@ -1,21 +1,18 @@
 -- What the walks over one table find out makes it sound by itself, and the reverse.
 use mathlib.Core.Path.{◌≡◌, refl, sym, ap, ◌∙◌, subst}
 use mathlib.Core.List.{List, [], ◌∷◌}
-use mathlib.Core.Logic.{◌⊎◌, inl, inr, ⊎_elim, ◌≢◌, ◌↔◌}
-use mathlib.Core.Bool.{Bool, true, false, false≢true}
-use Prim.Native.Nat.{ℕ, zero, suc, ◌+◌, ◌-◌, ◌*◌, ◌/◌, ◌%◌, ◌≤◌, ◌<◌}
+use mathlib.Core.Logic.{◌⊎◌, inl, inr, ⊎_elim, ◌≢◌}
+use Prim.Native.Nat.{ℕ, ◌+◌, ◌-◌, ◌≤◌, ◌<◌}
 use native.Mathlib.Omega.{arith}
 use native.Mathlib.Nat.{mod-lt}
-use lib.ListN.{length, get_or}
-use Rattle.links.specs.Links.{◌∈◌, Distinct, Links, Holds}
-use Rattle.links.specs.Change.{walk}
+use lib.ListN.{length}
+use Rattle.links.specs.Links.{◌∈◌, Links, Holds}
 use Rattle.links.proofs.Laws.{one_list, positive, after, distinct, walked, fewer}
 use Rattle.links.proofs.Held.{same_or, holds_kept}
 use Rattle.tree_key.specs.Hash.{hash_of}
 use Rattle.tree_table.specs.View.{View, place, removed_of, Live, LiveIn}
-use Rattle.order.specs.Tells.{Tells}
-use Rattle.tree_marks.specs.Inner.Marks.{gone, mark_at, Unmarked, Marked, ListMarked, Within}
-use Rattle.tree_marks.specs.Inner.Gather.{Gathered, Gathers, any, GoneKept}
+use Rattle.tree_marks.specs.Inner.Marks.{gone, mark_at, Unmarked, Marked}
+use Rattle.tree_marks.specs.Inner.Gather.{Gathered, any, GoneKept}
 use Rattle.tree_marks.proofs.Walks.{le_or_lt}
 use Rattle.tree_marks.proofs.Gathering.{in_or, gathered, gathered_ok}
 use Rattle.tree_sound.specs.Sound.{Table}

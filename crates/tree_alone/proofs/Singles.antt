@@ -1,25 +1,24 @@
 -- One table's test as a whole: its front, its lists, and the marks that are left.
 use mathlib.Core.Path.{◌≡◌, refl, sym, ap, ◌∙◌, subst}
-use mathlib.Core.List.{List, [], ◌∷◌}
-use mathlib.Core.Logic.{◌⊎◌, inl, inr, ⊎_elim, ◌≢◌, ◌↔◌}
+use mathlib.Core.List.{List}
+use mathlib.Core.Logic.{inl, inr, ⊎_elim}
 use mathlib.Core.Bool.{Bool, true, false, false≢true}
-use Prim.Native.Nat.{ℕ, zero, suc, ◌+◌, ◌-◌, ◌*◌, ◌/◌, ◌%◌, ◌≤◌, ◌<◌}
+use Prim.Native.Nat.{ℕ, ◌+◌, ◌-◌, ◌*◌, ◌/◌, ◌≤◌, ◌<◌}
 use native.Mathlib.Omega.{arith}
 use native.Mathlib.Nat.{mul-le-mul_right, div-mul-le_self}
-use lib.ListN.{length, get_or}
-use lib.Dec.{leb, ltb}
-use borrow.Author.Tests.{leb-true, le-leb, lt-ltb}
-use Rattle.words.specs.Word.{word}
+use lib.ListN.{length}
+use Rattle.std.proofs.Common.{Option, Some}
+use Rattle.std.specs.Option.{is_some}
 use Rattle.tree_table.specs.Field.{field}
-use Rattle.tree_table.specs.View.{View, removed_of}
+use Rattle.tree_table.specs.View.{removed_of}
 use Rattle.tree_table.specs.Chain.{link_at}
 use Rattle.links.specs.Links.{◌∈◌, Links}
 use Rattle.links.proofs.Laws.{one_list, positive}
 use Rattle.order.specs.Tells.{Tells}
 use Rattle.tree_marks.specs.Inner.Marks.{gone, mark_at, Within}
 use Rattle.tree_marks.proofs.Gathering.{in_or}
-use Rattle.tree_apart.specs.Inner.Apart.{Bounded, FarApart, Swept, Sifted}
-use Rattle.tree_marks.specs.Inner.Gather.{Gathered, bucket_at, any, GoneKept}
+use Rattle.tree_apart.specs.Inner.Apart.{Bounded, Swept, Sifted}
+use Rattle.tree_marks.specs.Inner.Gather.{bucket_at, GoneKept}
 use Rattle.tree_marks.proofs.Walks.{within_refl, within_trans, within_more}
 use Rattle.tree_sound.specs.Sound.{Table}
 use Rattle.tree_alone.specs.Inner.Stage.{OnlyGone, alone_view, FrontFits, TableSorted, TableCounted, TableTested}
@@ -46,12 +45,6 @@ clean_swept h t w root head {R} {W} T S =
 -- the numbers at a table's front
 abbrev pub Numbers : ℕ → ℕ → ℕ → ℕ → Type 0
 Numbers count maximum room least = (maximum ≤ room) × (1 ≤ count) × (count ≤ maximum) × (least ≤ count)
-
-pub front_no : (count maximum room least : ℕ) → (Numbers count maximum room least → ⊥) → Tells (Numbers count maximum room least) false
-front_no count maximum room least n = record { yes = λ e. absurd (false≢true e); only = λ p. absurd (n p) }
-
-pub front_last : (count maximum room least : ℕ) → maximum ≤ room → 1 ≤ count → count ≤ maximum → Tells (Numbers count maximum room least) (leb least count)
-front_last count maximum room least a b d = record { yes = λ e. (a, b, d, leb-true least count e); only = λ p. le-leb least count p.3 }
 
 -- entries below a number that the room has lie in the table
 pub rooms_fit : (t : List ℕ) (w n : ℕ) → n ≤ length t / w → n * w ≤ length t
@@ -84,22 +77,19 @@ module _ (h t : List ℕ) (w least off : ℕ) (work : List ℕ) {count maximum :
     within = within_refl off (length t / w) work;
   }
 
-  module _ (e1 : r1 ≡ true) {w1 : List ℕ} {n : ℕ} (C : TableCounted h t w off work w1 n) where
-    S : TableSorted h t w off work w1 (ltb 0 n)
+  module _ (e1 : r1 ≡ true) {w1 : List ℕ} {r : Option ℕ} (C : TableCounted h t w off work w1 r) where
+    S : TableSorted h t w off work w1 (is_some r)
     S = C.sorted
-
-    some : 0 < n → ltb 0 n ≡ true
-    some p = lt-ltb 0 n p
 
     low : field w t 0 1 ≤ length t / w
     low =
         let n = N.yes e1 in
         let a : count ≤ maximum = n.2 in let b : maximum ≤ length t / w = n.0 in let k : count ≡ field w t 0 1 = count_is in omega arith
 
-    pub single_lists : n ≡ 0 → TableTested h t w least off work w1 false
+    pub single_lists : is_some r ≡ false → TableTested h t w least off work w1 false
     single_lists e = record {
       good = λ q. absurd (false≢true q);
-      bad = λ _ root head T l. S.bad (ap (ltb 0) e) root head T;
+      bad = λ _ root head T l. S.bad e root head T;
       within = within_more (length t / w) low S.within;
     }
 
@@ -111,11 +101,11 @@ module _ (h t : List ℕ) (w least off : ℕ) (work : List ℕ) {count maximum :
           count_max = subst (λ z. z ≤ field w t 0 2) count_is (subst (λ z. count ≤ z) maximum_is n.2);
         }
 
-    pub single_good : 0 < n → n ≤ 65 → {w2 : List ℕ} → GoneKept off count w1 w2 → TableTested h t w least off work w2 true
-    single_good p few {w2} K = record {
+    pub single_good : {n : ℕ} → r ≡ Some n → n ≤ 64 → {w2 : List ℕ} → GoneKept off count w1 w2 → TableTested h t w least off work w2 true
+    single_good {n = k} p few {w2} K = record {
       good = λ _ root head.
           let n = N.yes e1 in
-          let s = S.good (some p) (record { right = λ j a b f. absurd (false≢true (sym ((C.near p few).near j a b) ∙ f)) }) root head (front root head) in
+          let s = S.good (ap is_some p) (record { right = λ j a b f. absurd (false≢true (sym ((C.near k p few).near j a b) ∙ f)) }) root head (front root head) in
           let K' : GoneKept off (field w t 0 1) w1 w2 = subst (λ z. GoneKept off z w1 w2) count_is K in (
             s.0,
             subst (λ z. least ≤ z) count_is n.3,
@@ -126,26 +116,26 @@ module _ (h t : List ℕ) (w least off : ℕ) (work : List ℕ) {count maximum :
     }
 
     -- the buckets, by the count that the code holds
-    pub single_bounded : 0 < n → Bounded h t w count
-    single_bounded p = subst (λ z. Bounded h t w z) (sym count_is) (S.bounded (some p))
+    pub single_bounded : {n : ℕ} → r ≡ Some n → Bounded h t w count
+    single_bounded p = subst (λ z. Bounded h t w z) (sym count_is) (S.bounded (ap is_some p))
 
     -- no mark beyond count
     pub single_beyond : ((y : ℕ) → mark_at work off y ≡ 0) → (y : ℕ) → count ≤ y → mark_at w1 off y ≡ 0
     single_beyond zeros y l = S.within.behind (off + y) (omega (arith, count_is)) ∙ zeros y
 
     -- the long buckets were sorted, and the removed entries marked anew
-    pub single_far : 0 < n → {w2 : List ℕ} {r3 : Bool} → Sifted h t w count off w1 w2 r3 → TableTested h t w least off work w2 r3
+    pub single_far : {n : ℕ} → r ≡ Some n → {w2 : List ℕ} {r3 : Bool} → Sifted h t w count off w1 w2 r3 → TableTested h t w least off work w2 r3
     single_far p {w2} {r3} G = record {
       good = λ q root head.
           let n = N.yes e1 in
           let g = G.good q in
-          let s = S.good (some p) g.0 root head (front root head) in (
+          let s = S.good (ap is_some p) g.0 root head (front root head) in (
             s.0,
             subst (λ z. least ≤ z) count_is n.3,
             clean_swept h t w root head s.0 (subst (λ z. Swept t w z g.1.0 (mark_at w2 off)) count_is g.1.1),
           );
       bad = λ q root head T l.
-          G.bad q (S.apart (some p) root head T) (removed_of (alone_view h t w root head)) (removed_links h t w root head T)
+          G.bad q (S.apart (ap is_some p) root head T) (removed_of (alone_view h t w root head)) (removed_links h t w root head T)
           (λ y m. subst (λ z. y < z) (sym count_is) (T.removed_below y m));
       within = within_trans (within_more (length t / w) low S.within) (within_more (length t / w) low (subst (λ z. Within off z w1 w2) count_is G.within));
     }

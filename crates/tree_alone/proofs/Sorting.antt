@@ -1,14 +1,14 @@
 -- The parts of one table's test together: each outcome, and what it says.
 use mathlib.Core.Path.{◌≡◌, refl, sym, ap, ◌∙◌, subst}
-use mathlib.Core.List.{List, [], ◌∷◌}
-use mathlib.Core.Logic.{◌⊎◌, inl, inr, ⊎_elim, ◌≢◌, ◌↔◌}
+use mathlib.Core.List.{List}
+use mathlib.Core.Logic.{◌⊎◌, inl, inr, ⊎_elim, ◌≢◌}
 use mathlib.Core.Bool.{Bool, true, false, false≢true}
-use Prim.Native.Nat.{ℕ, zero, suc, ◌+◌, ◌-◌, ◌*◌, ◌/◌, ◌%◌, ◌≤◌, ◌<◌}
+use Prim.Native.Nat.{ℕ, ◌+◌, ◌-◌, ◌*◌, ◌/◌, ◌%◌, ◌≤◌, ◌<◌}
 use native.Mathlib.Omega.{arith}
 use native.Mathlib.Nat.{mod-lt}
-use lib.Dec.{ltb}
-use lib.ListN.{length, get_or}
-use borrow.Author.Tests.{lt-ltb}
+use Rattle.std.proofs.Common.{Option, Some, None}
+use Rattle.std.specs.Option.{is_some}
+use lib.ListN.{length}
 use Rattle.links.specs.Links.{◌∈◌, Distinct, Links, Holds}
 use Rattle.links.proofs.Laws.{one_list, distinct, fewer, after}
 use Rattle.links.proofs.Held.{same_or}
@@ -20,9 +20,9 @@ use Rattle.tree_table.proofs.Chain.{list_is, ends}
 use Rattle.order.specs.Tells.{Tells}
 use Rattle.tree_marks.specs.Inner.Marks.{gone, mark_at, ListMarked, Within}
 use Rattle.tree_marks.specs.Inner.Gather.{Gathered, bucket_at, any}
-use Rattle.tree_marks.proofs.Walks.{within_trans, entry_in}
+use Rattle.tree_marks.proofs.Walks.{within_trans, entry_in, none_some}
 use Rattle.tree_sound.specs.Sound.{Table}
-use Rattle.tree_apart.specs.Inner.Apart.{Apart, AllApart, far, Bounded, FarApart}
+use Rattle.tree_apart.specs.Inner.Apart.{Apart, far, FarApart}
 use Rattle.tree_apart.proofs.Differing.{far_no}
 use Rattle.tree_alone.specs.Inner.Entries.{Fits, AllFit}
 use Rattle.tree_alone.specs.Inner.Stage.{BucketsFiled, BucketsCounted, alone_view, FrontFits, TableSorted, TableCounted}
@@ -244,34 +244,39 @@ module _ (h t : List ℕ) (w off : ℕ) {work w1 : List ℕ} {n first : ℕ} {r1
   at : ListMarked (link_at t w (w - 4)) (field w t 0 1) (link_at t w (w - 4) 0) gone off work w1 r1
   at = subst (λ z. ListMarked (link_at t w (w - 4)) z (link_at t w (w - 4) 0) gone off work w1 r1) en (subst (λ z. ListMarked (link_at t w (w - 4)) n z gone off work w1 r1) ef A)
 
-  pub sort_1 : r1 ≡ false → TableCounted h t w off work w1 0
-  sort_1 e = record { sorted = sorted_stop h t w off work zeros w1 r1 at e; near = λ p. absurd (omega arith) }
+  pub sort_1 : r1 ≡ false → TableCounted h t w off work w1 None
+  sort_1 e = record { sorted = sorted_stop h t w off work zeros w1 r1 at e; near = λ n q. absurd (none_some q) }
 
-  module _ {w2 : List ℕ} {m : ℕ} (e1 : r1 ≡ true) (hb : 0 < length h / 4) (hm : length h / 4 ≤ 65536)
-      (B : BucketsCounted h t w n (length h / 4) off w1 w2 m) (hc : n ≤ 65536) where
-    lists : (R : List ℕ) → Gathered (link_at t w (w - 4)) (field w t 0 1) (bucket_at h) any R 1 (mark_at w1 off) → BucketsFiled h t w (field w t 0 1) (length h / 4) off R w2 (ltb 0 m)
-    lists = subst (λ z. (R : List ℕ) → Gathered (link_at t w (w - 4)) z (bucket_at h) any R 1 (mark_at w1 off) → BucketsFiled h t w z (length h / 4) off R w2 (ltb 0 m)) en B.filed
+  module _ {w2 : List ℕ} {r : Option ℕ} (e1 : r1 ≡ true) (hb : 0 < length h / 4) (hm : length h / 4 ≤ 65536)
+      (B : BucketsCounted h t w n (length h / 4) off w1 w2 r) (hc : n ≤ 65536) where
+    lists : (R : List ℕ) → Gathered (link_at t w (w - 4)) (field w t 0 1) (bucket_at h) any R 1 (mark_at w1 off) → BucketsFiled h t w (field w t 0 1) (length h / 4) off R w2 (is_some r)
+    lists = subst (λ z. (R : List ℕ) → Gathered (link_at t w (w - 4)) z (bucket_at h) any R 1 (mark_at w1 off) → BucketsFiled h t w z (length h / 4) off R w2 (is_some r)) en B.filed
 
     inner : Within off (field w t 0 1) w1 w2
     inner = subst (λ z. Within off z w1 w2) en B.within
 
-    pub sort_2 : m ≡ 0 → TableCounted h t w off work w2 0
+    pub sort_2 : is_some r ≡ false → TableCounted h t w off work w2 None
     sort_2 e = record {
-      sorted = sorted_stop_2 h t w off work zeros w1 r1 at e1 w2 (ltb 0 m) lists hb hm inner (subst (λ z. z ≤ 65536) en hc) (ap (ltb 0) e);
-      near = λ p. absurd (omega arith);
+      sorted = sorted_stop_2 h t w off work zeros w1 r1 at e1 w2 (is_some r) lists hb hm inner (subst (λ z. z ≤ 65536) en hc) e;
+      near = λ n q. absurd (none_some q);
     }
 
-    module _ (p : 0 < m) (hw : 24 ≤ w) (hl : n * w ≤ length t) (h1 : 1 ≤ n) {r3 : Bool} (M : Tells ((y : ℕ) → 0 < y → y < n → 0 < mark_at w2 off y) r3) where
+    module _ {m : ℕ} (p : r ≡ Some m) (hw : 24 ≤ w) (hl : n * w ≤ length t) (h1 : 1 ≤ n) {r3 : Bool} (M : Tells ((y : ℕ) → 0 < y → y < n → 0 < mark_at w2 off y) r3) where
       end : TableSorted h t w off work w2 r3
       end =
-          sorted_end h t w off work zeros w1 r1 at e1 w2 (ltb 0 m) lists hb hm inner (subst (λ z. z ≤ 65536) en hc) (lt-ltb 0 m p) hw (subst (λ z. z * w ≤ length t) en hl) (subst (λ z. 1 ≤ z) en h1) r3
+          sorted_end h t w off work zeros w1 r1 at e1 w2 (is_some r) lists hb hm inner (subst (λ z. z ≤ 65536) en hc) (ap is_some p) hw (subst (λ z. z * w ≤ length t) en hl) (subst (λ z. 1 ≤ z) en h1) r3
           (subst (λ z. Tells ((y : ℕ) → 0 < y → y < z → 0 < mark_at w2 off y) r3) en M)
 
-      pub sort_3 : r3 ≡ false → TableCounted h t w off work w2 0
-      sort_3 e = record { sorted = subst (λ b. TableSorted h t w off work w2 b) e end; near = λ q. absurd (omega arith) }
+      pub sort_3 : r3 ≡ false → TableCounted h t w off work w2 None
+      sort_3 e = record { sorted = subst (λ b. TableSorted h t w off work w2 b) e end; near = λ n q. absurd (none_some q) }
 
-      pub sort_4 : r3 ≡ true → TableCounted h t w off work w2 m
+      pub sort_4 : r3 ≡ true → TableCounted h t w off work w2 (Some m)
       sort_4 e = record {
-        sorted = subst (λ b. TableSorted h t w off work w2 b) (e ∙ sym (lt-ltb 0 m p)) end;
-        near = λ q s. record { near = λ j a b. sym (far_no t w (bucket_at h j) (let k : length (list_at t w (w - 4) (bucket_at h j)) < m = B.longest p j a b in omega arith)) };
+        sorted = subst (λ b. TableSorted h t w off work w2 b) e end;
+        near = λ n q s. record {
+          near = λ j a b.
+              let i : m ≡ n = cc in
+              let k : length (list_at t w (w - 4) (bucket_at h j)) ≤ m = B.longest m p j a b in
+              sym (far_no t w (bucket_at h j) (omega arith));
+        };
       }

@@ -30,8 +30,7 @@ fn entry_fits(table: &[u8], w: usize, buckets: usize, y: u32, mark: u32, long: b
         return true;
     }
     let first = tree_table::link_of(table, w, w - tree_table::LINK, y);
-    let hit = tree_table::get(table, w, first, key);
-    hit.inode == 0
+    tree_table::get(table, w, first, key).inode == 0
 }
 
 // Whether every entry of a bucket fits, from its first one on, by the bucket's mark.
@@ -49,11 +48,8 @@ fn check_bucket(table: &[u8], w: usize, buckets: usize, first: u32, mark: u32, l
     true
 }
 
-// The largest answer for a bucket that is not long.
-const NEAR_ANSWER: usize = tree_apart::NEAR + 1;
-
-// Goes along one bucket: marks its entries with its number i, counted from 1, and then sees that each fits, while they are near. It answers one more
-// than the bucket's length, or 0. The keys of a long bucket are not compared here.
+// Goes along one bucket: marks its entries with its number i, counted from 1, and then sees that each fits, while they are near. It answers the bucket's
+// length, or None. The keys of a long bucket are not compared here.
 fn sort_bucket(
     table: &[u8],
     w: usize,
@@ -63,28 +59,18 @@ fn sort_bucket(
     work: &mut [u32],
     off: usize,
     i: u32,
-) -> usize
+) -> Option<usize>
     requires { (count * w ≤ length table.now) × (1 ≤ count) × (count ≤ 65536) × (24 ≤ w) × (off + count ≤ length work.old) × (0 < buckets) × (buckets ≤ 65536) × (0 < i) }
     ensures { BucketCounted table.now w count buckets first i off work.old work.new result }
 {
-    let n = tree_marks::mark_counted(table, w, w - tree_table::LINK, count, first, work, off, i);
-    if n == 0 {
-        return 0;
+    let n = tree_marks::mark_counted(table, w, w - tree_table::LINK, count, first, work, off, i)?;
+    if !check_bucket(table, w, buckets, first, i, tree_apart::NEAR < n) {
+        return None;
     }
-    if !check_bucket(table, w, buckets, first, i, NEAR_ANSWER < n) {
-        return 0;
-    }
-    n
+    Some(n)
 }
 
-// The larger of two numbers.
-fn larger(a: usize, b: usize) -> usize
-    ensures { (a ≤ result) × (b ≤ result) }
-{
-    if a < b { b } else { a }
-}
-
-// The same for every bucket. It answers one more than the length of the longest, or 0.
+// The same for every bucket. It answers the length of the longest, or None.
 fn sort_buckets(
     hash: &[u8],
     table: &[u8],
@@ -93,23 +79,18 @@ fn sort_buckets(
     buckets: usize,
     work: &mut [u32],
     off: usize,
-) -> usize
+) -> Option<usize>
     requires { (count * w ≤ length table.now) × (1 ≤ count) × (count ≤ 65536) × (24 ≤ w) × (off + count ≤ length work.old) × (0 < buckets) × (buckets ≤ 65536)
         × (buckets * 4 ≤ length hash.now) }
     ensures { BucketsCounted hash.now table.now w count buckets off work.old work.new result }
 {
-    let mut longest: usize = 1;
-    let mut i: usize = 1;
-    while i <= buckets {
-        let first = tree_table::get_hash(hash, i - 1);
-        let n = sort_bucket(table, w, count, buckets, first, work, off, i as u32);
-        if n == 0 {
-            return 0;
-        }
-        longest = larger(longest, n);
-        i += 1;
+    let mut longest = 0;
+    for b in 0..buckets {
+        let first = tree_table::get_hash(hash, b);
+        let n = sort_bucket(table, w, count, buckets, first, work, off, b as u32 + 1)?;
+        longest = longest.max(n);
     }
-    longest
+    Some(longest)
 }
 
 // Whether every entry has a mark.
@@ -117,18 +98,15 @@ fn all_marked(work: &[u32], off: usize, count: u32) -> bool
     requires { off + count ≤ length work.now }
     ensures { Tells ((y : ℕ) → 0 < y → y < count → 0 < mark_at work.now off y) result }
 {
-    let mut y: u32 = 1;
-    while y < count {
+    for y in 1..count {
         if work[off + tree_table::index(y)] == 0 {
             return false;
         }
-        y += 1;
     }
     true
 }
 
-// The removed list, the buckets and the keys of one table, whose marks begin at `off` and are 0. It answers one more than the length of the longest
-// bucket, or 0.
+// The removed list, the buckets and the keys of one table, whose marks begin at `off` and are 0. It answers the length of the longest bucket, or None.
 fn sort_table(
     hash: &[u8],
     table: &[u8],
@@ -136,7 +114,7 @@ fn sort_table(
     count: u32,
     work: &mut [u32],
     off: usize,
-) -> usize
+) -> Option<usize>
     requires { (count ≡ field w table.now 0 1) × (count * w ≤ length table.now) × (1 ≤ count) × (count ≤ 65536) × (24 ≤ w)
         × (0 < length hash.now / 4) × (length hash.now / 4 ≤ 65536) × (off + count ≤ length work.old) × ((y : ℕ) → mark_at work.old off y ≡ 0) }
     ensures { TableCounted hash.now table.now w off work.old work.new result }
@@ -153,32 +131,20 @@ fn sort_table(
         off,
         tree_marks::GONE,
     ) {
-        return 0;
+        return None;
     }
-    let longest = sort_buckets(hash, table, w, count, buckets, work, off);
-    if longest == 0 {
-        return 0;
-    }
+    let longest = sort_buckets(hash, table, w, count, buckets, work, off)?;
     if !all_marked(work, off, count) {
-        return 0;
+        return None;
     }
-    longest
+    Some(longest)
 }
 
 // Whether the numbers at a table's front fit its room.
 fn front_fits(count: u32, maximum: u32, room: usize, least: u32) -> bool
     ensures { Tells ((maximum ≤ room) × (1 ≤ count) × (count ≤ maximum) × (least ≤ count)) result }
 {
-    if tree_table::index(maximum) > room {
-        return false;
-    }
-    if count < 1 {
-        return false;
-    }
-    if count > maximum {
-        return false;
-    }
-    count >= least
+    tree_table::index(maximum) <= room && 1 <= count && count <= maximum && least <= count
 }
 
 // The test of one table by itself, whose marks begin at `off` and are 0. It leaves the marks of the removed entries. The keys of long buckets are
@@ -200,11 +166,10 @@ pub fn test_table(
     if !front_fits(count, maximum, table.len() / w, least) {
         return false;
     }
-    let longest = sort_table(hash, table, w, count, work, off);
-    if longest == 0 {
+    let Some(longest) = sort_table(hash, table, w, count, work, off) else {
         return false;
-    }
-    if NEAR_ANSWER < longest {
+    };
+    if tree_apart::NEAR < longest {
         return tree_apart::test_far(hash, table, w, count, work, off);
     }
     tree_marks::keep_gone(work, off, count);

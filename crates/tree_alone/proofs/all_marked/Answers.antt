@@ -1,6 +1,6 @@
 -- `all_marked` meets its contract.
 use mathlib.Core.Path.{refl, sym, ap, ◌∙◌}
-use Prim.Native.Nat.{◌-◌, ◌<◌}
+use Prim.Native.Nat.{◌<◌}
 use borrow.Author.Rules.{rules}
 use Rattle.tree_marks.specs.Inner.Marks.{mark_at}
 use Rattle.tree_marks.proofs.Gathering.{check_begin, check_on, check_stop, check_done}

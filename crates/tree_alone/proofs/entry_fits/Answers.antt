@@ -31,8 +31,8 @@ returns-then-index-place c = fits_not _ _ _ _ _ _ c.if-mark-eq-GONE.false c.hash
 pub returns-then-long : goal.returns-then-long
 returns-then-long c = fits_long _ _ _ _ _ _ c.if-mark-eq-GONE.false c.hash-place.result (c.hash-place.ensures ∙ ap (λ k. hash_of k % c.args.buckets) (read_key c.args.table.now c.args.w c.index.ensures (omega arith) c.get_key-key.ensures)) (sym c.index-2.ensures ∙ c.if-index-place.false) c.if-long.true
 
-pub get-hit-requires : goal.get-hit-requires
-get-hit-requires c = ((subst (λ z. Ends c.args.table.now c.args.w (c.args.w - 4) z) (sym c.link_of-first.ensures) (c.requires.4 c.if-mark-eq-GONE.false (let e = c.index-2.ensures in omega arith))), omega arith)
+pub get-requires : goal.get-requires
+get-requires c = ((subst (λ z. Ends c.args.table.now c.args.w (c.args.w - 4) z) (sym c.link_of-first.ensures) (c.requires.4 c.if-mark-eq-GONE.false (let e = c.index-2.ensures in omega arith))), omega arith)
 
 pub returns : goal.returns
-returns c = fits_apart _ _ _ _ _ _ c.if-mark-eq-GONE.false c.hash-place.result (c.hash-place.ensures ∙ ap (λ k. hash_of k % c.args.buckets) (read_key c.args.table.now c.args.w c.index.ensures (omega arith) c.get_key-key.ensures)) (sym c.index-2.ensures ∙ c.if-index-place.false) c.if-long.false (key_words c.get_key-key.result) (read_key c.args.table.now c.args.w c.index.ensures (omega arith) c.get_key-key.ensures) c.link_of-first.result c.link_of-first.ensures (subst (λ z. Ends c.args.table.now c.args.w (c.args.w - 4) z) (sym c.link_of-first.ensures) (c.requires.4 c.if-mark-eq-GONE.false (let e = c.index-2.ensures in omega arith))) c.get-hit.result c.get-hit.ensures
+returns c = fits_apart _ _ _ _ _ _ c.if-mark-eq-GONE.false c.hash-place.result (c.hash-place.ensures ∙ ap (λ k. hash_of k % c.args.buckets) (read_key c.args.table.now c.args.w c.index.ensures (omega arith) c.get_key-key.ensures)) (sym c.index-2.ensures ∙ c.if-index-place.false) c.if-long.false (key_words c.get_key-key.result) (read_key c.args.table.now c.args.w c.index.ensures (omega arith) c.get_key-key.ensures) c.link_of-first.result c.link_of-first.ensures (subst (λ z. Ends c.args.table.now c.args.w (c.args.w - 4) z) (sym c.link_of-first.ensures) (c.requires.4 c.if-mark-eq-GONE.false (let e = c.index-2.ensures in omega arith))) c.get.result c.get.ensures

@@ -1,30 +1,31 @@
 -- `sort_buckets` meets its contract.
-use Prim.Native.Nat.{◌-◌}
 use native.Mathlib.Omega.{arith}
+use Rattle.tree_apart.proofs.Differing.{numbered}
 use Rattle.tree_alone.proofs.Entries.{filling_begin, filling_on, filling_stop, filling_done}
 use borrow.Author.Rules.{rules}
 use Rattle.tree_alone.proofs.sort_buckets.Goals as goal
 
-pub loop-i-init : goal.loop-i-init
-loop-i-init c = filling_begin _ _ _ _ _ _ _
+pub loop-b-init : goal.loop-b-init
+loop-b-init c = filling_begin _ _ _ _ _ _ _
 
-pub sort_bucket-n-requires : goal.sort_bucket-n-requires
-sort_bucket-n-requires c = (
+pub sort_bucket-requires : goal.sort_bucket-requires
+sort_bucket-requires c = (
   search rules,
   search rules,
   search rules,
   search rules,
-  omega (arith, c.loop-i.invariant.size),
+  omega (arith, c.loop-b.invariant.size),
   search rules,
   search rules,
-  c.loop-i.invariant.fit.some,
+  c.loop-b.invariant.fit.some,
 )
 
-pub returns-then-n-eq0 : goal.returns-then-n-eq0
-returns-then-n-eq0 c = filling_stop c.loop-i.invariant (omega arith) (search rules) c.get_hash-first.ensures c.sort_bucket-n.ensures c.if-n-eq0.true
+pub returns-in_err-n : goal.returns-in_err-n
+returns-in_err-n c = rw c.from_residual.ensures (filling_stop c.loop-b.invariant (omega arith) (search rules) (numbered c.args.hash.now c.loop-b.b c.get_hash-first.ensures) c.in_err-n.ensures)
 
-pub loop-i-preserved : goal.loop-i-preserved
-loop-i-preserved c = filling_on c.loop-i.invariant (omega arith) (search rules) c.get_hash-first.ensures c.sort_bucket-n.ensures (omega arith) c.larger-longest.ensures.0 c.larger-longest.ensures.1
+pub loop-b-preserved : goal.loop-b-preserved
+loop-b-preserved c =
+    filling_on c.loop-b.invariant (omega arith) (search rules) (numbered c.args.hash.now c.loop-b.b c.get_hash-first.ensures) c.in_ok-n.ensures (search rules) (search rules)
 
 pub returns : goal.returns
-returns c = filling_done c.loop-i.invariant (omega arith)
+returns c = filling_done c.loop-b.invariant (omega arith)

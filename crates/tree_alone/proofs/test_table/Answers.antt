@@ -1,4 +1,6 @@
 -- `test_table` meets its contract.
+use mathlib.Core.Path.{refl, ap}
+use Rattle.std.specs.Option.{is_some}
 use native.Mathlib.Omega.{arith}
 use borrow.Author.Tests.{not-true, not-false}
 use Rattle.tree_alone.proofs.Singles.{single_front, single_lists, single_good, single_bounded, single_beyond, single_far, rooms_fit, count_is}
@@ -9,8 +11,8 @@ pub returns-then-not-front_fits : goal.returns-then-not-front_fits
 returns-then-not-front_fits c =
     single_front c.args.hash.now c.args.table.now c.args.w c.args.least c.args.off c.args.work.now c.link_of-count.ensures c.link_of-maximum.ensures c.front_fits.ensures (not-true c.front_fits.result c.if-not-front_fits.true-raw)
 
-pub sort_table-longest-requires : goal.sort_table-longest-requires
-sort_table-longest-requires c =
+pub sort_table-requires : goal.sort_table-requires
+sort_table-requires c =
     let n = c.front_fits.ensures.yes (not-false c.front_fits.result c.if-not-front_fits.false-raw) in (
       count_is c.args.hash.now c.args.table.now c.args.w c.args.least c.args.off c.args.work.now c.link_of-count.ensures c.link_of-maximum.ensures c.front_fits.ensures,
       rooms_fit c.args.table.now c.args.w c.link_of-count.result (omega (arith, n.0, n.2)),
@@ -23,30 +25,30 @@ sort_table-longest-requires c =
       c.requires.6,
     )
 
-pub returns-then-longest-eq0 : goal.returns-then-longest-eq0
-returns-then-longest-eq0 c =
-    single_lists c.args.hash.now c.args.table.now c.args.w c.args.least c.args.off c.args.work.now c.link_of-count.ensures c.link_of-maximum.ensures c.front_fits.ensures (not-false c.front_fits.result c.if-not-front_fits.false-raw) c.sort_table-longest.ensures c.if-longest-eq0.true
+pub returns-in_default : goal.returns-in_default
+returns-in_default c =
+    single_lists c.args.hash.now c.args.table.now c.args.w c.args.least c.args.off c.args.work.now c.link_of-count.ensures c.link_of-maximum.ensures c.front_fits.ensures (not-false c.front_fits.result c.if-not-front_fits.false-raw) c.sort_table.ensures (ap is_some c.in_default.is)
 
 pub test_far-requires : goal.test_far-requires
 test_far-requires c =
     let n = c.front_fits.ensures.yes (not-false c.front_fits.result c.if-not-front_fits.false-raw) in (
-      single_bounded c.args.hash.now c.args.table.now c.args.w c.args.least c.args.off c.args.work.now c.link_of-count.ensures c.link_of-maximum.ensures c.front_fits.ensures (not-false c.front_fits.result c.if-not-front_fits.false-raw) c.sort_table-longest.ensures (omega arith),
+      single_bounded c.args.hash.now c.args.table.now c.args.w c.args.least c.args.off c.args.work.now c.link_of-count.ensures c.link_of-maximum.ensures c.front_fits.ensures (not-false c.front_fits.result c.if-not-front_fits.false-raw) c.in-Some.ensures refl,
       search rules,
       search rules,
       rooms_fit c.args.table.now c.args.w c.link_of-count.result (omega (arith, n.0, n.2)),
-      omega (arith, n.0, n.2, c.sort_table-longest.ensures.sorted.within.size),
-      single_beyond c.args.hash.now c.args.table.now c.args.w c.args.least c.args.off c.args.work.now c.link_of-count.ensures c.link_of-maximum.ensures c.front_fits.ensures (not-false c.front_fits.result c.if-not-front_fits.false-raw) c.sort_table-longest.ensures c.requires.6,
+      omega (arith, n.0, n.2, c.in-Some.ensures.sorted.within.size),
+      single_beyond c.args.hash.now c.args.table.now c.args.w c.args.least c.args.off c.args.work.now c.link_of-count.ensures c.link_of-maximum.ensures c.front_fits.ensures (not-false c.front_fits.result c.if-not-front_fits.false-raw) c.in-Some.ensures c.requires.6,
     )
 
-pub returns-then-longest-gt-NEAR_ANSWER : goal.returns-then-longest-gt-NEAR_ANSWER
-returns-then-longest-gt-NEAR_ANSWER c =
-    single_far c.args.hash.now c.args.table.now c.args.w c.args.least c.args.off c.args.work.now c.link_of-count.ensures c.link_of-maximum.ensures c.front_fits.ensures (not-false c.front_fits.result c.if-not-front_fits.false-raw) c.sort_table-longest.ensures (omega arith) c.test_far.ensures
+pub returns-then-longest-gt-NEAR : goal.returns-then-longest-gt-NEAR
+returns-then-longest-gt-NEAR c =
+    single_far c.args.hash.now c.args.table.now c.args.w c.args.least c.args.off c.args.work.now c.link_of-count.ensures c.link_of-maximum.ensures c.front_fits.ensures (not-false c.front_fits.result c.if-not-front_fits.false-raw) c.in-Some.ensures refl c.test_far.ensures
 
 pub keep_gone-requires : goal.keep_gone-requires
 keep_gone-requires c =
     let n = c.front_fits.ensures.yes (not-false c.front_fits.result c.if-not-front_fits.false-raw) in
-    omega (arith, n.0, n.2, c.sort_table-longest.ensures.sorted.within.size)
+    omega (arith, n.0, n.2, c.in-Some.ensures.sorted.within.size)
 
 pub returns : goal.returns
 returns c =
-    single_good c.args.hash.now c.args.table.now c.args.w c.args.least c.args.off c.args.work.now c.link_of-count.ensures c.link_of-maximum.ensures c.front_fits.ensures (not-false c.front_fits.result c.if-not-front_fits.false-raw) c.sort_table-longest.ensures (omega arith) (omega arith) c.keep_gone.ensures
+    single_good c.args.hash.now c.args.table.now c.args.w c.args.least c.args.off c.args.work.now c.link_of-count.ensures c.link_of-maximum.ensures c.front_fits.ensures (not-false c.front_fits.result c.if-not-front_fits.false-raw) c.in-Some.ensures refl (omega arith) c.keep_gone.ensures

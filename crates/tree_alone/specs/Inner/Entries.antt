@@ -1,10 +1,10 @@
 -- What the test asks of one entry by itself, once its table's buckets were gone along.
-use Rattle.std.specs.Prelude.{◌≡◌, List, ◌⊎◌, Bool, true, false, ℕ, ◌+◌, ◌-◌, ◌*◌, ◌%◌, ◌<◌}
+use Rattle.std.specs.Prelude.{◌≡◌, List, ◌⊎◌, Bool, false, ℕ, ◌+◌, ◌%◌}
 use Rattle.links.specs.Links.{◌∈◌}
 use Rattle.tree_key.specs.Hash.{hash_of}
 use Rattle.tree_table.specs.Field.{start, collision_field, field}
 use Rattle.tree_table.specs.View.{key_at}
-use Rattle.tree_table.specs.Chain.{link_at, list_at}
+use Rattle.tree_table.specs.Chain.{list_at}
 use Rattle.tree_marks.specs.Inner.Marks.{gone}
 use Rattle.tree_apart.specs.Inner.Apart.{Apart, far}
 

@@ -1,5 +1,6 @@
 -- What the parts of the test promise, table by table.
-use Rattle.std.specs.Prelude.{◌≡◌, List, ◌⊎◌, ◌≢◌, ◌↔◌, Bool, true, false, ℕ, ◌+◌, ◌-◌, ◌*◌, ◌/◌, ◌≤◌, ◌<◌, ltb, length}
+use Rattle.std.specs.Prelude.{◌≡◌, List, ◌⊎◌, ◌≢◌, ◌↔◌, Option, Some, Bool, true, false, ℕ, ◌+◌, ◌/◌, ◌≤◌, ◌<◌, length}
+use Rattle.std.specs.Option.{is_some}
 use Rattle.links.specs.Links.{◌∈◌, Links, Holds}
 use Rattle.tree_table.specs.Field.{start, collision_field, field}
 use Rattle.tree_table.specs.View.{View, view_of, hash_at, removed_of, Live}
@@ -24,10 +25,10 @@ pub record BucketFiled (t : List ℕ) (w count buckets first i off : ℕ) (work 
   pub bad : r ≡ false → (xs : List ℕ) → Links (link_at t w (start w collision_field)) first xs → Unmarked count (mark_at work off) xs → AllFit t w buckets first i → ⊥
   pub within : Within off count work work'
 
--- the same where the answer is one more than the bucket's length, or 0
-pub record BucketCounted (t : List ℕ) (w count buckets first i off : ℕ) (work work' : List ℕ) (n : ℕ) : Type 0 where
-  pub filed : BucketFiled t w count buckets first i off work work' (ltb 0 n)
-  pub longer : 0 < n → length (list_at t w (start w collision_field) first) < n
+-- the same where the answer is the bucket's length, or none
+pub record BucketCounted (t : List ℕ) (w count buckets first i off : ℕ) (work work' : List ℕ) (r : Option ℕ) : Type 0 where
+  pub filed : BucketFiled t w count buckets first i off work work' (is_some r)
+  pub longer : (n : ℕ) → r ≡ Some n → length (list_at t w (start w collision_field) first) ≤ n
 
 -- all buckets gone along: their entries have their marks, and each fits; or the buckets do not each hold exactly the entries that name them by f, or not all fit
 pub record BucketsFiled (h t : List ℕ) (w count buckets off : ℕ) (R work' : List ℕ) (r : Bool) : Type 0 where
@@ -38,10 +39,10 @@ pub record BucketsFiled (h t : List ℕ) (w count buckets off : ℕ) (R work' : 
       → ((j : ℕ) → 0 < j → j < buckets + 1 → any j → Holds (link_at t w (start w collision_field)) (bucket_at h j) (λ y. Live count R y × (f y ≡ j)))
       → ((j : ℕ) → 0 < j → j < buckets + 1 → AllFit t w buckets (bucket_at h j) j) → ⊥
 
--- the same where the answer is one more than the longest bucket's length, or 0
-pub record BucketsCounted (h t : List ℕ) (w count buckets off : ℕ) (work work' : List ℕ) (n : ℕ) : Type 0 where
-  pub filed : (R : List ℕ) → Gathered (link_at t w (start w collision_field)) count (bucket_at h) any R 1 (mark_at work off) → BucketsFiled h t w count buckets off R work' (ltb 0 n)
-  pub longest : 0 < n → (j : ℕ) → 0 < j → j < buckets + 1 → length (list_at t w (start w collision_field) (bucket_at h j)) < n
+-- the same where the answer is the longest bucket's length, or none
+pub record BucketsCounted (h t : List ℕ) (w count buckets off : ℕ) (work work' : List ℕ) (r : Option ℕ) : Type 0 where
+  pub filed : (R : List ℕ) → Gathered (link_at t w (start w collision_field)) count (bucket_at h) any R 1 (mark_at work off) → BucketsFiled h t w count buckets off R work' (is_some r)
+  pub longest : (n : ℕ) → r ≡ Some n → (j : ℕ) → 0 < j → j < buckets + 1 → length (list_at t w (start w collision_field) (bucket_at h j)) ≤ n
   pub within : Within off count work work'
 
 -- one table t of width w with its hash h, whatever its root and child lists
@@ -64,10 +65,10 @@ pub record TableSorted (h t : List ℕ) (w off : ℕ) (work work' : List ℕ) (r
   pub apart : r ≡ true → (root : ℕ) (head : ℕ → ℕ) → Table (alone_view h t w root head) → FarApart h t w
   pub within : Within off (field w t 0 1) work work'
 
--- the same where the answer is one more than the longest bucket's length, or 0
-pub record TableCounted (h t : List ℕ) (w off : ℕ) (work work' : List ℕ) (n : ℕ) : Type 0 where
-  pub sorted : TableSorted h t w off work work' (ltb 0 n)
-  pub near : 0 < n → n ≤ few + 1 → NoneFar h t w
+-- the same where the answer is the longest bucket's length, or none
+pub record TableCounted (h t : List ℕ) (w off : ℕ) (work work' : List ℕ) (r : Option ℕ) : Type 0 where
+  pub sorted : TableSorted h t w off work work' (is_some r)
+  pub near : (n : ℕ) → r ≡ Some n → n ≤ few → NoneFar h t w
 
 -- the whole test of one table by itself; `least` is the smallest count. The marks of the removed entries are left
 pub record TableTested (h t : List ℕ) (w least off : ℕ) (work work' : List ℕ) (r : Bool) : Type 0 where
