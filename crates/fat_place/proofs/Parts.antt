@@ -1,8 +1,9 @@
 -- What a window leaves of one node, put behind a waiting one.
-use mathlib.Core.Path.{◌≡◌, refl, sym, ap, subst, subst⁻¹, ◌∙◌}
+use mathlib.Core.Path.{◌≡◌, refl, sym, ap, subst⁻¹, ◌∙◌}
 use mathlib.Core.List.{List, [], ◌∷◌, ◌++◌}
 use mathlib.Core.Logic.{⊎_elim}
 use Prim.Native.Nat.{ℕ, zero, suc, ◌+◌, ◌-◌, ◌≤◌}
+use Rattle.std.specs.Prelude.{min}
 use native.Mathlib.Omega.{arith}
 use lib.ListN.{length}
 use Rattle.fat_node.specs.Entry.{Bytes}
@@ -69,6 +70,9 @@ parts_within b s q₁ q₂ x h k =
       hits_split x (run b q₂) q₁ h,
     )
 
+least_min : (s c q : ℕ) → q ≡ min s c → Least s c q
+least_min s c q e = record { left = omega (arith, e); right = omega (arith, e); one = λ h. omega (arith, e, h) }
+
 least_order : (s a b p q : ℕ) → a ≤ b → Least s a p → Least s b q → p ≤ q
 least_order s a b p q h l k = ⊎_elim
     (λ j. omega (arith, j, l.left))
@@ -86,7 +90,7 @@ wrote_long : (t : Bytes) (s b p i : ℕ) (t' : Bytes) → Wrote t s b p i t' →
 wrote_long t s b p i t' (unwritten e) = ap (λ (y : Bytes). length y) e
 wrote_long t s b p i t' (written h e) = ap (λ (y : Bytes). length y) e ∙ length_set_node t (run b s) p i
 
-module _ (n : ℕ) (t : Bytes) (s₀ b₀ p₀ f₀ b s m e q₁ q₂ : ℕ) (some : 1 ≤ s) (order : m ≤ e) (o₁ o₂ : ℕ) (z₁ : o₁ ≡ m - b) (z₂ : o₂ ≡ e - b) (k₁ : Least s o₁ q₁) (k₂ : Least s o₂ q₂)
+module _ (n : ℕ) (t : Bytes) (s₀ b₀ p₀ f₀ b s m e q₁ q₂ : ℕ) (some : 1 ≤ s) (order : m ≤ e) (o₁ o₂ : ℕ) (z₁ : o₁ ≡ m - b) (z₂ : o₂ ≡ e - b) (k₁ : q₁ ≡ min s o₁) (k₂ : q₂ ≡ min s o₂)
     (t₁ : Bytes) (s₁ b₁ p₁ f₁ : ℕ) (u : PutSays n t s₀ b₀ p₀ f₀ q₁ b t₁ s₁ b₁ p₁ f₁) where
   pub parts_room : length t₁ ≡ length t
   parts_room = wrote_long t s₀ b₀ p₀ (suc b) t₁ u.wrote
@@ -94,8 +98,8 @@ module _ (n : ℕ) (t : Bytes) (s₀ b₀ p₀ f₀ b s m e q₁ q₂ : ℕ) (so
   pub parts_say : (t₂ : Bytes) (s₂ b₂ p₂ f₂ : ℕ) → PutSays n t₁ s₁ b₁ p₁ f₁ (s - q₂) (b + q₂) t₂ s₂ b₂ p₂ f₂
       → PartsSay n t s₀ b₀ p₀ f₀ (run b s) m e t₂ s₂ b₂ p₂ f₂
   parts_say t₂ s₂ b₂ p₂ f₂ v =
-      let l₁ : Least s (m - b) q₁ = subst (λ (y : ℕ). Least s y q₁) z₁ k₁ in
-      let l₂ : Least s (e - b) q₂ = subst (λ (y : ℕ). Least s y q₂) z₂ k₂ in
+      let l₁ : Least s (m - b) q₁ = least_min s (m - b) q₁ (omega (arith, z₁, k₁)) in
+      let l₂ : Least s (e - b) q₂ = least_min s (e - b) q₂ (omega (arith, z₂, k₂)) in
       let N : List Run = node_of s₀ b₀ in
       let tk : taken (run b s ∷ []) (m - b) ≡ node_of q₁ b = taken_node b s (m - b) q₁ some l₁ in
       let lf : left (run b s ∷ []) (e - b) ≡ node_of (s - q₂) (b + q₂) = left_node b s (e - b) q₂ some l₂ in

@@ -11,10 +11,10 @@ ghost use Rattle.fat_place.specs.Place.{placed};
 ghost use Rattle.fat_place.specs.Inner.Carving.{node_of, first_of, Waits, PutSays, PartsSay, CarvedBy};
 
 use fat_node::Node;
-use fat_walk::{head_of, least, size_at};
+use fat_walk::{head_of, size_at};
 
 // A node that is to be written when the next is known: none where its size is 0. Index `prev` stands before it, `first` names the first of its chain.
-#[derive(Drop)]
+#[derive(Clone, Copy)]
 struct Waiting {
     size: usize,
     start: usize,
@@ -41,46 +41,29 @@ fn put(table: &mut [u8], n: usize, w: Waiting, size: usize, start: usize) -> Wai
             first: next,
         };
     }
-    let b = w.start;
-    let prev = w.prev;
-    let first = w.first;
-    let s = w.size;
     fat_node::set_node(
         table,
         n,
-        b,
+        w.start,
         Node {
-            size: s,
-            prev,
+            size: w.size,
+            prev: w.prev,
             next,
         },
     );
     Waiting {
         size,
         start,
-        prev: b + 1,
-        first,
+        prev: w.start + 1,
+        first: w.first,
     }
-}
-
-// What is left of one number after another, at least 0.
-fn over(a: usize, b: usize) -> usize
-    ensures { result ≡ a - b }
-{
-    if b < a {
-        return a - b;
-    }
-    0
 }
 
 // The index of the first node of a chain of which a node of size blocks waits, with index first: 0 where none does.
 fn first_of(size: usize, first: usize) -> usize
     ensures { result ≡ first_of size «first» [] }
 {
-    if size == 0 {
-        return 0;
-    }
-    first
+    if size == 0 { 0 } else { first }
 }
 
 // Writes the waiting node, if one waits, as the last of its chain.
@@ -89,19 +72,16 @@ fn put_last(table: &mut [u8], n: usize, w: Waiting)
     requires waits { Waits n w.size w.start w.prev }
     ensures { table.new ≡ lay (node_of w.size w.start) w.prev table.old }
 {
-    let s = w.size;
-    if s == 0 {
+    if w.size == 0 {
         return;
     }
-    let b = w.start;
-    let prev = w.prev;
     fat_node::set_node(
         table,
         n,
-        b,
+        w.start,
         Node {
-            size: s,
-            prev,
+            size: w.size,
+            prev: w.prev,
             next: 0,
         },
     );
@@ -122,8 +102,8 @@ fn put_parts(
     requires le_size { (1 ≤ size) × (b + size ≤ n) × (m ≤ end) }
     ensures { PartsSay n table.old w.size w.start w.prev w.first (run b size) m end table.new result.size result.start result.prev result.first }
 {
-    let before = least(size, over(m, b));
-    let past = least(size, over(end, b));
+    let before = size.min(m.saturating_sub(b));
+    let past = size.min(end.saturating_sub(b));
     let v = put(table, n, w, before, b);
     put(table, n, v, size - past, b + past)
 }
