@@ -14,8 +14,8 @@ use Rattle.fat_node.proofs.Nodes.{le_or_lt}
 use Rattle.map_bits.specs.Bits.{words_in, counted_in}
 use Rattle.fat_map.specs.Count.{count_gives, CountPromise}
 
-pub unfit_none : (n : ℕ) → n < 1 → Tells ((n < 1) ⊎ (1000000 < n)) true
-unfit_none n h = record { yes = λ _. inl h; only = λ _. refl }
+pub unfit_none : (n : ℕ) → n < 1 → Tells ((n < 1) ⊎ (1000000 < n)) (ltb n 1)
+unfit_none n h = record { yes = λ _. inl h; only = λ _. lt-ltb n 1 h }
 
 pub unfit_many : (n : ℕ) → 1 ≤ n → Tells ((n < 1) ⊎ (1000000 < n)) (ltb 1000000 n)
 unfit_many n h = record { yes = λ e. inr (ltb-true 1000000 n e); only = ⊎_elim (λ k. let z : ⊥ = omega arith in absurd z) (λ k. lt-ltb 1000000 n k) }

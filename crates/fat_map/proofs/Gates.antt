@@ -12,10 +12,14 @@ use Rattle.order.specs.First.{Row}
 use Rattle.order.specs.Gate.{cleared, gate, Refusal, refusal}
 use Rattle.order.specs.Given.{Given, None}
 use Rattle.order.specs.Tells.{Tells}
+use Rattle.std.specs.Prelude.{Result, Ok, Err}
+use Rattle.order.specs.declared.Refusal as why
+use Rattle.order.specs.declared.Refusal.TheVariants as refused
 use Rattle.order.specs.Answer.{unbroken}
 use Rattle.order.specs.Answer.{Answer}
 use Rattle.order.specs.Answer.{BrokenFat, ReadOnlyVolume}
 use Rattle.order.proofs.Gate.{later_says, later_past}
+use Rattle.fat_node.specs.declared.Counts.{Counts}
 use Rattle.fat_node.specs.Entry.{Bytes}
 use Rattle.fat_node.specs.Sizes.{blocks}
 use Rattle.fat_node.proofs.Sizes.{fit, inside}
@@ -23,8 +27,6 @@ use Rattle.fat_node.proofs.Nodes.{le_or_lt}
 use Rattle.fat_table.specs.Sound.{Sound}
 use Rattle.fat_test.specs.Gate.{InUse, unsound, retired, Uneven, Unfit, gate_with}
 use Rattle.fat_test.specs.Inner.Gated.{OpenedWith, GateOf}
-use Rattle.fat_test.specs.declared.Gated.{Gated}
-use Rattle.fat_test.specs.declared.Gated.TheVariants.{Open, Refused}
 use Rattle.fat_test.proofs.Change.{not_in_use}
 use Rattle.fat_walk.specs.Volume.{Volume}
 use Rattle.map_bits.specs.Bits.{words_in}
@@ -45,10 +47,10 @@ module _ (t : Bytes) (d l : ℕ) (work map : List ℕ) where
     long_refused o (inr (m, inr (i, inl p))) = inr (m, inr (i, inl (inl p.0, p.1)))
     long_refused o (inr (m, inr (i, inr (s, p)))) = inr (m, inr (i, inr (none_short s, p)))
 
-    pub long_told : (work' : List ℕ) (r : Gated) → GateOf t d l work work' r → BuildGateOf t d l work map work' r
+    pub long_told : (work' : List ℕ) (r : Result Counts why.Refusal) → GateOf t d l work work' r → BuildGateOf t d l work map work' r
     unfolding MapGateOf
-    long_told work' (Refused a) g = long_refused (refusal a work') g
-    long_told work' (Open free files) g = record {
+    long_told work' (Err a) g = long_refused (refusal (Err a) work') g
+    long_told work' (Ok c) g = record {
       none = (g.none.0, (g.none.1.0, (none_short g.none.1.1.0, g.none.1.1.1)));
       sound = g.sound;
       clear = g.clear;
@@ -67,13 +69,13 @@ module _ (t : Bytes) (d l : ℕ) (work map : List ℕ) where
     short_refused a none part e f (inr (m, inr (i, inl p))) = inr (m, inr (i, inl (inr short, ap (λ (r : Refusal). refusal r.answer work) p.1)))
     short_refused a none part e f (inr (m, inr (i, inr (s, p)))) = absurd (s (omega (arith, e, (inside t (λ o. i (inl o))).0)))
 
-    untouched : (none part : List ℕ) (r : Gated) → length none ≡ 0 → length part ≡ 0 → GateOf t d l none part r → BuildGateOf t d l work map work r
+    untouched : (none part : List ℕ) (r : Result Counts why.Refusal) → length none ≡ 0 → length part ≡ 0 → GateOf t d l none part r → BuildGateOf t d l work map work r
     unfolding MapGateOf
-    untouched none part (Refused a) e f g = short_refused a none part e f g
-    untouched none part (Open free files) e f g =
+    untouched none part (Err a) e f g = short_refused (Err a) none part e f g
+    untouched none part (Ok c) e f g =
         absurd (g.none.1.1.0 (omega (arith, e, (inside t (λ o. g.none.1.0 (inl o))).0)))
 
-    pub short_told : (part : List ℕ) (r : Gated) → GateOf t d l [] part r → length part ≡ 0 → BuildGateOf t d l work map (part ++ work) r
+    pub short_told : (part : List ℕ) (r : Result Counts why.Refusal) → GateOf t d l [] part r → length part ≡ 0 → BuildGateOf t d l work map (part ++ work) r
     short_told part r g f = subst⁻¹ (λ (p : List ℕ). BuildGateOf t d l work map (p ++ work) r) (nil part f) (untouched [] part r refl f g)
 
 -- the words of a map, by the code's numbers
@@ -103,10 +105,10 @@ cleared_long n work h = omega (arith, length-append (replicate n 0) (drop n work
 pub cleared_again : (n : ℕ) (work : List ℕ) → cleared n work ≡ cleared n (cleared n work)
 cleared_again n work = ap (λ (l : List ℕ). replicate n 0 ++ l) (sym (drop_at (replicate n 0) (drop n work) n (length-replicate n 0)))
 
-module _ (t : Bytes) (d l : ℕ) (work map work' : List ℕ) (r : Gated) (g : BuildGateOf t d l work map work' r) (free files n : ℕ) (e : r ≡ Open free files) (q : n ≡ blocks t) where
+module _ (t : Bytes) (d l : ℕ) (work map work' : List ℕ) (c : Counts) (g : BuildGateOf t d l work map work' (Ok c)) (n : ℕ) (q : n ≡ blocks t) where
   abbrev opened : OpenedMap t d l [] work map work'
   unfolding MapGateOf
-  opened = subst (BuildGateOf t d l work map work') e g
+  opened = g
 
   pub build_ready : Volume n t
   build_ready = subst⁻¹ (λ (m : ℕ). Volume m t) q (opened_volume t d l [] work map work' opened)
@@ -130,7 +132,7 @@ module _ (t : Bytes) (d l : ℕ) (work map work' : List ℕ) (r : Gated) (g : Bu
 
 -- the rows after soundness -------------------------------------------------------------------------------------------
 
-module _ (t : Bytes) (d l : ℕ) (work map work' : List ℕ) (r : Gated) (g : BuildGateOf t d l work map work' r) where
+module _ (t : Bytes) (d l : ℕ) (work map work' : List ℕ) where
   more_refused : (o : Refusal) → Given (map_gate refusal t d l [] work map) o → Given (map_gate refusal t d l (map_rows t l map) work map) o
   more_refused o (inl p) = inl p
   more_refused o (inr (m, inl p)) = inr (m, inl p)
@@ -138,46 +140,39 @@ module _ (t : Bytes) (d l : ℕ) (work map work' : List ℕ) (r : Gated) (g : Bu
   more_refused o (inr (m, inr (i, inr (s, inl p)))) = inr (m, inr (i, inr (s, inl p)))
   more_refused o (inr (m, inr (i, inr (s, inr (u, z))))) = absurd z
 
-  pub change_refused : (a : Answer) → r ≡ Refused a → ChangeGateOf t d l work map work' (Refused a)
+  pub change_refused : (a : why.Refusal) → BuildGateOf t d l work map work' (Err a) → ChangeGateOf t d l work map work' (Err a)
   unfolding MapGateOf
-  change_refused a e = more_refused (refusal a work') (subst (BuildGateOf t d l work map work') e g)
+  change_refused a g = more_refused (refusal (Err a) work') g
 
-  module _ (free files : ℕ) (e : r ≡ Open free files) (work'' : List ℕ) (same : work'' ≡ work') where
+  module _ (c : Counts) (g : BuildGateOf t d l work map work' (Ok c)) (work'' : List ℕ) (same : work'' ≡ work') where
     abbrev passed : OpenedMap t d l [] work map work'
     unfolding MapGateOf
-    passed = subst (BuildGateOf t d l work map work') e g
+    passed = g
 
-    row_says : (a : Answer) → Given (map_rows t l map) a → ChangeGateOf t d l work map work'' (Refused a)
+    row_says : (a : why.Refusal) → Given (map_rows t l map) (Err a) → ChangeGateOf t d l work map work'' (Err a)
     unfolding MapGateOf
     row_says a p =
         let n = passed.none in
-        subst⁻¹ (λ (w : List ℕ). Given (map_gate refusal t d l (map_rows t l map) work map) (refusal a w)) (same ∙ passed.clear)
-        (inr (n.0, inr (n.1.0, inr (n.1.1.0, inr (n.1.1.1.0, later_says refusal (blocks t) work (map_rows t l map) a p)))))
+        subst⁻¹ (λ (w : List ℕ). Given (map_gate refusal t d l (map_rows t l map) work map) (refusal (Err a) w)) (same ∙ passed.clear)
+        (inr (n.0, inr (n.1.0, inr (n.1.1.0, inr (n.1.1.1.0, later_says refusal (blocks t) work (map_rows t l map) (Err a) p)))))
 
-    pub change_strays : (b : Bool) → Tells (IsMap t map) b → not b ≡ true → ChangeGateOf t d l work map work'' (Refused (BrokenFat unbroken))
-    change_strays b m q = row_says (BrokenFat unbroken) (inl (λ i. untold b (m.only i) q, refl))
-      where
-        untold : (b : Bool) → b ≡ true → not b ≡ true → ⊥
-        untold true u v = let z : ◌≡◌ {A = ℕ} 0 1 = cc in omega (arith, z)
-        untold false u v = let z : ◌≡◌ {A = ℕ} 0 1 = cc in omega (arith, z)
+    module _ (b : Bool) (m : Tells (IsMap t map) b) where
+      pub change_strays : not b ≡ true → ChangeGateOf t d l work map work'' (BrokenFat unbroken)
+      change_strays q = row_says (refused.BrokenFat unbroken) (inl (λ i. let z : b ≡ true = m.only i in let w : b ≡ false = not-true b q in absurd (cc), refl))
 
-    module _ (b : Bool) (m : Tells (IsMap t map) b) (q : not b ≡ false) where
-      is : IsMap t map
-      is = m.yes (told b q)
-        where
-          told : (b : Bool) → not b ≡ false → b ≡ true
-          told true u = refl
-          told false u = let z : ◌≡◌ {A = ℕ} 0 1 = cc in let x : ⊥ = omega (arith, z) in absurd x
+      module _ (q : not b ≡ false) where
+        is : IsMap t map
+        is = m.yes (not-false b q)
 
-      pub change_retired : (c : Bool) → Tells (InUse l) c → c ≡ false → ChangeGateOf t d l work map work'' (Refused ReadOnlyVolume)
-      change_retired c u f = row_says ReadOnlyVolume (inr (λ k. k is, inl (not_in_use l c u f, refl)))
+        pub change_retired : (c : Bool) → Tells (InUse l) c → not c ≡ true → ChangeGateOf t d l work map work'' ReadOnlyVolume
+        change_retired c u f = row_says refused.ReadOnlyVolume (inr (λ k. k is, inl (not_in_use l c u (not-true c f), refl)))
 
-      pub change_open : (c : Bool) → Tells (InUse l) c → c ≡ true → ChangeGateOf t d l work map work'' (Open free files)
-      unfolding MapGateOf
-      change_open c u f =
-          let n = passed.none in
-          record {
-            none = (n.0, (n.1.0, (n.1.1.0, (n.1.1.1.0, later_past refusal (blocks t) work (map_rows t l map) ((λ k. k is), ((λ k. k (u.yes f)), tt))))));
-            sound = passed.sound;
-            clear = same ∙ passed.clear;
-          }
+        pub change_open : (c : Bool) → Tells (InUse l) c → not c ≡ false → ChangeGateOf t d l work map work'' (Ok tt)
+        unfolding MapGateOf
+        change_open c u f =
+            let n = passed.none in
+            record {
+              none = (n.0, (n.1.0, (n.1.1.0, (n.1.1.1.0, later_past refusal (blocks t) work (map_rows t l map) ((λ k. k is), ((λ k. k (u.yes (not-false c f))), tt))))));
+              sound = passed.sound;
+              clear = same ∙ passed.clear;
+            }

@@ -9,17 +9,18 @@ use Rattle.order.specs.First.{Row, First}
 use Rattle.order.specs.Gate.{cleared, refusal}
 use Rattle.order.specs.Giving.{giving}
 use Rattle.order.specs.Given.{Given, None}
+use Rattle.std.specs.Prelude.{Ok, Err}
+use Rattle.order.specs.declared.Refusal as why
 use Rattle.order.specs.Answer.{Answer}
 use Rattle.order.specs.Answer.{Done}
 use Rattle.order.proofs.Beside as rows
 use Rattle.order.proofs.Gate.{gate_given, gate_none, past_later}
+use Rattle.fat_node.specs.declared.Counts.{Counts}
 use Rattle.fat_node.specs.Entry.{Bytes}
 use Rattle.fat_node.specs.Sizes.{blocks}
 use Rattle.links.proofs.Held.{same_or}
 use Rattle.fat_table.specs.Steps.{created, resized, deleted}
 use Rattle.fat_test.specs.Gate.{unsound, Uneven, Unfit}
-use Rattle.fat_test.specs.declared.Gated.{Gated}
-use Rattle.fat_test.specs.declared.Gated.TheVariants.{Open, Refused}
 use Rattle.fat_promises.specs.Calls.{Create, create_gives, create_tests, create_done, Change, change_gives, resize_tests, resize_done, delete_tests, delete_done}
 use Rattle.fat_walk.specs.Volume.{Volume}
 use Rattle.map_bits.specs.Bits.{words_in}
@@ -57,19 +58,18 @@ module _ {A : Type 0} (table_of : A → Bytes) (refuse : Answer → A) (n w : �
 
 -- build --------------------------------------------------------------------------------------------------------------
 
-module _ (t : Bytes) (d l : ℕ) (work map work' : List ℕ) (r : Gated) (g : BuildGateOf t d l work map work' r) where
-  pub build_refused : (a : Answer) → r ≡ Refused a → BuildPromise t d l work map (beside (mapped a map) work')
+module _ (t : Bytes) (d l : ℕ) (work map work' : List ℕ) where
+  pub build_refused : (a : why.Refusal) → BuildGateOf t d l work map work' (Err a) → (o : Answer) → o ≡ Err a → BuildPromise t d l work map (beside (mapped o map) work')
   unfolding BuildPromise MapGateOf
-  build_refused a e =
-      rows.refused (map_gate (λ a w. beside (mapped a map) w) t d l [] work map) (cleared (blocks t) work) [] (mapped Done (redrawn (blocks t) t map)) (beside (mapped a map) work')
-      (gate_given (λ a w. beside (mapped a map) w) (blocks t) work (Uneven t d l) (Unfit t l) (Short t work map) (unsound t ++ []) a work'
-      (subst (BuildGateOf t d l work map work') e g))
+  build_refused a g o e =
+      subst⁻¹ (λ (x : Answer). BuildPromise t d l work map (beside (mapped x map) work')) e
+      (rows.refused (map_gate (λ a w. beside (mapped a map) w) t d l [] work map) (cleared (blocks t) work) [] (mapped Done (redrawn (blocks t) t map)) (beside (mapped (Err a) map) work')
+      (gate_given (λ a w. beside (mapped a map) w) (blocks t) work (Uneven t d l) (Unfit t l) (Short t work map) (unsound t ++ []) (Err a) work' g))
 
-  pub build_passed : (free files n w : ℕ) (part : List ℕ) → r ≡ Open free files → n ≡ blocks t → w ≡ words_in n → part ≡ map_of n t
+  pub build_passed : (c : Counts) → BuildGateOf t d l work map work' (Ok c) → (n w : ℕ) (part : List ℕ) → n ≡ blocks t → w ≡ words_in n → part ≡ map_of n t
       → BuildPromise t d l work map (beside (mapped Done (part ++ drop w map)) work')
   unfolding BuildPromise MapGateOf
-  build_passed free files n w part e q k p =
-      let v : OpenedMap t d l [] work map work' = subst (BuildGateOf t d l work map work') e g in
+  build_passed c v n w part q k p =
       let front = map_gate (λ a w. beside (mapped a map) w) t d l [] work map in
       let same : part ++ drop w map ≡ redrawn (blocks t) t map = redrawn_part n map t w part k p ∙ ap (λ (m : ℕ). redrawn m t map) q in
       subst⁻¹ (λ (x : List ℕ). BuildPromise t d l work map (beside (mapped Done (part ++ drop w map)) x)) v.clear
@@ -79,21 +79,21 @@ module _ (t : Bytes) (d l : ℕ) (work map work' : List ℕ) (r : Gated) (g : Bu
 
 -- the calls that change the table --------------------------------------------------------------------------------------
 
-module _ (t : Bytes) (d l : ℕ) (work map work' : List ℕ) (r : Gated) (g : ChangeGateOf t d l work map work' r) where
-  pub map_refused : {A : Type 0} (refuse : Answer → A) (tests : List (Row Answer)) (done : A) (after : Bytes) (a : Answer) (o : A) → r ≡ Refused a → o ≡ refuse a
+module _ (t : Bytes) (d l : ℕ) (work map work' : List ℕ) where
+  pub map_refused : {A : Type 0} (refuse : Answer → A) (tests : List (Row Answer)) (done : A) (after : Bytes) (a : why.Refusal) (o : A)
+      → ChangeGateOf t d l work map work' (Err a) → o ≡ refuse (Err a)
       → MapPromise refuse t d l work map tests done after (beside (mapped o map) work')
   unfolding MapPromise MapGateOf
-  map_refused refuse tests done after a o e q =
+  map_refused refuse tests done after a o g q =
       subst⁻¹ (λ x. MapPromise refuse t d l work map tests done after (beside (mapped x map) work')) q
       (rows.refused (map_gate (λ a w. beside (mapped (refuse a) map) w) t d l (map_rows t l map) work map) (cleared (blocks t) work)
-      (giving (λ a. mapped (refuse a) map) tests) (mapped done (redrawn (blocks t) after map)) (beside (mapped (refuse a) map) work')
-      (gate_given (λ a w. beside (mapped (refuse a) map) w) (blocks t) work (Uneven t d l) (Unfit t l) (Short t work map) (unsound t ++ map_rows t l map) a work'
-      (subst (ChangeGateOf t d l work map work') e g)))
+      (giving (λ a. mapped (refuse a) map) tests) (mapped done (redrawn (blocks t) after map)) (beside (mapped (refuse (Err a)) map) work')
+      (gate_given (λ a w. beside (mapped (refuse a) map) w) (blocks t) work (Uneven t d l) (Unfit t l) (Short t work map) (unsound t ++ map_rows t l map) (Err a) work' g))
 
-  module _ (free files n : ℕ) (e : r ≡ Open free files) (q : n ≡ blocks t) where
+  module _ (g : ChangeGateOf t d l work map work' (Ok tt)) (n : ℕ) (q : n ≡ blocks t) where
     opened : OpenedMap t d l (map_rows t l map) work map work'
     unfolding MapGateOf
-    opened = subst (ChangeGateOf t d l work map work') e g
+    opened = g
 
     pub map_ready : Volume n t
     map_ready = subst⁻¹ (λ (m : ℕ). Volume m t) q (opened_volume t d l (map_rows t l map) work map work' opened)

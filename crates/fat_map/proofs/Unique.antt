@@ -14,8 +14,7 @@ use Rattle.fat_node.specs.Sizes.{blocks}
 use Rattle.map_bits.specs.Bits.{counted_in}
 use Rattle.fat_map.specs.Gate.{map_gate, map_rows}
 use Rattle.fat_map.specs.Promise.{Beside, beside, Mapped, mapped, redrawn, MapPromise, BuildPromise}
-use Rattle.fat_map.specs.Count.{count_gives, count_tests, CountPromise}
-use Rattle.fat_map.specs.declared.Counted.{Counted}
+use Rattle.fat_map.specs.Count.{Counted, count_gives, count_tests, CountPromise}
 
 -- of create, resize and delete with a map
 pub one_map : {A : Type 0} (refuse : Answer → A) (t : Bytes) (d l : ℕ) (work map : List ℕ) (tests : List (Row Answer)) (done : A) (after : Bytes) (o o' : Beside (Mapped A))

@@ -23,8 +23,7 @@ use Rattle.fat_table.proofs.Layouts.{hits_hi, hits_most}
 use Rattle.fat_table.proofs.Files.{Whole}
 use Rattle.fat_table.proofs.Decided.{sound_decided}
 use Rattle.fat_fault.specs.Fault.{fault_of}
-use Rattle.fat_test.specs.Promise.{TestPromise, test_done}
-use Rattle.fat_test.specs.declared.Tested.{Tested}
+use Rattle.fat_test.specs.Promise.{Tested, TestPromise, test_done}
 use Rattle.fat_carve.proofs.Totals.{sum_to, total_sum}
 use Rattle.fat_walk.specs.Inner.Chains.{Chain}
 use Rattle.fat_walk.proofs.Chains.{free_chain}
@@ -34,8 +33,7 @@ use Rattle.map_bits.proofs.Counts.{sum_same, sum_split}
 use Rattle.map_inner.specs.Map.{map_of}
 use Rattle.map_inner.proofs.Told.{length_map}
 use Rattle.fat_map.specs.Gate.{IsMap}
-use Rattle.fat_map.specs.Count.{count_gives, count_tests, CountPromise}
-use Rattle.fat_map.specs.declared.Counted.{Counted}
+use Rattle.fat_map.specs.Count.{Counted, count_gives, count_tests, CountPromise}
 use Rattle.fat_map.proofs.Theorems.{size_not, value_not, short_not, broken_not}
 
 -- the bits of the words that are looked at

@@ -5,6 +5,7 @@ use Rattle.order.specs.Gate.{cleared, refusal}
 use Rattle.order.specs.Given.{Given, None}
 use Rattle.order.specs.Answer.{Answer}
 use Rattle.order.specs.declared.Refusal.{Refusal}
+use Rattle.fat_node.specs.declared.Counts.{Counts}
 use Rattle.fat_node.specs.Entry.{Bytes}
 use Rattle.fat_node.specs.Sizes.{blocks}
 use Rattle.fat_table.specs.Sound.{Sound}
@@ -25,10 +26,10 @@ MapGateOf t d l more work map work' (Ok told) = OpenedMap t d l more work map wo
 MapGateOf t d l more work map work' (Err why) = Given (map_gate refusal t d l more work map) (refusal (Err why) work')
 
 -- of build, and of the calls that change the table
-abbrev pub BuildGateOf : {A : Type 0} (t : Bytes) (d l : ℕ) (work map work' : List ℕ) → Result A Refusal → Type 0
+abbrev pub BuildGateOf : (t : Bytes) (d l : ℕ) (work map work' : List ℕ) → Result Counts Refusal → Type 0
 BuildGateOf t d l work map work' r = MapGateOf t d l [] work map work' r
 
-abbrev pub ChangeGateOf : {A : Type 0} (t : Bytes) (d l : ℕ) (work map work' : List ℕ) → Result A Refusal → Type 0
+abbrev pub ChangeGateOf : (t : Bytes) (d l : ℕ) (work map work' : List ℕ) → Answer → Type 0
 ChangeGateOf t d l work map work' r = MapGateOf t d l (map_rows t l map) work map work' r
 
 -- what the calls give that test nothing but the block length: the row of the block length, then the call's own; and the map of the table afterwards
