@@ -190,14 +190,6 @@ counting_on {nx} {count} {first} {m} {off} {work₀} {work} {x} {n} i y C hm hi 
   room = (let z : zeros (set work (off + i) m) < zeros work = zeros_set work (off + i) m (omega arith) hz hm in let r : n + zeros work ≤ length work₀ = C.room in omega arith);
 }
 
--- one more entry, at a place that holds 0
-pub counting_room : {nx : ℕ → ℕ} {count first m off : ℕ} {work₀ work : List ℕ} {x n : ℕ} (i : ℕ) → Counting nx count first m off work₀ work x n
-    → i < length work → get_or work i 0 ≡ 0 → n < length work₀
-counting_room {nx} {count} {first} {m} {off} {work₀} {work} {x} {n} i C h z =
-    let s : zeros (set work i 1) < zeros work = zeros_set work i 1 h z (omega arith) in
-    let r : n + zeros work ≤ length work₀ = C.room in
-    omega arith
-
 pub counting_past : {nx : ℕ → ℕ} {count first m off : ℕ} {work₀ work : List ℕ} {x n : ℕ} → Counting nx count first m off work₀ work x n
     → 0 < m → (x ≡ 0 → ⊥) → count ≤ x → ListCounted nx count first m off work₀ work None
 counting_past C hm hx h = record { listed = going_past C.going hm hx h; size = λ n e. absurd (none_some e) }

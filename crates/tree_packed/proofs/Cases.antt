@@ -40,9 +40,3 @@ module _ {k : ℕ} {l : List ℕ} (P : Packed k l) (x : ℕ) (c : ℕ) (e : c �
   -- a record that is there stands at its place
   pub there : {j : ℕ} → Place k l x j → c ≢ 0 → (j < k) × (2 * k ≤ length l)
   there S z = ((listed P S (omega arith)).0, P.fits)
-
-  pub told_full : length l / 2 ≤ k → (eqb c 0 ≡ true → IsFull k l x) × (IsFull k l x → eqb c 0 ≡ true)
-  told_full h = (λ t. (sym e ∙ eqb-true c 0 t, omega arith), λ f. eq-eqb c 0 (e ∙ f.0))
-
-pub not_full : {k : ℕ} (l : List ℕ) (x : ℕ) → k < length l / 2 → IsFull k l x → ⊥
-not_full {k} l x h f = let g : length l < 2 * (k + 1) = f.1 in omega arith

@@ -24,17 +24,6 @@ pub record Front (k : ℕ) (l : List ℕ) (i last : ℕ) : Type 0 where
   pub none : i ≡ 0 → last ≡ 0
   pub some : 0 < i → last ≡ inode_at l (i - 1)
 
-pub front_begin : (k : ℕ) (l : List ℕ) → k ≤ length l / 2 → Front k l 0 0
-front_begin k l h =
-    record {
-      within = omega arith;
-      room = omega arith;
-      packed =
-          record { fits = omega arith; named = λ i g. absurd (omega arith); rising = λ i g. absurd (omega arith); held = λ i g. absurd (omega arith) };
-      none = λ e. refl;
-      some = λ g. absurd (omega arith);
-    }
-
 pub front_step : {k : ℕ} {l : List ℕ} {i last : ℕ} → Front k l i last → i < k → last < inode_at l i → record_at l i ≢ 0 → Front k l (i + 1) (inode_at l i)
 front_step {k} {l} {i} {last} F h g n =
     record {
@@ -63,9 +52,6 @@ front_step {k} {l} {i} {last} F h g n =
       none = λ e. absurd (omega arith);
       some = λ p. at_same l (omega arith);
     }
-
-pub front_end : {k : ℕ} {l : List ℕ} {i last : ℕ} → Front k l i last → k ≤ i → Packed k l
-front_end {k} {l} {i} {last} F h = let e : i ≡ k = omega (arith, F.within) in subst (λ (z : ℕ). Packed z l) e F.packed
 
 -- what is not in order
 pub front_low : {k : ℕ} {l : List ℕ} {i last : ℕ} → Front k l i last → i < k → inode_at l i ≤ last → Packed k l → ⊥
@@ -109,9 +95,6 @@ Tells P r = (r ≡ true → P) × (P → r ≡ true)
 
 pub tells_no : {P : Type 0} → (P → ⊥) → Tells P false
 tells_no f = (λ (e : false ≡ true). let z : ◌≡◌ {A = ℕ} 0 1 = cc in absurd (omega arith), λ p. absurd (f p))
-
-pub tells_yes : {P : Type 0} → P → Tells P true
-tells_yes p = (λ e. p, λ q. refl)
 
 -- the place, as the search by halves finds it ------------------------------------------------------------------------------------------------------------
 

@@ -1,24 +1,22 @@
 -- Each way out of the test and of the gate, as a fact about sizes and rows.
-use mathlib.Core.Path.{◌≡◌, refl, sym, ap, ◌∙◌, subst}
-use mathlib.Core.List.{List, [], ◌∷◌, ◌++◌}
-use mathlib.Core.Logic.{◌⊎◌, inl, inr, ⊎_elim, ◌≢◌}
+use mathlib.Core.Path.{◌≡◌, refl, sym, ap, ◌∙◌}
+use mathlib.Core.List.{List}
+use mathlib.Core.Logic.{inl, inr, ⊎_elim}
 use mathlib.Core.Bool.{Bool, true, false, false≢true}
-use Prim.Native.Nat.{ℕ, zero, suc, ◌+◌, ◌-◌, ◌*◌, ◌/◌, ◌%◌, ◌≤◌, ◌<◌}
+use Prim.Native.Nat.{ℕ, zero, suc, ◌+◌, ◌/◌, ◌≤◌, ◌<◌}
 use native.Mathlib.Omega.{arith}
-use native.Mathlib.Nat.{zero-add}
-use lib.ListN.{length, get_or, replicate, get_or-replicate, length-replicate}
+use lib.ListN.{length, get_or, replicate}
 use Rattle.std.proofs.Common.{Ok, Err}
 use Rattle.order.specs.Gate.{cleared, Refusal, refusal}
 use Rattle.order.specs.Given.{Given, None}
 use Rattle.order.specs.Answer.{Answer, Done, SizeMismatch, InvalidValue, WorkTooShort, BrokenTree}
-use Rattle.links.specs.Links.{◌∈◌}
 use Rattle.tree_table.specs.Field.{field}
 use Rattle.tree_table.specs.View.{dir_view, file_view, removed_of}
 use Rattle.tree_sound.specs.Sound.{Sound}
 use Rattle.tree_sound.specs.Tables.{Tables, tables}
-use Rattle.tree_sound.specs.Sizes.{rooms, HashMisfit, Misfit, Beyond, Outside}
+use Rattle.tree_sound.specs.Sizes.{rooms, Misfit, Beyond, Outside}
 use Rattle.order.specs.Tells.{Tells}
-use Rattle.tree_marks.specs.Inner.Marks.{mark_at, Within}
+use Rattle.tree_marks.specs.Inner.Marks.{mark_at}
 use Rattle.tree_marks.specs.Inner.Gather.{GoneMarked}
 use Rattle.tree_marks.proofs.Walks.{le_or_lt}
 use Rattle.tree_packed.specs.Packed.{Packed}
@@ -27,9 +25,6 @@ use Rattle.tree_test.specs.Gate.{tree_gate}
 use Rattle.tree_test.specs.Promise.{tested, TestPromise, TreeGateOf, PackedGateOf}
 use Rattle.tree_test.specs.Inner.Halves.{DirsTested, FilesTested, Sized}
 
-pub told_true : {P : Type 0} → P → Tells P true
-told_true p = record { yes = λ _. p; only = λ _. refl }
-
 pub told_false : {P : Type 0} → (P → ⊥) → Tells P false
 told_false n = record { yes = λ e. absurd (false≢true e); only = λ p. absurd (n p) }
 
@@ -37,9 +32,6 @@ pub tells_not : {P : Type 0} {r : Bool} → Tells P r → r ≡ false → P → 
 tells_not T e p = false≢true (sym e ∙ T.only p)
 
 -- ---- sizes
-
-pub beyond_not : (n : ℕ) → 1 ≤ n → n ≤ 65536 → Beyond n → ⊥
-beyond_not n a b = ⊎_elim (λ (h : n < 1). omega arith) (λ (h : 65536 < n). omega arith)
 
 within_sizes : (n : ℕ) → (Beyond n → ⊥) → (0 < n) × (n ≤ 65536)
 within_sizes n f =

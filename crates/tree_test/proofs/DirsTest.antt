@@ -1,22 +1,21 @@
 -- The parts of the directories' test together.
 use mathlib.Core.Path.{◌≡◌, refl, sym, ap, ◌∙◌, subst}
 use mathlib.Core.List.{List, [], ◌∷◌}
-use mathlib.Core.Logic.{◌⊎◌, inl, inr, ⊎_elim, ◌≢◌, ◌↔◌}
+use mathlib.Core.Logic.{inl, inr, ⊎_elim, ◌≢◌, ◌↔◌}
 use mathlib.Core.Bool.{Bool, true, false, false≢true}
-use Prim.Native.Nat.{ℕ, zero, suc, ◌+◌, ◌-◌, ◌*◌, ◌/◌, ◌≤◌, ◌<◌}
+use Prim.Native.Nat.{ℕ, ◌-◌, ◌*◌, ◌/◌, ◌≤◌, ◌<◌}
 use native.Mathlib.Omega.{arith}
 use native.Mathlib.Nat.{zero-add}
 use lib.ListN.{length, get_or, take, drop}
 use lib.Dec.{eqb}
 use borrow.Author.Tests.{eqb-true, eq-eqb}
-use Rattle.words.specs.Word.{word}
-use Rattle.links.specs.Links.{◌∈◌, Links, Holds}
+use Rattle.links.specs.Links.{◌∈◌}
 use Rattle.links.proofs.Held.{same_or}
 use Rattle.tree_key.specs.Key.{key_of, key_words, same_key}
 use Rattle.tree_key.specs.declared.SaveExtKey.{SaveExtKey}
 use Rattle.tree_key.proofs.Laws.{same_equal, equal_same}
 use Rattle.tree_table.specs.Field.{field}
-use Rattle.tree_table.specs.View.{View, key_at, dir_view, file_view, removed_of, LiveIn, parent, Live, Reaches}
+use Rattle.tree_table.specs.View.{View, key_at, dir_view, removed_of, LiveIn, parent, Live}
 use Rattle.tree_table.specs.Chain.{link_at}
 use Rattle.tree_table.proofs.Chain.{key_part}
 use Rattle.tree_sound.specs.Sound.{Table, up}
@@ -24,7 +23,7 @@ use Rattle.order.specs.Tells.{Tells}
 use Rattle.tree_marks.specs.Inner.Marks.{gone, mark_at, mark_of, Within}
 use Rattle.tree_marks.specs.Inner.Gather.{Gathered, Gathers, GoneMarked, ParentMarked}
 use Rattle.tree_marks.specs.Inner.Climb.{Rising, AllRisen}
-use Rattle.tree_marks.proofs.Walks.{within_refl, within_trans, within_more}
+use Rattle.tree_marks.proofs.Walks.{within_trans, within_more}
 use Rattle.tree_alone.specs.Inner.Stage.{OnlyGone, TableTested}
 use Rattle.tree_alone.proofs.OneTable.{clean_gathered}
 use Rattle.tree_alone.proofs.Singles.{rooms_fit}

@@ -1,18 +1,16 @@
 -- The parts of the files' test together.
-use mathlib.Core.Path.{◌≡◌, refl, sym, ap, ◌∙◌, subst}
-use mathlib.Core.List.{List, [], ◌∷◌}
-use mathlib.Core.Logic.{◌⊎◌, inl, inr, ⊎_elim, ◌≢◌, ◌↔◌}
+use mathlib.Core.Path.{◌≡◌, sym, ◌∙◌, subst}
+use mathlib.Core.List.{List}
 use mathlib.Core.Bool.{Bool, true, false, false≢true}
-use Prim.Native.Nat.{ℕ, zero, suc, ◌+◌, ◌-◌, ◌*◌, ◌/◌, ◌≤◌, ◌<◌}
+use Prim.Native.Nat.{ℕ, ◌*◌, ◌/◌, ◌≤◌, ◌<◌}
 use native.Mathlib.Omega.{arith}
 use lib.ListN.{length, get_or}
-use Rattle.links.specs.Links.{◌∈◌, Links, Holds}
 use Rattle.tree_table.specs.Field.{field}
-use Rattle.tree_table.specs.View.{View, dir_view, file_view, removed_of, LiveIn, Live}
+use Rattle.tree_table.specs.View.{View, dir_view, file_view, removed_of, Live}
 use Rattle.tree_table.specs.Chain.{link_at}
 use Rattle.tree_sound.specs.Sound.{Table, up}
 use Rattle.order.specs.Tells.{Tells}
-use Rattle.tree_marks.specs.Inner.Marks.{gone, mark_at, mark_of, Within}
+use Rattle.tree_marks.specs.Inner.Marks.{mark_at, Within}
 use Rattle.tree_marks.specs.Inner.Gather.{Gathered, Gathers, GoneMarked, ParentMarked}
 use Rattle.tree_alone.specs.Inner.Stage.{OnlyGone, TableTested}
 use Rattle.tree_alone.proofs.OneTable.{clean_gathered}

@@ -1,10 +1,10 @@
 -- The child lists of all directories in one table: what the marks say once they were gone along, and each entry looked at.
-use mathlib.Core.Path.{◌≡◌, refl, sym, ap, ◌∙◌, subst}
-use mathlib.Core.List.{List, [], ◌∷◌}
-use mathlib.Core.Logic.{◌⊎◌, inl, inr, ⊎_elim, ◌≢◌, ◌↔◌}
-use Prim.Native.Nat.{ℕ, zero, suc, ◌+◌, ◌-◌, ◌*◌, ◌≤◌, ◌<◌}
+use mathlib.Core.Path.{◌≡◌, refl, sym, ◌∙◌, subst}
+use mathlib.Core.List.{List}
+use mathlib.Core.Logic.{◌⊎◌, inl, inr, ⊎_elim, ◌≢◌}
+use Prim.Native.Nat.{ℕ, ◌≤◌, ◌<◌}
 use native.Mathlib.Omega.{arith}
-use Rattle.links.specs.Links.{◌∈◌, Links, Holds}
+use Rattle.links.specs.Links.{◌∈◌, Holds}
 use Rattle.links.proofs.Laws.{one_list}
 use Rattle.links.proofs.Held.{same_or}
 use Rattle.tree_marks.specs.Inner.Marks.{gone}

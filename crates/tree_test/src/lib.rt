@@ -30,14 +30,10 @@ fn root_fits(table: &[u8], mark: u32) -> bool
     requires { 80 ≤ length table.now }
     ensures { Tells (RootFits table.now mark) result }
 {
-    if mark == tree_marks::GONE {
-        return false;
-    }
     let key = tree_key::SaveExtKey::new_root();
-    if !tree_key::has_key(&table[DIR..AFTER_ROOT], key) {
-        return false;
-    }
-    tree_table::link_of(table, DIR, tree_key::SaveExtDirEntry::NEXT, 1) == 0
+    mark != tree_marks::GONE
+        && tree_key::has_key(&table[DIR..AFTER_ROOT], key)
+        && tree_table::link_of(table, DIR, tree_key::SaveExtDirEntry::NEXT, 1) == 0
 }
 
 // The test of the directories: their table, the root, the child lists among them, the parents that they name, and that each reaches the root. The
@@ -113,11 +109,8 @@ fn sound(
     requires by_index { (j : ℕ) → get_or work.old j 0 ≡ 0 }
     ensures { Tells (Sound (dir_view dir_hash.now dir_table.now) (file_view dir_table.now file_hash.now file_table.now)) result }
 {
-    if !test_dirs(dir_hash, dir_table, work) {
-        return false;
-    }
     let off = dir_table.len() / DIR;
-    test_files(dir_table, file_hash, file_table, work, off)
+    test_dirs(dir_hash, dir_table, work) && test_files(dir_table, file_hash, file_table, work, off)
 }
 
 // The same with a work list of any content, which is 0 after it.
@@ -166,65 +159,34 @@ fn verdict(
 pub fn hash_misfit(hash: &[u8]) -> bool
     ensures { Tells (HashMisfit hash.now) result }
 {
-    let len = hash.len();
-    if len == 0 {
-        return true;
-    }
-    if len % 4 != 0 {
-        return true;
-    }
-    false
+    hash.len() == 0 || hash.len() % 4 != 0
 }
 
 // Whether one of the four does not fit.
 pub fn misfit(dir_hash: &[u8], dir_table: &[u8], file_hash: &[u8], file_table: &[u8]) -> bool
     ensures { Tells (Misfit dir_hash.now dir_table.now file_hash.now file_table.now) result }
 {
-    if hash_misfit(dir_hash) {
-        return true;
-    }
-    if dir_table.len() < DIR {
-        return true;
-    }
-    if hash_misfit(file_hash) {
-        return true;
-    }
-    if file_table.len() < FILE {
-        return true;
-    }
-    false
+    hash_misfit(dir_hash)
+        || dir_table.len() < DIR
+        || hash_misfit(file_hash)
+        || file_table.len() < FILE
 }
 
 // Whether a number is not from 1 to 65,536.
 pub fn beyond(n: usize) -> bool
     ensures { Tells (Beyond n) result }
 {
-    if n < 1 {
-        return true;
-    }
-    if 65536 < n {
-        return true;
-    }
-    false
+    n < 1 || 65536 < n
 }
 
 // Whether one of the four has too few or too many buckets or entries.
 fn outside(dir_hash: &[u8], dir_table: &[u8], file_hash: &[u8], file_table: &[u8]) -> bool
     ensures { Tells (Outside dir_hash.now dir_table.now file_hash.now file_table.now) result }
 {
-    if beyond(dir_hash.len() / 4) {
-        return true;
-    }
-    if beyond(dir_table.len() / DIR) {
-        return true;
-    }
-    if beyond(file_hash.len() / 4) {
-        return true;
-    }
-    if beyond(file_table.len() / FILE) {
-        return true;
-    }
-    false
+    beyond(dir_hash.len() / 4)
+        || beyond(dir_table.len() / DIR)
+        || beyond(file_hash.len() / 4)
+        || beyond(file_table.len() / FILE)
 }
 
 // The gate of a call that takes no open records: Ok where the tables are sound and the sizes fit.

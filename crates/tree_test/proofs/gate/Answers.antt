@@ -1,5 +1,4 @@
 -- `gate` meets its contract.
-use Prim.Native.Nat.{◌-◌, ◌/◌}
 use native.Mathlib.Omega.{arith}
 use borrow.Author.Tests.{not-true, not-false}
 use Rattle.tree_test.proofs.Cases.{tells_not, sized, gate_misfit, gate_outside, gate_short, gate_broken, gate_open}

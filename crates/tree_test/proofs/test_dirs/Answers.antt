@@ -1,5 +1,4 @@
 -- `test_dirs` meets its contract.
-use Prim.Native.Nat.{◌-◌}
 use native.Mathlib.Omega.{arith}
 use borrow.Author.Tests.{not-true, not-false}
 use Rattle.tree_test.proofs.DirsTest.{dirs_table, dirs_root, dirs_3, dirs_4, dirs_5, dirs_front}

@@ -1,5 +1,4 @@
 -- `test_files` meets its contract.
-use Prim.Native.Nat.{◌-◌}
 use native.Mathlib.Omega.{arith}
 use borrow.Author.Tests.{not-true, not-false}
 use Rattle.tree_test.proofs.FilesTest.{files_table, files_2, files_3, files_front}
