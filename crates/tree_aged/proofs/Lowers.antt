@@ -2,8 +2,8 @@
 use mathlib.Core.Path.{◌≡◌, refl, sym, ap, ◌∙◌, subst, subst⁻¹}
 use mathlib.Core.List.{List, [], ◌∷◌}
 use mathlib.Core.Logic.{◌⊎◌, inl, inr, ⊎_elim, ◌≢◌}
-use mathlib.Core.Bool.{Bool, true, false, false≢true, not}
-use borrow.Author.Tests.{not-true, not-false}
+use mathlib.Core.Bool.{Bool, true, false, false≢true}
+use Rattle.std.specs.Prelude.{Option, Some, None}
 use Prim.Native.Nat.{ℕ, zero, suc, ◌+◌, ◌-◌, ◌*◌, ◌≤◌, ◌<◌}
 use native.Mathlib.Omega.{arith}
 use native.Mathlib.Nat.{mul-le-mul_right, zero-add}
@@ -51,8 +51,8 @@ module _ {w : ℕ} {t work₀ work : List ℕ} {y : ℕ} (L : Lowering w t work�
   pub low_below : (count : ℕ) → count ≡ field w t 0 1 → y < count → y < field w t 0 1
   low_below count e h = omega (arith, h, e)
 
-  pub low_on : (work' : List ℕ) (r : Bool) → length work' ≡ length work → Passed w t y work' r → not r ≡ false → Lowering w t work₀ work' (y + 1)
-  low_on work' r e P n = let q : r ≡ true = not-false r n in record {
+  pub low_on : (work' : List ℕ) (r : Bool) → length work' ≡ length work → Passed w t y work' r → r ≡ true → Lowering w t work₀ work' (y + 1)
+  low_on work' r e P q = record {
     long = e ∙ L.long;
     some = omega (arith, L.some);
     few = L.few;
@@ -61,17 +61,11 @@ module _ {w : ℕ} {t work₀ work : List ℕ} {y : ℕ} (L : Lowering w t work�
     none = next_none (P.good q);
   }
 
-  pub low_found : (work' : List ℕ) (r : Bool) → Passed w t y work' r → not r ≡ true → Lowest w t y
-  low_found work' r P n = let f : r ≡ false = not-true r n in record {
-    none = λ k. absurd (omega (arith, L.some, k));
-    some = λ _. ((P.bad f).0, (P.bad f).1, L.none);
-  }
+  pub low_found : (work' : List ℕ) (r : Bool) → Passed w t y work' r → r ≡ false → Lowest w t (Some y)
+  low_found work' r P f = ((P.bad f).0, (P.bad f).1, L.none)
 
-  pub low_end : (count : ℕ) → count ≡ field w t 0 1 → count ≤ y → Lowest w t 0
-  low_end count e h = record {
-    none = λ _ z k l q. L.none z (omega (arith, e, h, k)) l q;
-    some = λ n. absurd (n refl);
-  }
+  pub low_end : (count : ℕ) → count ≡ field w t 0 1 → count ≤ y → Lowest w t None
+  low_end count e h z k l q = L.none z (omega (arith, e, h, k)) l q
 
 -- ---- one inode
 
@@ -184,6 +178,6 @@ unfolding field
 sort_count_is w t count e = e
 
 -- the zeros that are left have the length of those before
-pub sort_leaves : (w : ℕ) (t work work₁ work₂ work₃ : List ℕ) (r : ℕ) → length work₁ ≡ length work → length work₂ ≡ length work₁
+pub sort_leaves : (w : ℕ) (t work work₁ work₂ work₃ : List ℕ) (r : Option ℕ) → length work₁ ≡ length work → length work₂ ≡ length work₁
     → work₃ ≡ replicate (length work₂) 0 → Lowest w t r → Leaves w t work work₃ r
 sort_leaves w t work work₁ work₂ work₃ r a b e l = record { lowest = l; clear = e ∙ ap (λ (m : ℕ). replicate m 0) (b ∙ a) }

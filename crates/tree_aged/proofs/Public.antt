@@ -9,9 +9,9 @@ use lib.ListN.{length, get_or, take, drop, replicate, length-replicate, length-a
 use lib.Seq.{length-take-le, take_at}
 use Rattle.order.specs.First.{Row, First}
 use Rattle.order.specs.Beside.{beside}
-use Rattle.order.specs.Given.{None}
 use Rattle.order.specs.Gate.{cleared}
-use Rattle.order.specs.Answer.{Done}
+use Rattle.std.specs.Prelude.{Option, Some, None}
+use Rattle.order.specs.Answer.{Answer, Done}
 use Rattle.links.specs.Links.{◌∈◌, Links, Holds}
 use Rattle.links.proofs.Laws.{next_in}
 use Rattle.links.proofs.Held.{same_or}
@@ -24,8 +24,6 @@ use Rattle.tree_sound.specs.Sound.{Table, Below, up}
 use Rattle.tree_sound.specs.Tables.{Tables, tables, rooms_in, dirs, files}
 use Rattle.tree_marks.proofs.Walks.{le_or_lt}
 use Rattle.tree_test.specs.Promise.{TreeGateOf}
-use Rattle.tree_test.specs.declared.Gated.{Gated}
-use Rattle.tree_test.specs.declared.Gated.TheVariants.{Open}
 use Rattle.tree_promises.specs.Inner.Ready.{Ready, LiveAt, alone}
 use Rattle.tree_promises.specs.Promise.{worked}
 use Rattle.tree_promises.proofs.Gated.{tree_ready, tree_passed}
@@ -58,14 +56,14 @@ module _ (d f work : List ℕ) where
   unfolding field
   told_root x e n = record { says = inl ((λ k. n (e ∙ k)), refl); same = refl }
 
-  module _ (x : ℕ) (e : x ≡ link_at d 40 36 1) (z : x ≡ 0) (work' : List ℕ) (r : ℕ) (S : Sorted 40 d work work' r) where
+  module _ (x : ℕ) (e : x ≡ link_at d 40 36 1) (z : x ≡ 0) (work' : List ℕ) where
     root_last : field 40 d 1 0 ≡ 0
     unfolding field
     root_last = sym e ∙ z
 
-    pub told_dir : (r ≡ 0 → ⊥) → OpenSays d f work work' (age_gives Done 1 r)
-    told_dir n =
-        let q = S.lowest.some n in
+    pub told_dir : (r : ℕ) → Sorted 40 d work work' (Some r) → OpenSays d f work work' (age_gives Done 1 r)
+    told_dir r S =
+        let q = S.lowest in
         record {
           says = inr (
             (λ k. k root_last),
@@ -75,13 +73,13 @@ module _ (d f work : List ℕ) where
           same = S.same;
         }
 
-    module _ (n : r ≡ 0) (work'' : List ℕ) (r' : ℕ) (S' : Sorted 48 f work' work'' r') where
+    module _ (S : Sorted 40 d work work' None) (work'' : List ℕ) where
       all_none : (y : ℕ) → y < 1 + (field 40 d 0 1 - 1) → LostIn (alone 40 d) y → ⊥
-      all_none y h m = S.lowest.none n y m.0.1 m.0 m.1
+      all_none y h m = S.lowest y m.0.1 m.0 m.1
 
-      pub told_file : (r' ≡ 0 → ⊥) → OpenSays d f work work'' (age_gives Done 2 r')
-      told_file n' =
-          let q = S'.lowest.some n' in
+      pub told_file : (r' : ℕ) → Sorted 48 f work' work'' (Some r') → OpenSays d f work work'' (age_gives Done 2 r')
+      told_file r' S' =
+          let q = S'.lowest in
           let p : First (lost_from (field 48 f 0 1 - 1) (LostIn (alone 48 f)) 2 1 ++ []) (age_gives Done 0 0) (age_gives Done 2 r') =
           rows_some (LostIn (alone 48 f)) 2 [] (age_gives Done 0 0) (age_gives Done 2 r') (field 48 f 0 1 - 1) 1 r' q.0.0
           (omega (arith, q.0.1, q.0.0)) (q.0, q.1) (λ y h m. q.2 y h m.0 m.1) refl
@@ -95,10 +93,10 @@ module _ (d f work : List ℕ) where
             same = S'.same ∙ S.same;
           }
 
-      pub told_none : r' ≡ 0 → OpenSays d f work work'' (age_gives Done 0 0)
-      told_none n' =
+      pub told_none : Sorted 48 f work' work'' None → OpenSays d f work work'' (age_gives Done 0 0)
+      told_none S' =
           let p : First (lost_from (field 48 f 0 1 - 1) (LostIn (alone 48 f)) 2 1 ++ []) (age_gives Done 0 0) (age_gives Done 0 0) =
-          rows_none (LostIn (alone 48 f)) 2 [] (age_gives Done 0 0) (age_gives Done 0 0) (field 48 f 0 1 - 1) 1 (λ y h m. S'.lowest.none n' y m.0.1 m.0 m.1) refl
+          rows_none (LostIn (alone 48 f)) 2 [] (age_gives Done 0 0) (age_gives Done 0 0) (field 48 f 0 1 - 1) 1 (λ y h m. S'.lowest y m.0.1 m.0 m.1) refl
           in
           record {
             says = inr (
@@ -116,7 +114,7 @@ root_asked d f work O = (omega (arith, O.root), omega arith)
 pub dirs_ripe : (d f work : List ℕ) → OpenTree d f work → Ripe 40 d work
 dirs_ripe d f work O = O.dirs
 
-pub files_ripe : (d f work work' : List ℕ) (r : ℕ) → OpenTree d f work → Sorted 40 d work work' r → Ripe 48 f work'
+pub files_ripe : (d f work work' : List ℕ) (r : Option ℕ) → OpenTree d f work → Sorted 40 d work work' r → Ripe 48 f work'
 files_ripe d f work work' r O S = subst⁻¹ (λ (l : List ℕ). Ripe 48 f l) S.same O.files
 
 -- ---- the named places
@@ -154,7 +152,7 @@ module _ (w : ℕ) (t work : List ℕ) (R : Ripe w t work) (room : ℕ) (e : roo
   pub part_zeros : Zeros (take room work)
   part_zeros = record { at = zero_at room (take room work) zeroed }
 
-  pub part_sorted : (v : List ℕ) (r : ℕ) → Leaves w t (take room work) v r → Sorted w t work (v ++ drop room work) r
+  pub part_sorted : (v : List ℕ) (r : Option ℕ) → Leaves w t (take room work) v r → Sorted w t work (v ++ drop room work) r
   part_sorted v r p = record {
     lowest = p.lowest;
     same =
@@ -228,7 +226,7 @@ module _ (s : Tables) (R : Ready s) where
 
 -- ---- the public call
 
-module _ (dh d fh f work work' : List ℕ) (g : Gated) (says : TreeGateOf (tables dh d fh f) work work' g) (e : g ≡ Open) where
+module _ (dh d fh f work work' : List ℕ) (g : Answer) (says : TreeGateOf (tables dh d fh f) work work' g) (e : g ≡ Done) where
   abbrev s : Tables
   s = tables dh d fh f
 

@@ -1,24 +1,16 @@
 -- `tree_aged::aged_open` meets its contract.
-use Rattle.tree_aged.proofs.Public.{told_root, told_dir, told_file, told_none, root_asked, dirs_ripe, files_ripe}
+use Rattle.tree_aged.proofs.Public.{told_root, told_dir, told_file, told_none}
 use Rattle.tree_aged.proofs.aged_open.Goals as goal
-
-pub link_of-requires : goal.link_of-requires
-link_of-requires c = search (root_asked)
 
 pub returns-then-link_of-ne0 : goal.returns-then-link_of-ne0
 returns-then-link_of-ne0 c = search (told_root)
 
-pub sorted-d-requires : goal.sorted-d-requires
-sorted-d-requires c = search (dirs_ripe)
+pub returns-in-Some : goal.returns-in-Some
+returns-in-Some c = told_dir _ _ _ _ c.link_of.ensures c.if-link_of-ne0.false _ _ c.in-Some.ensures
 
-pub returns-then-d-ne0 : goal.returns-then-d-ne0
-returns-then-d-ne0 c = search (told_dir)
-
-pub sorted-f-requires : goal.sorted-f-requires
-sorted-f-requires c = search (files_ripe)
-
-pub returns-then-f-ne0 : goal.returns-then-f-ne0
-returns-then-f-ne0 c = search (told_file)
+pub returns-in_err-inode : goal.returns-in_err-inode
+returns-in_err-inode c =
+    rw c.from_residual.ensures (told_none _ _ _ _ c.link_of.ensures c.if-link_of-ne0.false _ c.in_default.ensures _ c.in_err-inode.ensures)
 
 pub returns : goal.returns
-returns c = search (told_none)
+returns c = told_file _ _ _ _ c.link_of.ensures c.if-link_of-ne0.false _ c.in_default.ensures _ _ c.in_ok-inode.ensures

@@ -1,20 +1,12 @@
 -- `tree_aged::open_link` meets its contract.
-use Rattle.tree_aged.proofs.Walks.{coll_asked, entry_in}
 use Rattle.tree_aged.proofs.Opens.{coll_placed, next_placed, open_coll, open_next, open_no}
-use native.Mathlib.Omega.{arith}
 use Rattle.tree_aged.proofs.open_link.Goals as goal
-
-pub link_of-c-requires : goal.link_of-c-requires
-link_of-c-requires c = search (coll_asked)
 
 pub is_open-requires : goal.is_open-requires
 is_open-requires c = search (coll_placed)
 
 pub returns-then-is_open : goal.returns-then-is_open
 returns-then-is_open c = search (open_coll)
-
-pub link_of-n-requires : goal.link_of-n-requires
-link_of-n-requires c = (entry_in c.requires, omega (arith, c.requires.fits.wide))
 
 pub is_open-requires-2 : goal.is_open-requires-2
 is_open-requires-2 c = search (next_placed)

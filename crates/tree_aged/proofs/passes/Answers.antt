@@ -1,16 +1,11 @@
 -- `tree_aged::passes` meets its contract.
-use Rattle.tree_aged.proofs.Lowers.{pass_place, pass_known, pass_at, pass_free, pass_walked}
-use borrow.Author.Rules.{rules}
+use borrow.Author.Tests.{ne_eqb}
+use Rattle.tree_aged.proofs.Lowers.{pass_known, pass_walked}
 use Rattle.tree_aged.proofs.passes.Goals as goal
 
-pub bounds-work-index : goal.bounds-work-index
-bounds-work-index c = search (pass_place)
-
 pub returns-then-work-index-ne0 : goal.returns-then-work-index-ne0
-returns-then-work-index-ne0 c = search (pass_known)
+returns-then-work-index-ne0 c =
+    rw (ne_eqb _ 0 c.if-work-index-ne0.true) (pass_known _ _ _ _ _ c.requires.fits c.requires.known c.requires.y_nonzero c.requires.y_bound c.index.ensures c.if-work-index-ne0.true)
 
-pub ends-requires : goal.ends-requires
-ends-requires c = record { at = search (pass_at); known = search rules; y_value = search (pass_free) }
-
-pub returns : goal.returns
-returns c = search (pass_walked)
+pub returns-else-work-index-ne0 : goal.returns-else-work-index-ne0
+returns-else-work-index-ne0 c = search (pass_walked)
