@@ -8,7 +8,8 @@ use native.Mathlib.Nat.{le_refl, add-zero, zero-add, suc-add, add_assoc}
 use native.Mathlib.Numerals.{add-one}
 use mir.Syntax.{w32}
 use mir.Val.{Fits}
-use lib.ListN.{get_or}
+use lib.ListN.{length, get_or, take, drop}
+use Rattle.std.proofs.lemmas.List.{length-take, get_or-take, get_or-drop}
 use lib.Pow.{shr-shr, mod-mod-pow, field}
 use lib.Count.{ones, ones_step, ones-le}
 use Rattle.map_bits.specs.Bits.{bit, sum_from, counted_in}
@@ -137,14 +138,20 @@ module _ (map : List ℕ) (i lo hi : ℕ) where
 pub words_fit : (map : List ℕ) → ((i : ℕ) → Fits w32 (get_or map i 0)) → (i : ℕ) → get_or map i 0 < 4294967296
 words_fit map h i = omega (arith, h i)
 
+-- the word at place x of the words from i up to and without j
+pub word_of : (map : List ℕ) (i j x : ℕ) → j ≤ length map → x < length (take (j - i) (drop i map)) → (i + x < j) × (get_or (take (j - i) (drop i map)) x 0 ≡ get_or map (i + x) 0)
+word_of map i j x h l =
+    let k : x < j - i = omega (arith, length-take (j - i) (drop i map)) in
+    (omega arith, get_or-take (j - i) (drop i map) x 0 k ∙ get_or-drop i map x 0)
+
 -- the words from i up to k are counted
 pub record Counting (map : List ℕ) (i j sum k : ℕ) : Type 0 where
   pub from : i ≤ k
   pub to : k ≤ j
   pub is : sum ≡ counted_in map (32 * i) (32 * k)
 
-pub count_begin : (map : List ℕ) (i j : ℕ) → i ≤ j → Counting map i j 0 i
-count_begin map i j h = record { from = le_refl i; to = h; is = sym (counted_none map (32 * i) (32 * i) (omega arith)) }
+pub count_begin : (map : List ℕ) (i j k : ℕ) → k ≡ i → i ≤ j → Counting map i j 0 k
+count_begin map i j k e h = record { from = omega (arith, e); to = omega (arith, e, h); is = sym (counted_none map (32 * i) (32 * k) (omega (arith, e))) }
 
 module _ (map : List ℕ) (i j sum k : ℕ) (h : Counting map i j sum k) where
   pub count_most : sum ≤ 32 * (k - i)
@@ -154,12 +161,12 @@ module _ (map : List ℕ) (i j sum k : ℕ) (h : Counting map i j sum k) where
     pub count_fits : j ≤ 1000000 → sum + ones (get_or map k 0) < 4294967296
     count_fits few = omega (arith, count_most, ones-le 32 (get_or map k 0) f)
 
-    pub count_next : Counting map i j (sum + ones (get_or map k 0)) (k + 1)
-    count_next = record {
-      from = omega (arith, h.from);
-      to = omega arith;
+    pub count_next : (m : ℕ) → m ≡ k + 1 → Counting map i j (sum + ones (get_or map k 0)) m
+    count_next m n = record {
+      from = omega (arith, h.from, n);
+      to = omega (arith, n);
       is =
-          let e : counted_in map (32 * i) (32 * k + 32) ≡ counted_in map (32 * i) (32 * (k + 1)) = ap (λ (x : ℕ). counted_in map (32 * i) x) (mul_next k) in
+          let e : counted_in map (32 * i) (32 * k + 32) ≡ counted_in map (32 * i) (32 * m) = ap (λ (x : ℕ). counted_in map (32 * i) x) (omega (arith, n)) in
           omega (arith, h.is, e, counted_word map k f, counted_split map (32 * i) (32 * k) (32 * k + 32) (omega (arith, h.from)) (omega arith));
     }
 

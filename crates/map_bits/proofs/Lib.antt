@@ -2,5 +2,4 @@ pub mod Words
 pub mod Turns
 pub mod Counts
 pub mod Masks
-pub mod Differs
 pub mod Ones

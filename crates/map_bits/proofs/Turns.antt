@@ -1,12 +1,16 @@
 -- A stretch of blocks put in or taken out: in one word, in whole words, and piece by piece.
 use mathlib.Core.Path.{◌≡◌, refl, sym, ap, subst, ◌∙◌}
-use mathlib.Core.List.{List}
+use mathlib.Core.List.{List, ◌++◌}
 use mathlib.Core.Bool.{Bool, true, false, cond, ◌&&◌}
 use mathlib.Core.Logic.{◌⊎◌, inl, inr, ⊎_elim}
 use Prim.Native.Nat.{ℕ, zero, suc, ◌+◌, ◌-◌, ◌*◌, ◌/◌, ◌%◌, ◌^◌, ◌≤◌, ◌<◌}
 use native.Mathlib.Omega.{arith}
 use lib.Dec.{leb, ltb}
-use lib.ListN.{length, get_or, set, length-set}
+use lib.ListN.{length, get_or, set, take, drop, replicate, length-set}
+use lib.Seq.{paste}
+use borrow.Rule.Slice.PartMut.{put_mid, post_of, Post-is}
+use Rattle.std.proofs.lemmas.List.{length-take-le, length-drop, length-replicate}
+use Rattle.std.proofs.lemmas.List.Edits.{paste_none, paste_all, fill_from_more}
 use borrow.Author.Tests.{lt-ltb, le-ltb, le-leb, lt-leb}
 use Rattle.map_bits.specs.Bits.{word, words_from}
 use Rattle.map_bits.specs.Inner.Turns.{between, Turned, Turn, Turnable}
@@ -251,6 +255,31 @@ module _ (on : Bool) (map₀ map : List ℕ) (lo hi k v : ℕ) (s : Staged on ma
         (λ x u w. mid_apart on c d lo hi (32 * k) (32 * (k + 1)) x t.turned s.from (omega arith) (omega arith) (inl (omega arith)))
         (λ x u w. mid_apart on c d lo hi (32 * k) (32 * (k + 1)) x t.turned s.from (omega arith) (omega arith) (inr (omega arith)));
   }
+
+-- k words from word i on, all with v
+module _ (on : Bool) (map₀ map : List ℕ) (lo hi i v : ℕ) (s : Staged on map₀ map lo hi (32 * i)) (r : Turnable on map₀ lo hi) (e : v ≡ cond on 4294967295 0) where
+  pub whole_all : (k : ℕ) → 32 * (i + k) ≤ hi → Staged on map₀ (paste map i (replicate k v) k) lo hi (32 * (i + k))
+  whole_all zero h =
+      subst (λ (m : List ℕ). Staged on map₀ m lo hi (32 * (i + 0))) (paste_none map i (replicate 0 v))
+      (staged_move on map₀ map lo hi (32 * i) s (32 * (i + 0)) (omega arith))
+  whole_all (suc k) h =
+      let w = whole_all k (omega arith) in
+      let q : k + 1 ≡ suc k = omega arith in
+      subst (λ (m : List ℕ). Staged on map₀ m lo hi (32 * (i + suc k))) (fill_from_more map i k v (omega (arith, r.turn.fits, s.long)) ∙ ap (λ (n : ℕ). paste map i (replicate n v) n) q)
+      (staged_move on map₀ _ lo hi (32 * (i + k + 1)) (whole_next on map₀ _ lo hi (i + k) v w r (omega arith) e) (32 * (i + suc k)) (omega arith))
+
+-- the words from i up to and without j, filled
+pub mid_filled : (map y : List ℕ) (i j v : ℕ) → i ≤ j → j ≤ length map → y ≡ replicate (length (take (j - i) (drop i map))) v
+    → put_mid i (j - i) map y ≡ paste map i (replicate (j - i) v) (j - i)
+mid_filled map y i j v h n e =
+    let l : length (take (j - i) (drop i map)) ≡ j - i = length-take-le (j - i) (drop i map) (omega (arith, length-drop i map)) in
+    let p : post_of i (j - i) map ≡ drop (i + (j - i)) map = Post-is i j map h ∙ ap (λ (k : ℕ). drop k map) (omega-j i j h) in
+    ap (λ (z : List ℕ). put_mid i (j - i) map z) (e ∙ ap (λ (k : ℕ). replicate k v) l)
+    ∙ ap (λ (z : List ℕ). take i map ++ (replicate (j - i) v ++ z)) p
+    ∙ sym (paste_all map i (replicate (j - i) v) (j - i) (sym (length-replicate (j - i) v)))
+  where
+    omega-j : (i j : ℕ) → i ≤ j → j ≡ i + (j - i)
+    omega-j i j h = omega arith
 
 -- the whole stretch: within one word, or the first word's end, whole words, and the last word's begin -------------------------------------
 

@@ -13,8 +13,7 @@ fn mask(lo: usize, hi: usize) -> u32
     requires hi_bound { hi ≤ 32 }
     ensures { result + 2 ^ lo ≡ 2 ^ hi }
 {
-    let one: usize = 1;
-    ((one << hi) - (one << lo)) as u32
+    ((1_usize << hi) - (1_usize << lo)) as u32
 }
 
 // A word with the bits of a mask put in, none of which it has, or taken out, all of which it has.
@@ -43,7 +42,7 @@ fn turn_part(map: &mut [u32], i: usize, lo: usize, hi: usize, on: bool)
 fn whole(on: bool) -> u32
     ensures { result ≡ cond on 4294967295 0 }
 {
-    if on { 4294967295 } else { 0 }
+    if on { u32::MAX } else { 0 }
 }
 
 // Puts in or takes out all blocks of the words from i up to and without j.
@@ -51,12 +50,7 @@ fn turn_whole(map: &mut [u32], i: usize, j: usize, on: bool)
     requires { Turnable on map.old (32 * i) (32 * j) }
     ensures { (c d : ℕ → ℕ) → Turn on map.old c d (32 * i) (32 * j) → map.new ≡ words_from (length map.old) 0 d }
 {
-    let word = whole(on);
-    let mut at = i;
-    while at < j {
-        map[at] = word;
-        at += 1;
-    }
+    map[i..j].fill(whole(on));
 }
 
 // Puts in the blocks from lo up to and without hi, none of which is in, or takes them out, all of which are: the first word and the last are cut.
@@ -106,9 +100,8 @@ fn ones_in(word: u32, lo: usize, hi: usize) -> u32
     requires hi_bound { hi ≤ 32 }
     ensures { result ≡ sum_from (hi - lo) lo (λ (k : ℕ). word / 2 ^ k % 2) }
 {
-    let one: usize = 1;
-    let cut = (word as usize >> lo) % (one << (hi - lo));
-    u32::count_ones(cut as u32)
+    let cut = (word as usize >> lo) % (1_usize << (hi - lo));
+    (cut as u32).count_ones()
 }
 
 // The same of word i of a map.
@@ -118,10 +111,7 @@ fn count_part(map: &[u32], i: usize, lo: usize, hi: usize) -> u32
     requires hi_bound_2 { 32 * i + hi ≤ 32 * length map.now }
     ensures { CountOf map.now (32 * i + lo) (32 * i + hi) 32 result }
 {
-    if lo < hi {
-        return ones_in(map[i], lo, hi);
-    }
-    0
+    if lo < hi { ones_in(map[i], lo, hi) } else { 0 }
 }
 
 // The set bits of the words from i up to and without j.
@@ -131,10 +121,8 @@ fn count_whole(map: &[u32], i: usize, j: usize) -> u32
     ensures { CountOf map.now (32 * i) (32 * j) (32 * (j - i)) result }
 {
     let mut sum: u32 = 0;
-    let mut k = i;
-    while k < j {
-        sum += u32::count_ones(map[k]);
-        k += 1;
+    for word in &map[i..j] {
+        sum += word.count_ones();
     }
     sum
 }
@@ -161,12 +149,5 @@ pub fn differ(a: &[u32], b: &[u32]) -> bool
     requires { length a.now ≡ length b.now }
     ensures { Tells (a.now ≡ b.now) (not result) }
 {
-    let mut i: usize = 0;
-    while i < a.len() {
-        if a[i] != b[i] {
-            return true;
-        }
-        i += 1;
-    }
-    false
+    a != b
 }

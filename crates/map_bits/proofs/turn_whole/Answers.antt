@@ -1,28 +1,11 @@
-use native.Mathlib.Omega.{arith}
-use Rattle.map_bits.proofs.Turns.{staged_begin, whole_next, staged_end}
-use Prim.Native.Nat.{◌-◌}
+-- `map_bits::turn_whole` meets its contract.
+use Rattle.std.proofs.Common.{refl, ◌∙◌, ◌-◌, arith}
+use Rattle.map_bits.proofs.Turns.{staged_begin, staged_end, whole_all, mid_filled}
 use Rattle.map_bits.proofs.turn_whole.Goals as goal
 
-pub loop-at-init : goal.loop-at-init
-loop-at-init c = search staged_begin
-
-pub offset_bounds-map-at : goal.offset_bounds-map-at
-offset_bounds-map-at c = omega arith
-
-pub bounds-map-at : goal.bounds-map-at
-bounds-map-at c = omega (arith, c.loop-at.invariant.to)
-
-pub overflow_add-at : goal.overflow_add-at
-overflow_add-at c = omega arith
-
-pub loop-at-smaller : goal.loop-at-smaller
-loop-at-smaller c = omega arith
-
-pub loop-at-preserved : goal.loop-at-preserved
-loop-at-preserved c = whole_next _ _ _ _ _ _ _ c.loop-at.invariant c.requires (omega arith) c.whole-word.ensures
-
-pub shape_of-map : goal.shape_of-map
-shape_of-map c = c.loop-at.invariant.long
-
 pub returns : goal.returns
-returns c = staged_end _ _ _ _ _ _ c.loop-at.invariant (omega (arith, c.loop-at.invariant.to))
+returns c =
+    let t = c.requires.turn in
+    let k = c.args.j - c.args.i in
+    let filled = mid_filled c.args.map.now c.fill.new.self c.args.i c.args.j c.whole.result (omega (arith, t.order)) (omega (arith, t.fits)) (c.fill.ensures.after (λ y e. e)) in
+    λ c' d u. filled ∙ staged_end _ _ _ _ _ _ (whole_all _ _ _ _ _ _ _ (staged_begin _ _ _ _ _ refl t.order) c.requires c.whole.ensures k (omega (arith, t.order))) (omega (arith, t.order)) c' d u
