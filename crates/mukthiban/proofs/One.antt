@@ -5,9 +5,12 @@ use mathlib.Core.Logic.{◌⊎◌}
 use Prim.Native.Nat.{ℕ, ◌<◌}
 use lib.ListN.{get_or, length}
 use Rattle.order.specs.Beside.{Beside, beside}
-use Rattle.order.specs.Answer.{number_of, fault, fault_in}
+use Rattle.std.specs.Prelude.{Ok, Err}
+use Rattle.order.specs.Answer.{number_of, number_with, fault, fault_in, fault_with}
 use Rattle.order.specs.Answer.{Answer}
 use Rattle.order.specs.declared.Fault.{Fault}
+use Rattle.order.specs.declared.Refusal.{Refusal}
+use Rattle.order.specs.declared.Refusal.TheVariants as refusal
 use Rattle.order.specs.Answer.{
   Done,
   SizeMismatch,
@@ -32,7 +35,6 @@ use Rattle.order.specs.Answer.{
 use Rattle.order.proofs.One.{one}
 use Rattle.fat_node.specs.Entry.{Bytes}
 use Rattle.fat_node.specs.Format as format
-use Rattle.fat_node.specs.declared.Formatted.{Formatted}
 use Rattle.fat_test.specs.Promise as test
 use Rattle.fat_test.proofs.Unique.{one_answer}
 use Rattle.fat_promises.specs.Calls as fat
@@ -80,30 +82,33 @@ answers f =
     ∷ ReadOnlyVolume
     ∷ []
 
-answer_of : (a : Answer) → get_or (answers (fault_in a)) (number_of a) Done ≡ a
-answer_of Done = refl
-answer_of SizeMismatch = refl
-answer_of InvalidValue = refl
-answer_of WorkTooShort = refl
-answer_of (BrokenFat f) = refl
-answer_of NotAFile = refl
-answer_of NoSpace = refl
-answer_of OutOfBound = refl
-answer_of ListTooShort = refl
-answer_of BrokenTree = refl
-answer_of NotFound = refl
-answer_of AlreadyExist = refl
-answer_of Busy = refl
-answer_of DeletingRoot = refl
-answer_of NotEmpty = refl
-answer_of IntoItself = refl
-answer_of NotOpen = refl
-answer_of TooManyOpens = refl
-answer_of ReadOnlyVolume = refl
+of_refusal : (why : Refusal) → get_or (answers (fault_with why)) (number_with why) Done ≡ Err why
+of_refusal refusal.SizeMismatch = refl
+of_refusal refusal.InvalidValue = refl
+of_refusal refusal.WorkTooShort = refl
+of_refusal (refusal.BrokenFat f) = refl
+of_refusal refusal.NotAFile = refl
+of_refusal refusal.NoSpace = refl
+of_refusal refusal.OutOfBound = refl
+of_refusal refusal.ListTooShort = refl
+of_refusal refusal.BrokenTree = refl
+of_refusal refusal.NotFound = refl
+of_refusal refusal.AlreadyExist = refl
+of_refusal refusal.Busy = refl
+of_refusal refusal.DeletingRoot = refl
+of_refusal refusal.NotEmpty = refl
+of_refusal refusal.IntoItself = refl
+of_refusal refusal.NotOpen = refl
+of_refusal refusal.TooManyOpens = refl
+of_refusal refusal.ReadOnlyVolume = refl
+
+of_answer : (a : Answer) → get_or (answers (fault_in a)) (number_of a) Done ≡ a
+of_answer (Ok done) = refl
+of_answer (Err why) = of_refusal why
 
 -- a number, with entry and rule, tells which answer it stands for
 pub told_apart : (a b : Answer) → number_of a ≡ number_of b → fault_in a ≡ fault_in b → a ≡ b
-told_apart a b e f = sym (answer_of a) ∙ (λ i. get_or (answers (f i)) (e i) Done) ∙ answer_of b
+told_apart a b e f = sym (of_answer a) ∙ (λ i. get_or (answers (f i)) (e i) Done) ∙ of_answer b
 
 -- whatever the promise P: out a x is what a call gives with the answer a, and x is everything else of it, the other fields and the lent buffers
 abbrev pub OneExport : {A X : Type 0} → (Answer → X → A) → (A → Type 0) → Type 0
@@ -164,13 +169,16 @@ module _ {G X : Type 0} (out : Answer → X → G) (answer : G → Answer) (rest
 
 -- ---- the block table
 
-pub export_format : (t : Bytes) (n n' : ℕ) (table table' : Bytes)
-    → ((r : Formatted) × (n ≡ number_of r.answer) × format.FormatPromise t r table)
-    → ((r : Formatted) × (n' ≡ number_of r.answer) × format.FormatPromise t r table')
-    → (n ≡ n') × (table ≡ table')
-export_format t n n' table table' (r, e, p) (r', e', p') =
-    let z : ◌≡◌ {A = Formatted × Bytes} (r, table) (r', table') = one (format.format_rows t) (format.format_done t) (r, table) (r', table') p p' in
-    (e ∙ ap (λ (o : Formatted × Bytes). number_of o.0.answer) z ∙ sym e', ap (λ (o : Formatted × Bytes). o.1) z)
+pub export_format : (t : Bytes) → OneExport {X = Bytes} (λ a x. (a, x)) (λ o. format.FormatPromise t o.0 o.1)
+export_format t =
+    one_export
+    (λ (a : Answer) (x : Bytes). (a, x))
+    (λ o. o.0)
+    (λ o. o.1)
+    (λ (o : Answer × Bytes). format.FormatPromise t o.0 o.1)
+    (λ a x. refl)
+    (λ a x. refl)
+    (one (format.format_rows t) (format.format_done t))
 
 pub export_test : (t : Bytes) (work : List ℕ)
     → OneLocated {X = (ℕ × ℕ) × List ℕ} (λ a x. (test.tested a x.0.0 x.0.1, x.1)) (test.TestPromise t work)
@@ -235,7 +243,7 @@ pub export_tree_test : (s : Tables) (work : List ℕ) → OneExport {X = List �
 export_tree_test s work =
     one_export
     (λ (a : Answer) (x : List ℕ). tree-test.tested a x)
-    (λ o. o.0.answer)
+    (λ o. o.0)
     (λ o. o.1)
     (tree-test.TestPromise s work)
     (λ a x. refl)

@@ -3,8 +3,7 @@
 use Rattle.std.specs.Prelude.{List, [], ◌∷◌, ◌⊎◌, ℕ, zero, suc, ◌+◌, ◌*◌, ◌<◌, length}
 use Rattle.order.specs.First.{Row, row}
 use Rattle.order.specs.Beside.{Beside, beside, Promised}
-use Rattle.order.specs.Answer.{Answer}
-use Rattle.order.specs.Answer.{Done, NotFound}
+use Rattle.order.specs.Answer.{Answer, Done, NotFound}
 use Rattle.tree_table.specs.View.{View, LiveIn}
 use Rattle.tree_test.specs.Gate.{entry_gate}
 use Rattle.tree_sound.specs.Tables.{Tables, dirs, files, OutsideIn, rooms_in}
@@ -26,11 +25,6 @@ kind_view (suc k) s = files s
 abbrev pub kind_width : ℕ → ℕ
 kind_width zero = 40
 kind_width (suc k) = 48
-
--- the place that goes with the number of an answer: at for Done, else 0
-abbrev pub placed : ℕ → ℕ → ℕ
-placed zero at = at
-placed (suc a) at = 0
 
 -- the call's own row, and what Done gives: the name stands behind the parent's four bytes
 abbrev pub name_rows : Tables → ℕ → ℕ → List (Row Naming)

@@ -19,13 +19,14 @@ use tree_promises::Kind;
 // Where the name stands in an entry: behind the parent's four bytes.
 const NAME: usize = 4;
 
-// Why a kind that is neither is refused: whether the sizes fit. No two tables have so little room that one place of work is enough, so the test ends there.
+// Why a kind that is neither is refused: whether the sizes fit.
 pub fn other_kind(dir_hash: &[u8], dir_table: &[u8], file_hash: &[u8], file_table: &[u8]) -> Refusal
     ensures { First (row (Misfit dir_hash.now dir_table.now file_hash.now file_table.now) SizeMismatch ∷ []) InvalidValue (Err result) }
 {
-    match tree_test::test(dir_hash, dir_table, file_hash, file_table, &mut [0]) {
-        Err(Refusal::SizeMismatch) => Refusal::SizeMismatch,
-        _ => Refusal::InvalidValue,
+    if tree_test::misfit(dir_hash, dir_table, file_hash, file_table) {
+        Refusal::SizeMismatch
+    } else {
+        Refusal::InvalidValue
     }
 }
 

@@ -2,4 +2,4 @@
 use Rattle.mukthiban.proofs.look.mukthiban_tree_carried_file.Goals as goal
 
 pub returns : goal.returns
-returns c = (_, c.into.ensures, rw c.unwrap_or.ensures c.carried_file-r.ensures)
+returns c = (_, c.number.ensures, rw c.unwrap_or.ensures c.carried_file-r.ensures)

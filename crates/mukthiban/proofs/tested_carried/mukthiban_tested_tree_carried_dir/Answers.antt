@@ -2,4 +2,4 @@
 use Rattle.mukthiban.proofs.tested_carried.mukthiban_tested_tree_carried_dir.Goals as goal
 
 pub returns : goal.returns
-returns c = (_, c.into.ensures, rw c.unwrap_or.ensures c.carried_dir-r.ensures)
+returns c = (_, c.number.ensures, rw c.unwrap_or.ensures c.carried_dir-r.ensures)
