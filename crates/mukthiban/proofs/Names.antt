@@ -1,5 +1,5 @@
 -- The promise of the name's export, from that of the call and by the kind.
-use mathlib.Core.Path.{◌≡◌, refl, ap, subst⁻¹}
+use mathlib.Core.Path.{◌≡◌, refl, ap, subst, subst⁻¹}
 use mathlib.Core.List.{List, [], ◌∷◌}
 use mathlib.Core.Logic.{◌⊎◌, inl, inr, ⊎_elim}
 use Prim.Native.Nat.{ℕ, zero, suc, ◌+◌, ◌*◌, ◌≤◌, ◌<◌}
@@ -12,6 +12,7 @@ use Rattle.order.specs.Answer.{Answer, Done, NotFound, BrokenTree, SizeMismatch,
 use Rattle.order.specs.declared.Refusal.{Refusal}
 use Rattle.tree_sound.specs.Sizes.{Misfit, rooms}
 use Rattle.tree_sound.specs.Tables.{Tables}
+use Rattle.tree_promises.specs.declared.Kind.{Kind}
 use Rattle.tree_promises.specs.declared.Kind.TheVariants.{Directory, File}
 use Rattle.tree_promises.specs.Promise.{TreePromise}
 use Rattle.tree.specs.Name.{NameAnswerPromise}
@@ -39,20 +40,23 @@ module _ {misfit outside other short unsound dead : Type 0} (k at : ℕ) (work w
   with_place (inr (m, inr (i, inr (s, inr (u, inr (d, p)))))) =
       inr (m, inr (⊎_elim i no, inr (s, inr (u, inr (d, ap (λ (o : Beside Answer). beside (naming at o.given) o.work) p)))))
 
-module _ (s : Tables) (work w : List ℕ) (kind x : ℕ) (a : Answer) where
+-- a kind is a table, and the width of its entries
+module _ (s : Tables) (work w : List ℕ) (kind x : ℕ) (a : Answer) (of : Kind × ℕ) where
   -- the directories
-  pub dir_named : kind ≡ 0 → NameAnswerPromise s work Directory x (beside a w) → NamePromise s work kind x (beside (naming (x * 40 + 4) a) w)
+  pub dir_named : kind ≡ 0 → of ≡ (Directory, 40) → NameAnswerPromise s work of.0 x (beside a w) → NamePromise s work kind x (beside (naming (x * of.1 + 4) a) w)
   unfolding TreePromise
-  dir_named e p =
-      subst⁻¹ (λ (k : ℕ). NamePromise s work k x (beside (naming (x * 40 + 4) a) w)) e
-      (with_place (rooms s.dir_table s.file_table) (x * 40 + 4) work w a (λ h. omega (arith, h)) p)
+  dir_named e z p =
+      subst⁻¹ (λ (o : Kind × ℕ). NamePromise s work kind x (beside (naming (x * o.1 + 4) a) w)) z
+      (subst⁻¹ (λ (k : ℕ). NamePromise s work k x (beside (naming (x * 40 + 4) a) w)) e
+      (with_place (rooms s.dir_table s.file_table) (x * 40 + 4) work w a (λ h. omega (arith, h)) (subst (λ (o : Kind × ℕ). NameAnswerPromise s work o.0 x (beside a w)) z p)))
 
   -- the files
-  pub file_named : kind ≡ 1 → NameAnswerPromise s work File x (beside a w) → NamePromise s work kind x (beside (naming (x * 48 + 4) a) w)
+  pub file_named : kind ≡ 1 → of ≡ (File, 48) → NameAnswerPromise s work of.0 x (beside a w) → NamePromise s work kind x (beside (naming (x * of.1 + 4) a) w)
   unfolding TreePromise
-  file_named e p =
-      subst⁻¹ (λ (k : ℕ). NamePromise s work k x (beside (naming (x * 48 + 4) a) w)) e
-      (with_place (rooms s.dir_table s.file_table) (x * 48 + 4) work w a (λ h. omega (arith, h)) p)
+  file_named e z p =
+      subst⁻¹ (λ (o : Kind × ℕ). NamePromise s work kind x (beside (naming (x * o.1 + 4) a) w)) z
+      (subst⁻¹ (λ (k : ℕ). NamePromise s work k x (beside (naming (x * 48 + 4) a) w)) e
+      (with_place (rooms s.dir_table s.file_table) (x * 48 + 4) work w a (λ h. omega (arith, h)) (subst (λ (o : Kind × ℕ). NameAnswerPromise s work o.0 x (beside a w)) z p)))
 
 -- another kind: the sizes do not fit, or they do
 pub other_named : (s : Tables) (work : List ℕ) (kind x : ℕ) (why : Refusal) → First (row (Misfit s.dir_hash s.dir_table s.file_hash s.file_table) SizeMismatch ∷ []) InvalidValue (Err why)

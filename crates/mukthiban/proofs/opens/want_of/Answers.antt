@@ -2,5 +2,5 @@
 use Rattle.mukthiban.proofs.Asked.{is_writer}
 use Rattle.mukthiban.proofs.opens.want_of.Goals as goal
 
-pub returns : goal.returns
-returns c = search (is_writer)
+pub returns-else-kind-eq0 : goal.returns-else-kind-eq0
+returns-else-kind-eq0 c = search (is_writer)
