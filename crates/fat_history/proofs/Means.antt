@@ -1,9 +1,9 @@
 -- What an outcome of each call says, and that a call which may be done is.
-use mathlib.Core.Path.{◌≡◌, refl, sym, ap, subst, ◌∙◌}
+use mathlib.Core.Path.{◌≡◌, refl, sym, ap, ◌∙◌}
 use mathlib.Core.List.{List, [], ◌∷◌, ◌++◌}
 use mathlib.Core.Logic.{◌⊎◌, inl, inr, ⊎_elim}
 use mathlib.Core.Bool.{true}
-use Prim.Native.Nat.{ℕ, ◌+◌, ◌*◌, ◌≤◌, ◌<◌}
+use Prim.Native.Nat.{ℕ, ◌≤◌, ◌<◌}
 use native.Mathlib.Omega.{arith}
 use lib.ListN.{length}
 use Rattle.words.proofs.Laws as words
@@ -69,20 +69,7 @@ use Rattle.fat_history.proofs.Rows.{
   refuses,
   each_refuses,
 }
-use Rattle.fat_history.proofs.Passes.{
-  Fits,
-  Passed,
-  fits,
-  fits_not_misfit,
-  fits_not_outside,
-  passed,
-  passed_more,
-  none_passed,
-  used_none,
-  none_used,
-  tested,
-  none_tested,
-}
+use Rattle.fat_history.proofs.Passes.{Fits, Passed, fits, fits_not_misfit, fits_not_outside, passed, passed_more, none_passed, used_none, tested, none_tested}
 
 -- a call went by: its gate has passed, with its rows after soundness, none of its tests applied, and its outcome is what Done gives
 pub record Went {A : Type 0} (t : Bytes) (d l : ℕ) (more : List (Row Answer)) (work : List ℕ) (May : Type 0) (done : A) (o : Beside A) : Type 0 where

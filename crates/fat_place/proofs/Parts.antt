@@ -10,7 +10,7 @@ use Rattle.fat_node.specs.Entry.{Bytes}
 use Rattle.fat_node.specs.Node.{Run, run, set_node}
 use Rattle.fat_node.proofs.Nodes.{le_or_lt, length_set_node}
 use Rattle.fat_table.specs.Layout.{taken, left, hits, covers, empties}
-use Rattle.fat_table.specs.Steps.{first, lay}
+use Rattle.fat_table.specs.Steps.{lay}
 use Rattle.fat_table.specs.Holds.{Laid}
 use Rattle.fat_table.proofs.Layouts.{hits_lo, hits_hi, hits_split, taken_whole, taken_part, left_whole, left_part}
 use Rattle.fat_table.proofs.Writes.{keep_laid}

@@ -1,5 +1,5 @@
 -- How many calls a history has.
-use mathlib.Core.Path.{◌≡◌, refl, sym, ap, ◌∙◌}
+use mathlib.Core.Path.{◌≡◌, refl, ap}
 use mathlib.Core.List.{List, [], ◌∷◌, ◌++◌}
 use Prim.Native.Nat.{ℕ, suc, ◌+◌, ◌*◌, ◌≤◌}
 use native.Mathlib.Omega.{arith}
@@ -7,11 +7,11 @@ use lib.ListN.{length, length-append}
 use Rattle.fat_node.specs.Entry.{Bytes}
 use Rattle.fat_node.specs.Node.{Run}
 use Rattle.fat_table.specs.Chain.{free_at}
-use Rattle.fat_table.specs.Layout.{layout, joined, runs}
+use Rattle.fat_table.specs.Layout.{joined}
 use Rattle.fat_table.specs.Counts.{nodes}
 use Rattle.fat_table.proofs.Layouts.{length_perm, end_after}
 use Rattle.fat_table.proofs.Files.{Whole}
-use Rattle.fat_retrace.specs.History.{Call, delete, makes, gives, joins, joins_all, files_in, history}
+use Rattle.fat_retrace.specs.History.{delete, makes, gives, joins, joins_all, files_in, history}
 use Rattle.fat_retrace.proofs.Found.{Read, read}
 
 pub length_makes : (l : List Run) → length (makes l) ≡ length l

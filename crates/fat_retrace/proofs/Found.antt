@@ -2,16 +2,16 @@
 use mathlib.Core.Path.{◌≡◌, refl, sym, ap, subst, subst⁻¹, ◌∙◌}
 use mathlib.Core.List.{List, [], ◌∷◌, ◌++◌, append_assoc, Permᴰ}
 use mathlib.Core.Bool.{Bool, true, false, cond}
-use Prim.Native.Nat.{ℕ, zero, suc, ◌+◌, ◌≤◌}
+use Prim.Native.Nat.{ℕ, suc, ◌+◌, ◌≤◌}
 use native.Mathlib.Omega.{arith}
 use lib.Dec.{eqb}
-use lib.ListN.{length, length-append}
+use lib.ListN.{length}
 use borrow.Author.Tests.{eqb-true, eqb-false}
 use Rattle.fat_node.specs.Entry.{Bytes, Entry}
-use Rattle.fat_node.specs.Node.{Run, run, prev_at, next_at}
+use Rattle.fat_node.specs.Node.{Run, prev_at, next_at}
 use Rattle.fat_table.specs.Sound.{File}
 use Rattle.fat_table.specs.Chain.{head_at, free_at, file_at}
-use Rattle.fat_table.specs.Layout.{Layout, layout, joined, blanks, runs, Tiled}
+use Rattle.fat_table.specs.Layout.{Layout, layout, joined, blanks, runs}
 use Rattle.fat_table.specs.Steps.{first}
 use Rattle.fat_table.specs.Holds.{Holds}
 use Rattle.fat_table.specs.Counts.{nodes, starts}
@@ -20,7 +20,7 @@ use Rattle.fat_table.proofs.Layouts.{EndToEnd, end_after}
 use Rattle.fat_table.proofs.Sounds.{node_size, node_of, in_order, joined_perm}
 use Rattle.fat_table.proofs.Stepped.{holds_order}
 use Rattle.fat_table.proofs.Counting.{scan_read}
-use Rattle.fat_table.proofs.Files.{Whole, Seen, seen, free_path, file_path, is_file, file_is}
+use Rattle.fat_table.proofs.Files.{Whole, seen, free_path, file_path, is_file, file_is}
 use Rattle.fat_retrace.specs.History.{marked, files_in}
 
 -- the mark of a node

@@ -1,7 +1,7 @@
 -- A walk back along a chain that writes a delete for each node.
 use mathlib.Core.Path.{◌≡◌, refl, sym, ap, subst, subst⁻¹, ◌∙◌}
 use mathlib.Core.List.{List, [], ◌∷◌, ◌++◌, append_assoc, append-nil}
-use Prim.Native.Nat.{ℕ, zero, suc, ◌+◌, ◌-◌, ◌*◌, ◌≤◌, ◌<◌}
+use Prim.Native.Nat.{ℕ, suc, ◌+◌, ◌-◌, ◌*◌, ◌≤◌, ◌<◌}
 use native.Mathlib.Omega.{arith}
 use lib.ListN.{length, length-append}
 use Rattle.fat_node.specs.Entry.{Bytes}
@@ -12,7 +12,7 @@ use Rattle.fat_table.proofs.Writes.{last_of}
 use Rattle.fat_table.proofs.Unchanged.{total_append}
 use Rattle.fat_walk.specs.Inner.Chains.{Standing, Chain, ChainFrom, LastIs, LastAt, none, node}
 use Rattle.fat_walk.proofs.Nodes.{mid_prev, mid_size, mid_standing, mid_within}
-use Rattle.fat_retrace.specs.History.{Call, delete, gives}
+use Rattle.fat_retrace.specs.History.{delete, gives}
 use Rattle.fat_retrace.specs.Inner.Written.{Written, GivenUp}
 use Rattle.fat_retrace.proofs.Puts.{written_none, written_long, written_on}
 use Rattle.fat_retrace.proofs.Few.{length_gives}

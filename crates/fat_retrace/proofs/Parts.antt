@@ -1,18 +1,18 @@
 -- The three parts of a history, one after the other in the list.
-use mathlib.Core.Path.{◌≡◌, ap, subst, subst⁻¹, ◌∙◌}
-use mathlib.Core.List.{List, [], ◌∷◌, ◌++◌}
+use mathlib.Core.Path.{◌≡◌, ap, subst}
+use mathlib.Core.List.{List}
 use Prim.Native.Nat.{ℕ, ◌+◌, ◌*◌, ◌≤◌}
 use native.Mathlib.Omega.{arith}
 use lib.ListN.{length}
 use Rattle.words.proofs.Laws as words
 use Rattle.fat_node.specs.Entry.{Bytes}
-use Rattle.fat_table.specs.Chain.{head_at, chain_at, free_at}
+use Rattle.fat_table.specs.Chain.{head_at, chain_at}
 use Rattle.fat_table.specs.Counts.{nodes}
 use Rattle.fat_walk.specs.Volume.{Volume}
 use Rattle.fat_walk.specs.Inner.Chains.{ChainFrom}
 use Rattle.fat_walk.proofs.Hops.{whole_of}
 use Rattle.fat_walk.proofs.Found.{head_chain}
-use Rattle.fat_retrace.specs.History.{Call, makes, gives, joins_all, files_in, history}
+use Rattle.fat_retrace.specs.History.{makes, gives, joins_all, files_in, history}
 use Rattle.fat_retrace.specs.Inner.Written.{Written, GivenUp}
 use Rattle.fat_retrace.proofs.Few.{Short, short, length_makes}
 use Rattle.fat_retrace.proofs.Puts.{written_long, written_on}

@@ -1,11 +1,10 @@
 -- retrace keeps its promise, where the test refuses, where the list is short, and where the history is written.
 use mathlib.Core.Path.{◌≡◌, refl, ap, subst, subst⁻¹, ◌∙◌}
-use mathlib.Core.List.{List, [], ◌∷◌}
-use mathlib.Core.Logic.{◌⊎◌, inl, inr}
-use Prim.Native.Nat.{ℕ, ◌+◌, ◌*◌, ◌≤◌, ◌<◌}
+use mathlib.Core.List.{List}
+use mathlib.Core.Logic.{inl, inr}
+use Prim.Native.Nat.{ℕ, ◌*◌, ◌≤◌, ◌<◌}
 use native.Mathlib.Omega.{arith}
 use lib.ListN.{length}
-use lib.Seq.{sets}
 use Rattle.words.proofs.Laws as words
 use Rattle.order.specs.First.{First}
 use Rattle.order.specs.Given.{Given, None}
@@ -21,7 +20,7 @@ use Rattle.fat_test.specs.Gate.{test_gate}
 use Rattle.fat_test.specs.Promise.{Tested, tested, test_done, TestPromise}
 use Rattle.fat_walk.specs.Volume.{Volume}
 use Rattle.fat_history.proofs.Means.{test_means}
-use Rattle.fat_retrace.specs.History.{history, encoded}
+use Rattle.fat_retrace.specs.History.{history}
 use Rattle.fat_retrace.specs.Inner.Written.{Written}
 use Rattle.fat_retrace.specs.Promise.{Retrace, retrace_gives, retrace_rows, retrace_done, RetracePromise}
 

@@ -109,7 +109,7 @@ module _ (t : Bytes) (work : List ℕ) (o : Tested × List ℕ) (g : AreBytes t)
       let w = test_means t work o (are_bytes t g) p d in
       let n : ℕ = blocks t in
       let k = reached t g w.0 w.1 in
-      let z = run_on k.runs_to 0 (formats t (formatted n t) (record { answer = Done }) g (format_done_lem t w.0) refl) refl in
+      let z = run_on k.runs_to 0 (formats t (formatted n t) Done g (format_done_lem t w.0) refl) refl in
       record {
         calls = z.0;
         end = k.end;

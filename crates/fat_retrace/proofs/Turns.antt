@@ -1,11 +1,11 @@
 -- The two walks over the nodes: a create for each node, and the calls for each file.
 use mathlib.Core.Path.{◌≡◌, refl, sym, ap, subst, ◌∙◌}
-use mathlib.Core.List.{List, [], ◌∷◌, ◌++◌, append_assoc, append-nil}
-use Prim.Native.Nat.{ℕ, ◌+◌, ◌-◌, ◌*◌, ◌≤◌, ◌<◌}
+use mathlib.Core.List.{List, [], ◌∷◌, ◌++◌, append_assoc}
+use Prim.Native.Nat.{ℕ, ◌+◌, ◌*◌, ◌≤◌, ◌<◌}
 use native.Mathlib.Omega.{arith}
 use lib.ListN.{length}
 use Rattle.fat_node.specs.Entry.{Bytes}
-use Rattle.fat_node.specs.Node.{Run, run}
+use Rattle.fat_node.specs.Node.{Run}
 use Rattle.fat_table.specs.Sound.{IsNode}
 use Rattle.fat_table.specs.Chain.{size_at, file_at}
 use Rattle.fat_table.specs.Counts.{nodes, starts}

@@ -1,5 +1,4 @@
 use native.Mathlib.Omega.{arith}
-use Prim.Native.Nat.{◌-◌}
 use Rattle.fat_retrace.proofs.Gives.{giving_begin, giving_standing, giving_room, giving_place, giving_small, giving_sum, giving_less, giving_long, giving_on, giving_end}
 use Rattle.fat_retrace.proofs.Puts.{put_delete}
 use Rattle.fat_retrace.proofs.give_up.Goals as goal

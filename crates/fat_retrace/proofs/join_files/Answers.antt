@@ -1,5 +1,4 @@
 use native.Mathlib.Omega.{arith}
-use Prim.Native.Nat.{◌-◌}
 use Rattle.fat_retrace.proofs.Scans.{going_long}
 use Rattle.fat_retrace.proofs.Turns.{join_begin, join_node, join_standing, join_size, join_fits, join_on, join_end}
 use Rattle.fat_retrace.proofs.join_files.Goals as goal

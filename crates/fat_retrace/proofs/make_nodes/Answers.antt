@@ -1,5 +1,4 @@
 use native.Mathlib.Omega.{arith}
-use Prim.Native.Nat.{◌-◌}
 use Rattle.fat_retrace.proofs.Scans.{going_long}
 use Rattle.fat_retrace.proofs.Turns.{make_begin, make_standing, make_size, make_room, make_small, make_on, make_end}
 use Rattle.fat_retrace.proofs.Puts.{put_create}
