@@ -1,0 +1,6 @@
+use mathlib.Core.Path.{refl}
+use mathlib.Core.Logic.{inr}
+use Rattle.fat.proofs.tested.tested_create.Goals as goal
+
+pub returns : goal.returns
+returns c = inr ((λ z. z (c.if-not-in_use.ensures.yes refl)), c.create_sound.ensures)
