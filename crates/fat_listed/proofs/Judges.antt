@@ -3,13 +3,11 @@ use mathlib.Core.Path.{◌≡◌, refl, sym, subst}
 use mathlib.Core.Bool.{Bool, true, false}
 use mathlib.Core.List.{List}
 use Rattle.std.specs.Prelude.{Ok, Err}
-use mathlib.Core.Logic.{◌⊎◌, inl, inr, ⊎_elim}
+use mathlib.Core.Logic.{inl, inr, ⊎_elim}
 use Prim.Native.Nat.{ℕ, ◌+◌, ◌*◌, ◌/◌, ◌≤◌, ◌<◌}
-use native.Mathlib.Omega.{arith}
 use lib.Dec.{eqb}
 use borrow.Author.Tests.{eqb-true, eqb-false}
 use lib.ListN.{length, get_or}
-use Rattle.order.specs.First.{Row}
 use Rattle.order.specs.Given.{Given, None}
 use Rattle.order.specs.Answer.{Answer}
 use Rattle.order.specs.Answer.{Done, SizeMismatch, InvalidValue, OutOfBound, ReadOnlyVolume}
@@ -18,7 +16,7 @@ use Rattle.fat_node.proofs.Nodes.{le_or_lt}
 use Rattle.fat_test.specs.Gate.{InUse}
 use Rattle.fat_walk.specs.Volume.{Data}
 use Rattle.fat_promises.specs.Blocks.{bytes_at, written}
-use Rattle.fat_promises.specs.Calls.{Carry, carry_gives}
+use Rattle.fat_promises.specs.Calls.{carry_gives}
 use Rattle.order.specs.Tells.{Tells}
 use Rattle.fat_listed.specs.Listed.{Uneven, Unfit, Foreign, listed_tests, write_tests, ReadBlocksPromise, WriteBlocksPromise}
 use Rattle.fat_listed.specs.Shares.{Domestic, JudgeSays}

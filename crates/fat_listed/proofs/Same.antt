@@ -1,5 +1,5 @@
 -- With the list that open list gave, read_blocks and write_blocks give what read and write give; and each leaves one answer.
-use mathlib.Core.Path.{◌≡◌, refl, sym, ap, subst, subst⁻¹, ◌∙◌}
+use mathlib.Core.Path.{◌≡◌, sym, ap, subst, subst⁻¹, ◌∙◌}
 use mathlib.Core.List.{List, [], ◌∷◌, ◌++◌, append_assoc}
 use mathlib.Core.Logic.{◌⊎◌, inl, inr, ⊎_elim}
 use Prim.Native.Nat.{ℕ, zero, suc, ◌+◌, ◌-◌, ◌*◌, ◌/◌, ◌≤◌, ◌<◌}
@@ -8,11 +8,10 @@ use native.Mathlib.Numerals.{add-one}
 use native.Mathlib.Nat.{mul-div_cancel, div-lt_iff_lt-mul}
 use lib.ListN.{length, get_or, take, drop, get_or-append}
 use lib.Seq.{take_at, get_or-append-add}
-use Rattle.order.specs.First.{Row, First}
+use Rattle.order.specs.First.{First}
 use Rattle.order.specs.Giving.{giving}
 use Rattle.order.specs.Gate.{cleared}
 use Rattle.order.specs.Answer.{number_of}
-use Rattle.order.specs.Answer.{Answer}
 use Rattle.order.specs.Answer.{Done}
 use Rattle.order.proofs.One.{one}
 use Rattle.order.proofs.Beside as rows
@@ -28,8 +27,8 @@ use Rattle.fat_table.specs.Chain.{total, chain_at, file_at}
 use Rattle.fat_test.specs.Gate.{InUse, block_gate, change_gate}
 use Rattle.fat_promises.specs.Blocks.{blocks_from, blocks_of, bytes_at, written}
 use Rattle.fat_promises.specs.Promise.{Beside, beside, Promise, ChangePromise, change_rows}
-use Rattle.fat_promises.specs.Calls.{Carry, carry_gives, carry_rows, read_done, write_done, size_of, ReadPromise, WritePromise, Listing, list_gives, list_done, ListPromise}
-use Rattle.fat_walk.specs.Volume.{Volume, Data}
+use Rattle.fat_promises.specs.Calls.{Carry, carry_gives, carry_rows, read_done, write_done, size_of, ReadPromise, WritePromise, Listing, list_gives, ListPromise}
+use Rattle.fat_walk.specs.Volume.{Data}
 use Rattle.fat_walk.specs.Inner.Chains.{Chain}
 use Rattle.fat_walk.proofs.Blocks.{length_from, length_blocks}
 use Rattle.fat_walk.proofs.Nodes.{mid_within}

@@ -1,5 +1,5 @@
 -- The blocks that the bytes lie in, as a part of the list.
-use Rattle.std.proofs.Common.{◌≡◌, refl, ap, sym, subst, ◌∙◌, List, ℕ, suc, ◌+◌, ◌-◌, ◌*◌, ◌/◌, ◌%◌, ◌≤◌, ◌<◌, min, Bool, true, false, length, get_or, take, drop, arith, add-one, ◌⊎◌, inl, inr, ⊎_elim}
+use Rattle.std.proofs.Common.{◌≡◌, ap, sym, subst, ◌∙◌, List, ℕ, suc, ◌+◌, ◌-◌, ◌*◌, ◌/◌, ◌%◌, ◌≤◌, ◌<◌, Bool, true, false, length, get_or, take, drop, arith, ⊎_elim}
 use Rattle.std.proofs.Math.Nat.{suc-mul, add-mul, mul-le-mul_right, div-add-mod', mod-lt, lt_of_mul-lt-mul_right, mul-div_cancel, div-lt_iff_lt-mul}
 use Rattle.std.proofs.lemmas.List.{get_or-take, get_or-drop, length-take, length-drop}
 use Rattle.std.proofs.lemmas.Grind.{div_ceil_times}

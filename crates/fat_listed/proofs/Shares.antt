@@ -1,11 +1,11 @@
 -- Read and write along a list of blocks, a block's share at a time.
 use mathlib.Core.Path.{◌≡◌, refl, sym, ap, subst, subst⁻¹, ◌∙◌}
-use mathlib.Core.List.{List, [], ◌∷◌, ◌++◌}
-use mathlib.Core.Logic.{inl, inr, ⊎_elim}
+use mathlib.Core.List.{List, ◌++◌}
+use mathlib.Core.Logic.{⊎_elim}
 use Prim.Native.Nat.{ℕ, suc, ◌+◌, ◌-◌, ◌*◌, ◌/◌, ◌%◌, ◌≤◌, ◌<◌}
 use native.Mathlib.Omega.{arith}
 use native.Mathlib.Nat.{suc-mul, mod-lt, div-add-mod', div-eq_of_lt, mod-eq_of_lt, mul-add-div_right, mul-add-mod_self_right, mul-le-mul, mul-le-mul_right}
-use lib.ListN.{length, get_or, take, drop, length-drop}
+use lib.ListN.{length, get_or, take, drop}
 use Rattle.std.specs.Prelude.{min}
 use lib.Seq.{sets, length-sets, length-take-le, take-length, take-add}
 use Rattle.fat_node.specs.Entry.{Bytes}

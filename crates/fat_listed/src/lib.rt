@@ -168,9 +168,9 @@ fn store(data: &mut [u8], n: usize, block_len: usize, list: &[u32], pos: usize, 
     let mut done: usize = 0;
     for &b in blocks {
         let s = share_of(b, block_len, from, len - done);
-        let end = done + s.len;
-        data[s.at..s.at + s.len].copy_from_slice(&buf[done..end]);
-        done = end;
+        let upto = done + s.len;
+        data[s.at..s.at + s.len].copy_from_slice(&buf[done..upto]);
+        done = upto;
         from = 0;
     }
 }

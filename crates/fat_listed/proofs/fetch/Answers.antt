@@ -11,10 +11,11 @@ pub slice_bounds-copy_from_slice-end-in-loop-b : goal.slice_bounds-copy_from_sli
 slice_bounds-copy_from_slice-end-in-loop-b c = omega (arith, turn_data _ _ _ _ _ c.requires.fact.0.some c.touched-blocks.ensures _ c.requires.domestic _ _ _ c.loop-b-test.true c.loop-b.invariant.0 _ _ c.share_of-s.ensures, c.requires.fact.0.fits)
 
 pub loop-b-preserved : goal.loop-b-preserved
-loop-b-preserved c =
-    (turn_next _ _ _ _ _ c.requires.fact.0.some c.touched-blocks.ensures _ c.requires.domestic _ _ _ c.loop-b-test.true c.loop-b.invariant.0 _ _ c.share_of-s.ensures,
-    read_turn _ _ _ _ _ _ (turn_row _ _ _ _ _ c.requires.fact.0.some c.touched-blocks.ensures _ c.requires.domestic _ _ _ c.loop-b-test.true c.loop-b.invariant.0 _ _ c.share_of-s.ensures) _ _ _ _ (c.loop-b.done + c.share_of-s.result.len - c.loop-b.done) (c.share_of-s.result.at + c.share_of-s.result.len - c.share_of-s.result.at) (turn_upto _ _ _ _ _ c.requires.fact.0.some c.touched-blocks.ensures _ c.requires.domestic _ _ _ c.loop-b-test.true c.loop-b.invariant.0 _ _ c.share_of-s.ensures) (omega (arith, turn_data _ _ _ _ _ c.requires.fact.0.some c.touched-blocks.ensures _ c.requires.domestic _ _ _ c.loop-b-test.true c.loop-b.invariant.0 _ _ c.share_of-s.ensures, c.requires.fact.0.fits)) c.loop-b.invariant.1 (omega arith) (omega arith) c.copy_from_slice.ensures.after,
-    read_long _ _ _ _ _ _ (turn_row _ _ _ _ _ c.requires.fact.0.some c.touched-blocks.ensures _ c.requires.domestic _ _ _ c.loop-b-test.true c.loop-b.invariant.0 _ _ c.share_of-s.ensures) _ _ _ _ (c.loop-b.done + c.share_of-s.result.len - c.loop-b.done) (c.share_of-s.result.at + c.share_of-s.result.len - c.share_of-s.result.at) (turn_upto _ _ _ _ _ c.requires.fact.0.some c.touched-blocks.ensures _ c.requires.domestic _ _ _ c.loop-b-test.true c.loop-b.invariant.0 _ _ c.share_of-s.ensures) (omega (arith, turn_data _ _ _ _ _ c.requires.fact.0.some c.touched-blocks.ensures _ c.requires.domestic _ _ _ c.loop-b-test.true c.loop-b.invariant.0 _ _ c.share_of-s.ensures, c.requires.fact.0.fits)) c.loop-b.invariant.1 (omega arith) (omega arith) c.copy_from_slice.ensures.after)
+loop-b-preserved c = (
+  turn_next _ _ _ _ _ c.requires.fact.0.some c.touched-blocks.ensures _ c.requires.domestic _ _ _ c.loop-b-test.true c.loop-b.invariant.0 _ _ c.share_of-s.ensures,
+  read_turn _ _ _ _ _ _ (turn_row _ _ _ _ _ c.requires.fact.0.some c.touched-blocks.ensures _ c.requires.domestic _ _ _ c.loop-b-test.true c.loop-b.invariant.0 _ _ c.share_of-s.ensures) _ _ _ _ (c.loop-b.done + c.share_of-s.result.len - c.loop-b.done) (c.share_of-s.result.at + c.share_of-s.result.len - c.share_of-s.result.at) (turn_upto _ _ _ _ _ c.requires.fact.0.some c.touched-blocks.ensures _ c.requires.domestic _ _ _ c.loop-b-test.true c.loop-b.invariant.0 _ _ c.share_of-s.ensures) (omega (arith, turn_data _ _ _ _ _ c.requires.fact.0.some c.touched-blocks.ensures _ c.requires.domestic _ _ _ c.loop-b-test.true c.loop-b.invariant.0 _ _ c.share_of-s.ensures, c.requires.fact.0.fits)) c.loop-b.invariant.1 (omega arith) (omega arith) c.copy_from_slice.ensures.after,
+  read_long _ _ _ _ _ _ (turn_row _ _ _ _ _ c.requires.fact.0.some c.touched-blocks.ensures _ c.requires.domestic _ _ _ c.loop-b-test.true c.loop-b.invariant.0 _ _ c.share_of-s.ensures) _ _ _ _ (c.loop-b.done + c.share_of-s.result.len - c.loop-b.done) (c.share_of-s.result.at + c.share_of-s.result.len - c.share_of-s.result.at) (turn_upto _ _ _ _ _ c.requires.fact.0.some c.touched-blocks.ensures _ c.requires.domestic _ _ _ c.loop-b-test.true c.loop-b.invariant.0 _ _ c.share_of-s.ensures) (omega (arith, turn_data _ _ _ _ _ c.requires.fact.0.some c.touched-blocks.ensures _ c.requires.domestic _ _ _ c.loop-b-test.true c.loop-b.invariant.0 _ _ c.share_of-s.ensures, c.requires.fact.0.fits)) c.loop-b.invariant.1 (omega arith) (omega arith) c.copy_from_slice.ensures.after,
+)
 
 pub returns : goal.returns
 returns c = read_end _ _ _ _ _ _ _ c.loop-b.invariant.1 (turned_end _ _ _ _ _ c.requires.fact.0.some c.touched-blocks.ensures _ _ _ c.loop-b-test.false c.loop-b.invariant.0)

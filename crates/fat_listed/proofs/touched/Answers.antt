@@ -1,5 +1,5 @@
-use Rattle.std.proofs.Common.{arith, ◌/◌, ◌+◌, ◌-◌}
-use Rattle.fat_listed.proofs.Seen.{touched_in, touched_some, touched_none}
+use Rattle.std.proofs.Common.{arith}
+use Rattle.fat_listed.proofs.Seen.{touched_in, touched_some}
 use Rattle.fat_listed.proofs.touched.Goals as goal
 
 pub slice_bounds-result-end-2 : goal.slice_bounds-result-end-2
