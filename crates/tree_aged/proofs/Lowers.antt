@@ -31,25 +31,12 @@ pub record Lowering (w : ℕ) (t : List ℕ) (work₀ work : List ℕ) (y : ℕ)
   pub known : Known w t work
   pub none : NoneLost w t y
 
-pub low_begin : (w : ℕ) (t work : List ℕ) → Fits w t work → Known w t work → Lowering w t work work 1
-low_begin w t work F K = record {
-  long = refl;
-  some = omega arith;
-  few = F.few;
-  fits = F;
-  known = K;
-  none = λ z h l q. let p : 0 < z = l.0 in omega arith;
-}
-
 module _ {w : ℕ} {t work₀ work : List ℕ} {y : ℕ} (L : Lowering w t work₀ work y) where
   next_none : (LiveAt w t y → Lost (coll_of w t) (next_of w t) y → ⊥) → NoneLost w t (y + 1)
   next_none f z h l q =
       ⊎_elim (λ (e : z ≡ y). f (subst (λ v. LiveAt w t v) e l) (subst (λ v. Lost (coll_of w t) (next_of w t) v) e q))
       (λ (n : z ≢ y). L.none z (omega (arith, h, n)) l q)
       (same_or z y)
-
-  pub low_below : (count : ℕ) → count ≡ field w t 0 1 → y < count → y < field w t 0 1
-  low_below count e h = omega (arith, h, e)
 
   pub low_on : (work' : List ℕ) (r : Bool) → length work' ≡ length work → Passed w t y work' r → r ≡ true → Lowering w t work₀ work' (y + 1)
   low_on work' r e P q = record {
@@ -61,18 +48,12 @@ module _ {w : ℕ} {t work₀ work : List ℕ} {y : ℕ} (L : Lowering w t work�
     none = next_none (P.good q);
   }
 
-  pub low_found : (work' : List ℕ) (r : Bool) → Passed w t y work' r → r ≡ false → Lowest w t (Some y)
-  low_found work' r P f = ((P.bad f).0, (P.bad f).1, L.none)
-
   pub low_end : (count : ℕ) → count ≡ field w t 0 1 → count ≤ y → Lowest w t None
   low_end count e h z k l q = L.none z (omega (arith, e, h, k)) l q
 
 -- ---- one inode
 
 module _ (w : ℕ) (t work : List ℕ) (y i : ℕ) (F : Fits w t work) (K : Known w t work) (a : 0 < y) (b : y < field w t 0 1) (e : i ≡ y) where
-  pub pass_place : i < length work
-  pass_place = omega (arith, F.room, b, e)
-
   -- it has a mark
   pub pass_known : (get_or work i 0 ≡ 0 → ⊥) → Passed w t y work true
   pass_known n = record {
@@ -88,9 +69,6 @@ module _ (w : ℕ) (t work : List ℕ) (y i : ℕ) (F : Fits w t work) (K : Know
 
     alive : LiveAt w t y
     alive = K.live y a b pass_free
-
-    pub pass_at : At w t work y
-    pass_at = record { fits = F; live = alive }
 
     pub pass_walked : (work' : List ℕ) (r : Bool) → Walked w t y work' r → Passed w t y work' r
     pass_walked work' r W = record {
@@ -152,15 +130,6 @@ module _ (w : ℕ) (t work work' : List ℕ) (count first : ℕ) (r : Bool) (F :
 -- ---- what reading the first entry and marking ask for
 
 module _ {w : ℕ} {t work : List ℕ} (F : Fits w t work) where
-  first_in : 0 * w + w ≤ length t
-  first_in = omega (arith, mul-le-mul_right w F.some, F.inside)
-
-  pub sort_count : (0 * w + w ≤ length t) × (4 ≤ w)
-  sort_count = (first_in, omega (arith, F.wide))
-
-  pub sort_first : (0 * w + w ≤ length t) × (w - 4 + 4 ≤ w)
-  sort_first = (first_in, omega (arith, F.wide))
-
   module _ (count : ℕ) (c : count ≡ link_at t w 0 0) where
     pub sort_inside : count * w ≤ length t
     unfolding field
@@ -176,8 +145,3 @@ module _ {w : ℕ} {t work : List ℕ} (F : Fits w t work) where
 pub sort_count_is : (w : ℕ) (t : List ℕ) (count : ℕ) → count ≡ link_at t w 0 0 → count ≡ field w t 0 1
 unfolding field
 sort_count_is w t count e = e
-
--- the zeros that are left have the length of those before
-pub sort_leaves : (w : ℕ) (t work work₁ work₂ work₃ : List ℕ) (r : Option ℕ) → length work₁ ≡ length work → length work₂ ≡ length work₁
-    → work₃ ≡ replicate (length work₂) 0 → Lowest w t r → Leaves w t work work₃ r
-sort_leaves w t work work₁ work₂ work₃ r a b e l = record { lowest = l; clear = e ∙ ap (λ (m : ℕ). replicate m 0) (b ∙ a) }

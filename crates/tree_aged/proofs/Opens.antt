@@ -15,15 +15,6 @@ use Rattle.tree_promises.specs.Inner.Ready.{LiveAt}
 use Rattle.tree_aged.specs.Inner.Walk.{ended, At, OpenTo, Open}
 use Rattle.tree_aged.proofs.Walks.{place_in}
 
-pub open_none : (work : List ℕ) (z : ℕ) → z ≡ 0 → OpenTo work z false
-open_none work z e = record { yes = λ q. absurd (false≢true q); no = λ q p. absurd (omega arith) }
-
-pub open_mark : (work : List ℕ) (z i : ℕ) → (z ≡ 0 → ⊥) → i ≡ z → OpenTo work z (not (eqb (get_or work i 0) 65538))
-open_mark work z i h e =
-    by_eq (get_or work i 0) 65538 (λ t. OpenTo work z (not t))
-    (λ k. record { yes = λ q. absurd (false≢true q); no = λ _ p. sym (ap (λ (v : ℕ). get_or work v 0) e) ∙ k })
-    (λ n. record { yes = λ _. (omega arith, λ k. n (ap (λ (v : ℕ). get_or work v 0) e ∙ k)); no = λ q. absurd (false≢true (sym q)) })
-
 coll_is : (w : ℕ) (t : List ℕ) (x : ℕ) → link_at t w (w - 4) x ≡ field w t x 0
 unfolding field
 coll_is w t x = refl

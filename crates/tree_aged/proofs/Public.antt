@@ -107,58 +107,12 @@ module _ (d f work : List ℕ) where
             same = S'.same ∙ S.same;
           }
 
--- the root's entry lies in the table; and the files' places are as they were
-pub root_asked : (d f work : List ℕ) → OpenTree d f work → (1 * 40 + 40 ≤ length d) × (40 ≤ 40)
-root_asked d f work O = (omega (arith, O.root), omega arith)
-
-pub dirs_ripe : (d f work : List ℕ) → OpenTree d f work → Ripe 40 d work
-dirs_ripe d f work O = O.dirs
-
-pub files_ripe : (d f work work' : List ℕ) (r : Option ℕ) → OpenTree d f work → Sorted 40 d work work' r → Ripe 48 f work'
-files_ripe d f work work' r O S = subst⁻¹ (λ (l : List ℕ). Ripe 48 f l) S.same O.files
-
 -- ---- the named places
-
-pub ripe_wide : {w : ℕ} {t work : List ℕ} → Ripe w t work → 0 < w
-ripe_wide R = omega (arith, R.wide)
 
 take_zeros : (n k : ℕ) (rest : List ℕ) → n ≤ k → ◌≡◌ {A = List ℕ} (take n (replicate k 0 ++ rest)) (replicate n 0)
 take_zeros zero k rest h = refl
 take_zeros (suc n) zero rest h = absurd (omega arith)
 take_zeros (suc n) (suc k) rest h = ap (λ (l : List ℕ). 0 ∷ l) (take_zeros n k rest (omega arith))
-
-zero_at : (k : ℕ) (l : List ℕ) → l ≡ replicate k 0 → (j : ℕ) → ◌≡◌ {A = ℕ} (get_or l j 0) 0
-zero_at k l e j =
-    ap (λ (v : List ℕ). get_or v j 0) e
-    ∙ ⊎_elim (λ (h : k ≤ j). get_or-eq_default (replicate k 0) 0 (omega (arith, length-replicate {A = ℕ} k 0, h))) (λ (h : j < k). get_or-replicate k j 0 0 h)
-    (le_or_lt k j)
-
-module _ (w : ℕ) (t work : List ℕ) (R : Ripe w t work) (room : ℕ) (e : room ≡ length t / w) where
-  pub part_long : room ≤ length work
-  part_long = omega (arith, e, R.long)
-
-  pub part_size : room ≡ length (take room work)
-  part_size = sym (length-take-le room work part_long)
-
-  pub part_fits : Fits w t (take room work)
-  part_fits = subst⁻¹ (λ (k : ℕ). Fits w t (take k work)) e R.fits
-
-  zeroed : take room work ≡ replicate room 0
-  zeroed = subst⁻¹ (λ (k : ℕ). take k work ≡ replicate k 0) e R.zeros
-
-  pub part_gone : RemovedEnds w t
-  part_gone = R.gone
-
-  pub part_zeros : Zeros (take room work)
-  part_zeros = record { at = zero_at room (take room work) zeroed }
-
-  pub part_sorted : (v : List ℕ) (r : Option ℕ) → Leaves w t (take room work) v r → Sorted w t work (v ++ drop room work) r
-  part_sorted v r p = record {
-    lowest = p.lowest;
-    same =
-        ap (λ (x : List ℕ). x ++ drop room work) (p.clear ∙ ap (λ (m : ℕ). replicate m 0) (length-take-le room work part_long) ∙ sym zeroed)
-        ∙ take-append-drop room work;
-  }
 
 -- ---- what soundness gives
 

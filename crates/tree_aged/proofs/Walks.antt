@@ -124,27 +124,14 @@ fits_long {w} {t} F e = record {
   next = F.next;
 }
 
--- the entry lies in the table, and has a place
-pub entry_in : {w : ℕ} {t work : List ℕ} {x : ℕ} → At w t work x → x * w + w ≤ length t
-entry_in {w} {t} {work} {x} A =
-    let m : suc x * w ≤ field w t 0 1 * w = mul-le-mul_right w A.live.1 in let i : field w t 0 1 * w ≤ length t = A.fits.inside in
-    omega (arith, suc-mul x w)
-
 pub place_in : {w : ℕ} {t work : List ℕ} {x : ℕ} → At w t work x → x < length work
 place_in {w} {t} {work} {x} A = let i : x < field w t 0 1 = A.live.1 in let r : field w t 0 1 ≤ length work = A.fits.room in omega arith
 
-pub long_set : (l work : List ℕ) (i v : ℕ) → length l ≡ length (set work i v) → length l ≡ length work
-long_set l work i v e = e ∙ length-set work i v
+begin_place : {w : ℕ} {t work : List ℕ} {x : ℕ} (i : ℕ) → At w t work x → i ≡ x → i < length work
+begin_place {work = work} i A e = subst⁻¹ (λ (v : ℕ). v < length work) e (place_in A)
 
 small_at : {w : ℕ} {t work : List ℕ} {x : ℕ} → At w t work x → x < 65536
 small_at {w} {t} {work} {x} A = let i : x < field w t 0 1 = A.live.1 in let r : field w t 0 1 ≤ 65536 = A.fits.few in omega arith
-
-pub begin_place : {w : ℕ} {t work : List ℕ} {x : ℕ} (i : ℕ) → At w t work x → i ≡ x → i < length work
-begin_place {work = work} i A e = subst⁻¹ (λ (v : ℕ). v < length work) e (place_in A)
-
--- what reading its links asks for
-pub coll_asked : {w : ℕ} {t work : List ℕ} {x : ℕ} → At w t work x → (x * w + w ≤ length t) × (w - 4 + 4 ≤ w)
-coll_asked A = (entry_in A, omega (arith, A.fits.wide))
 
 module _ (w : ℕ) (t work : List ℕ) (y : ℕ) where
   begin : At w t work y → Known w t work → mark_of work y ≡ 0 → Going w t y (set work y 1) (set work y 1) y
@@ -194,9 +181,6 @@ module _ {w : ℕ} {t : List ℕ} {y : ℕ} {work₀ work : List ℕ} {x : ℕ} 
 
   pub going_some : (i : ℕ) → x ≢ 0 → i ≡ x → 1 ≤ get_or work i 0
   going_some i h e = (going_marked i h e).0
-
-  pub on_fits : x + 1 < 4294967296
-  on_fits = omega (arith, G.small)
 
   -- an entry that has the mark ends
   known : (z : ℕ) → LiveAt w t z → mark_of work z ≡ ended → Ends (coll_of w t) (next_of w t) z

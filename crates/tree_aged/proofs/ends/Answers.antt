@@ -1,9 +1,6 @@
 -- `tree_aged::ends` meets its contract.
-use Rattle.tree_aged.proofs.Walks.{begin_place, going_begin, going_at, going_back, back_less, going_on, on_place, on_less, going_met, going_end, going_place, going_some, on_fits, long_set}
+use Rattle.tree_aged.proofs.Walks.{going_begin, going_at, going_back, back_less, going_on, on_place, on_less, going_met, going_end, going_place, going_some}
 use Rattle.tree_aged.proofs.ends.Goals as goal
-
-pub bounds-work-index : goal.bounds-work-index
-bounds-work-index c = search (begin_place)
 
 pub loop-x-init : goal.loop-x-init
 loop-x-init c = search (going_begin)
@@ -29,14 +26,8 @@ loop-x-preserved-then-z-eq0 c = search (going_back)
 pub bounds-work-j : goal.bounds-work-j
 bounds-work-j c = search (on_place)
 
-pub shape_of-work-then-work-j-ne0 : goal.shape_of-work-then-work-j-ne0
-shape_of-work-then-work-j-ne0 c = search (long_set)
-
 pub returns-then-work-j-ne0 : goal.returns-then-work-j-ne0
 returns-then-work-j-ne0 c = search (going_met)
-
-pub overflow_add-work : goal.overflow_add-work
-overflow_add-work c = search (on_fits)
 
 pub bounds-work-j-else-z-eq0 : goal.bounds-work-j-else-z-eq0
 bounds-work-j-else-z-eq0 c = search (on_place)
@@ -46,9 +37,6 @@ loop-x-smaller c = search (on_less)
 
 pub loop-x-preserved : goal.loop-x-preserved
 loop-x-preserved c = search (going_on)
-
-pub shape_of-work : goal.shape_of-work
-shape_of-work c = search (long_set)
 
 pub returns : goal.returns
 returns c = search (going_end)
