@@ -9,7 +9,9 @@ use lib.Seq.{length-take-le, take_at}
 use Rattle.order.specs.First.{Row, First}
 use Rattle.order.specs.Gate.{cleared, refusal}
 use Rattle.order.specs.Given.{Given}
-use Rattle.order.specs.Answer.{Answer}
+use Rattle.std.specs.Prelude.{Err}
+use Rattle.order.specs.declared.Refusal as why
+use Rattle.order.specs.Answer.{Answer, Done}
 use Rattle.order.proofs.Beside as rows
 use Rattle.order.proofs.Gate.{gate_given, gate_none}
 use Rattle.fat_node.specs.Entry.{Bytes}
@@ -20,8 +22,6 @@ use Rattle.fat_walk.specs.Volume.{Volume}
 use Rattle.tree_sound.specs.Sizes.{rooms}
 use Rattle.tree_sound.specs.Tables.{Tables, tables, MisfitIn, OutsideIn, rooms_in, SoundIn}
 use Rattle.volume_gate.specs.Gate.{places, Uneven, Unfit, broken_rows, volume_gate, Opened, VolumeGateOf}
-use Rattle.volume_gate.specs.declared.Gated.{Gated}
-use Rattle.volume_gate.specs.declared.Gated.TheVariants.{Open, Refused}
 use Rattle.audit_inner.specs.Volume.{count_of, removed_files, subject}
 use Rattle.audit_inner.specs.Calls.{Audit, audit_gives, audit_rows, audit_done}
 use Rattle.audit_inner.specs.Inner.Marks.{Files, Ready, Clear, AuditSays}
@@ -66,26 +66,25 @@ module _ (t : Bytes) (d l : ℕ) (s : Tables) (work work' : List ℕ) (g : Opene
         long = omega (arith, ap (λ (w : List ℕ). length w) c, length-append (replicate k 0) (drop k work), length-replicate {A = ℕ} k 0);
       }
 
-pub audit_ready : (t : Bytes) (n l : ℕ) (dh d fh f : Bytes) (work work' : List ℕ) (r : Gated) → VolumeGateOf t n l (tables dh d fh f) work work' r → r ≡ Open → OpenVolume t l d f work'
+pub audit_ready : (t : Bytes) (n l : ℕ) (dh d fh f : Bytes) (work work' : List ℕ) → VolumeGateOf t n l (tables dh d fh f) work work' Done → OpenVolume t l d f work'
 unfolding VolumeGateOf
-audit_ready t n l dh d fh f work work' r g e = opened t n l (tables dh d fh f) work work' (subst (VolumeGateOf t n l (tables dh d fh f) work work') e g)
+audit_ready t n l dh d fh f work work' g = opened t n l (tables dh d fh f) work work' g
 
-module _ (t : Bytes) (d l : ℕ) (s : Tables) (work work' : List ℕ) (r : Gated) (g : VolumeGateOf t d l s work work' r) where
+module _ (t : Bytes) (d l : ℕ) (s : Tables) (work work' : List ℕ) where
   -- it refuses with a
-  pub audit_refused : (list : List ℕ) (a : Answer) (o : Audit) → r ≡ Refused a → o ≡ audit_gives a 0 list → AuditPromise t d l s work list (beside o work')
+  pub audit_refused : (list : List ℕ) (a : why.Refusal) (o : Audit) → VolumeGateOf t d l s work work' (Err a) → o ≡ audit_gives (Err a) 0 list
+      → AuditPromise t d l s work list (beside o work')
   unfolding VolumePromise VolumeGateOf
-  audit_refused list a o e q =
+  audit_refused list a o g q =
       let S = subject (blocks t) t l s.file_table in
       subst⁻¹ (λ x. AuditPromise t d l s work list (beside x work')) q
-      (rows.refused (volume_gate (λ a w. beside (audit_gives a 0 list) w) t d l s work) (cleared (places t s) work) (audit_rows S list) (audit_done S list) (beside (audit_gives a 0 list) work')
-      (gate_given (λ a w. beside (audit_gives a 0 list) w) (places t s) work (Uneven t d l ⊎ MisfitIn s) (Unfit t l ⊎ OutsideIn s) (length work < places t s) (broken_rows t s) a work'
-      (subst (VolumeGateOf t d l s work work') e g)))
+      (rows.refused (volume_gate (λ a w. beside (audit_gives a 0 list) w) t d l s work) (cleared (places t s) work) (audit_rows S list) (audit_done S list) (beside (audit_gives (Err a) 0 list) work')
+      (gate_given (λ a w. beside (audit_gives a 0 list) w) (places t s) work (Uneven t d l ⊎ MisfitIn s) (Unfit t l ⊎ OutsideIn s) (length work < places t s) (broken_rows t s) (Err a) work' g))
 
   -- it is open, and the audit's own rows decide
-  pub audit_passed : (list work'' : List ℕ) (o : Audit) → r ≡ Open → OpenSays t l s.file_table work' list work'' o → AuditPromise t d l s work list (beside o work'')
+  pub audit_passed : (list work'' : List ℕ) (o : Audit) → VolumeGateOf t d l s work work' Done → OpenSays t l s.file_table work' list work'' o → AuditPromise t d l s work list (beside o work'')
   unfolding VolumePromise VolumeGateOf
-  audit_passed list work'' o e p =
-      let v : Opened t d l s work work' = subst (VolumeGateOf t d l s work work') e g in
+  audit_passed list work'' o v p =
       let S = subject (blocks t) t l s.file_table in
       subst⁻¹ (λ (w : List ℕ). AuditPromise t d l s work list (beside o w)) (p.same ∙ v.clear)
       (rows.passed (volume_gate (λ a w. beside (audit_gives a 0 list) w) t d l s work) (cleared (places t s) work) (audit_rows S list) (audit_done S list) o

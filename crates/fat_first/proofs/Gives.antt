@@ -10,15 +10,17 @@ use borrow.Author.Tests.{not-true, not-false}
 use Rattle.words.proofs.Laws as words
 use Rattle.order.specs.Tells.{Tells}
 use Rattle.order.specs.First.{First}
-use Rattle.order.specs.Answer.{number_of}
-use Rattle.order.specs.Answer.{Answer}
-use Rattle.order.specs.Answer.{Done, ReadOnlyVolume}
+use Rattle.std.specs.Prelude.{Err}
+use Rattle.order.specs.declared.Refusal as why
+use Rattle.order.specs.Answer.{Answer, Done, ReadOnlyVolume}
+use Rattle.order.specs.Answer as is
 use Rattle.map_bits.specs.Bits.{words_from, words_in}
 use Rattle.map_bits.specs.Inner.Turns.{Turn, Turnable}
 use Rattle.fat_node.specs.Entry.{Bytes}
 use Rattle.fat_table.specs.Sound.{File}
 use Rattle.fat_table.specs.Chain.{total, head_at, chain_at, free_at, file_at}
 use Rattle.fat_table.specs.Steps.{created, created_at, resized, deleted}
+use Rattle.fat_table.proofs.Decided.{file_decided}
 use Rattle.fat_table.proofs.Files.{Whole, whole_created, whole_deleted, whole_resized}
 use Rattle.fat_test.specs.Gate.{InUse}
 use Rattle.fat_test.proofs.Change.{not_in_use}
@@ -49,38 +51,38 @@ record Made (n : ℕ) (t : Bytes) (count f : ℕ) (u : Bytes) : Type 0 where
   at : f ≡ created_at t
   is : u ≡ created n t count
 
-module _ (n : ℕ) (t : Bytes) (count : ℕ) (a : Answer) (f : ℕ) (u : Bytes) where
-  made : CreateSound n t count (create_gives a f u) → number_of a ≡ 0 → Made n t count f u
-  made (inl p) z = let e = ap (λ (o : Create). number_of o.answer) p.1 in let x : ⊥ = omega (arith, e, z) in absurd x
-  made (inr (some, inl p)) z = let e = ap (λ (o : Create). number_of o.answer) p.1 in let x : ⊥ = omega (arith, e, z) in absurd x
-  made (inr (some, inr (enough, e))) z = record {
+module _ (n : ℕ) (t : Bytes) (count f : ℕ) (u : Bytes) where
+  made : CreateSound n t count (create_gives Done f u) → Made n t count f u
+  made (inl p) = let e : Done ≡ is.InvalidValue = ap (λ (o : Create). o.answer) p.1 in absurd (cc)
+  made (inr (some, inl p)) = let e : Done ≡ is.NoSpace = ap (λ (o : Create). o.answer) p.1 in absurd (cc)
+  made (inr (some, inr (enough, e))) = record {
     may = may_create n t count (some, (enough, tt));
     at = ap (λ (o : Create). o.first) e;
     is = ap (λ (o : Create). o.table) e;
   }
 
-  unmade : CreateSound n t count (create_gives a f u) → (number_of a ≡ 0 → ⊥) → u ≡ t
-  unmade (inl p) z = ap (λ (o : Create). o.table) p.1
-  unmade (inr (some, inl p)) z = ap (λ (o : Create). o.table) p.1
-  unmade (inr (some, inr (enough, e))) z = absurd (z (ap (λ (o : Create). number_of o.answer) e))
+  unmade : (a : why.Refusal) → CreateSound n t count (create_gives (Err a) f u) → u ≡ t
+  unmade a (inl p) = ap (λ (o : Create). o.table) p.1
+  unmade a (inr (some, inl p)) = ap (λ (o : Create). o.table) p.1
+  unmade a (inr (some, inr (enough, e))) = let q : Err a ≡ Done = ap (λ (o : Create). o.answer) e in absurd (cc)
 
 -- resize, delete ---------------------------------------------------------------------------------------
 
-module _ (n : ℕ) (t : Bytes) (w : Whole n t) (b : ℕ) (a : Answer) (u : Bytes) where
-  sized : (count : ℕ) → ResizeSound n t b count (change_gives a u) → (u ≡ t) ⊎ (MayResize n t b count × (u ≡ resized n t b count))
-  sized count (inl p) = inl (ap (λ (o : Change). o.table) p.1)
-  sized count (inr (is, inl p)) = inl (ap (λ (o : Change). o.table) p.1)
-  sized count (inr (is, inr (some, inl p))) = inl (ap (λ (o : Change). o.table) p.1)
-  sized count (inr (is, inr (some, inr (enough, e)))) =
+module _ (n : ℕ) (t : Bytes) (w : Whole n t) (b : ℕ) (u : Bytes) where
+  sized : (a : Answer) (count : ℕ) → ResizeSound n t b count (change_gives a u) → (u ≡ t) ⊎ (MayResize n t b count × (u ≡ resized n t b count))
+  sized a count (inl p) = inl (ap (λ (o : Change). o.table) p.1)
+  sized a count (inr (is, inl p)) = inl (ap (λ (o : Change). o.table) p.1)
+  sized a count (inr (is, inr (some, inl p))) = inl (ap (λ (o : Change). o.table) p.1)
+  sized a count (inr (is, inr (some, inr (enough, e)))) =
       inr (may_resize n t w b count (is, (some, (enough, tt))), ap (λ (o : Change). o.table) e)
 
-  gone : DeleteSound n t b (change_gives a u) → File t n b → u ≡ deleted n t b
-  gone (inl p) f = absurd (p.0 f)
-  gone (inr (is, e)) f = ap (λ (o : Change). o.table) e
+  gone : DeleteSound n t b (change_gives Done u) → File t n b × (u ≡ deleted n t b)
+  gone (inl p) = let e : Done ≡ is.NotAFile = ap (λ (o : Change). o.answer) p.1 in absurd (cc)
+  gone (inr (is, e)) = (⊎_elim (λ f. f) (λ k. absurd (is k)) (file_decided n t b w), ap (λ (o : Change). o.table) e)
 
-  ungone : DeleteSound n t b (change_gives a u) → (File t n b → ⊥) → u ≡ t
-  ungone (inl p) h = ap (λ (o : Change). o.table) p.1
-  ungone (inr (is, e)) h = absurd (is h)
+  ungone : (a : why.Refusal) → DeleteSound n t b (change_gives (Err a) u) → u ≡ t
+  ungone a (inl p) = ap (λ (o : Change). o.table) p.1
+  ungone a (inr (is, e)) = let q : Err a ≡ Done = ap (λ (o : Change). o.answer) e in absurd (cc)
 
 module _ (n : ℕ) (t : Bytes) (v : Volume n t) (g : words.Bytes t) (l : ℕ) (r : Bool) (u : Tells (InUse l) r) where
   used : not r ≡ false → (InUse l → ⊥) → ⊥
@@ -105,17 +107,18 @@ module _ (n : ℕ) (t : Bytes) (v : Volume n t) (g : words.Bytes t) (l : ℕ) (r
 
   module _ (firsts : List ℕ) (q : firsts ≡ firsts_of n t) (map : List ℕ) where
     -- create
-    module _ (count : ℕ) (a : Answer) (f : ℕ) (t' : Bytes) (c : CreateMapped n t count (create_gives a f t') map) (k : ℕ) (is : k ≡ number_of a) where
-      pub create_left : not r ≡ false → (k ≡ 0 → ⊥) → CreateFirst n t l count (create_gives a f t') map firsts
-      create_left e h = record {
+    module _ (count f : ℕ) (t' : Bytes) where
+      pub create_left : not r ≡ false → (a : why.Refusal) → CreateMapped n t count (create_gives (Err a) f t') map
+          → CreateFirst n t l count (create_gives (Err a) f t') map firsts
+      create_left e a c = record {
         sound = inr (used e, c.sound);
         free = c.kept;
-        first = subst⁻¹ (λ (x : Bytes). firsts ≡ firsts_of n x) (unmade n t count a f t' c.sound (λ z. h (is ∙ z))) q;
+        first = subst⁻¹ (λ (x : Bytes). firsts ≡ firsts_of n x) (unmade n t count f t' a c.sound) q;
       }
 
-      module _ (z : k ≡ 0) where
+      module _ (c : CreateMapped n t count (create_gives Done f t') map) where
         done : Made n t count f t'
-        done = made n t count a f t' c.sound (sym is ∙ z)
+        done = made n t count f t' c.sound
 
         some : 1 ≤ head_at t
         some = headed n t (head_at t) (omega (arith, done.may.some, done.may.enough))
@@ -136,7 +139,7 @@ module _ (n : ℕ) (t : Bytes) (v : Volume n t) (g : words.Bytes t) (l : ℕ) (r
 
         pub create_done_lem : not r ≡ false → (firsts' : List ℕ)
             → ((c d : ℕ → ℕ) → Turn true firsts c d f (f + 1) → firsts' ≡ words_from (length firsts) 0 d)
-            → CreateFirst n t l count (create_gives a f t') map firsts'
+            → CreateFirst n t l count (create_gives Done f t') map firsts'
         create_done_lem e firsts' s = record {
           sound = inr (used e, c.sound);
           free = c.kept;
@@ -159,24 +162,21 @@ module _ (n : ℕ) (t : Bytes) (v : Volume n t) (g : words.Bytes t) (l : ℕ) (r
           subst⁻¹ (λ (x : Bytes). firsts ≡ firsts_of n x) h.1
           (firsts_same n t (resized n t b count) whole (whole_resized n t whole b count m.file m.some m.enough) firsts q
           (firsts_resized n t whole b m.file count m.some m.enough)))
-          (sized n t whole b a t' count c.sound);
+          (sized n t whole b t' a count c.sound);
     }
 
     -- delete
-    module _ (b : ℕ) (begins : Bool) (told : (begins ≡ true → File t n b) × (File t n b → begins ≡ true)) (a : Answer) (t' : Bytes)
-        (c : DeleteMapped n t b (change_gives a t') map) where
-      pub delete_left : not r ≡ false → not begins ≡ true → DeleteFirst n t l b (change_gives a t') map firsts
-      delete_left e h = record {
+    module _ (b : ℕ) (t' : Bytes) where
+      pub delete_left : not r ≡ false → (a : why.Refusal) → DeleteMapped n t b (change_gives (Err a) t') map → DeleteFirst n t l b (change_gives (Err a) t') map firsts
+      delete_left e a c = record {
         sound = inr (used e, c.sound);
         free = c.kept;
-        first = subst⁻¹ (λ (x : Bytes). firsts ≡ firsts_of n x)
-            (ungone n t whole b a t' c.sound (λ f. let z : begins ≡ true = told.1 f in let y : begins ≡ false = not-true begins h in let x : ◌≡◌ {A = ℕ} 0 1 = cc in omega (arith, x)))
-            q;
+        first = subst⁻¹ (λ (x : Bytes). firsts ≡ firsts_of n x) (ungone n t whole b t' a c.sound) q;
       }
 
-      module _ (h : not begins ≡ false) where
+      module _ (c : DeleteMapped n t b (change_gives Done t') map) where
         file : File t n b
-        file = told.0 (not-false begins h)
+        file = (gone n t whole b t' c.sound).0
 
         turn_gone : Turn false firsts (first_at n t) (first_at n (deleted n t b)) b (b + 1)
         turn_gone = turn_out n t (deleted n t b) whole (whole_deleted n t whole b file) firsts q b file.0.1 (firsts_deleted n t whole b file)
@@ -186,12 +186,12 @@ module _ (n : ℕ) (t : Bytes) (v : Volume n t) (g : words.Bytes t) (l : ℕ) (r
 
         pub delete_done_lem : not r ≡ false → (firsts' : List ℕ)
             → ((c d : ℕ → ℕ) → Turn false firsts c d b (b + 1) → firsts' ≡ words_from (length firsts) 0 d)
-            → DeleteFirst n t l b (change_gives a t') map firsts'
+            → DeleteFirst n t l b (change_gives Done t') map firsts'
         delete_done_lem e firsts' s = record {
           sound = inr (used e, c.sound);
           free = c.kept;
           first =
-              subst⁻¹ (λ (x : Bytes). firsts' ≡ firsts_of n x) (gone n t whole b a t' c.sound file)
+              subst⁻¹ (λ (x : Bytes). firsts' ≡ firsts_of n x) (gone n t whole b t' c.sound).1
               (firsts_after n t (deleted n t b) whole (whole_deleted n t whole b file) firsts q firsts'
               (s (first_at n t) (first_at n (deleted n t b)) turn_gone));
         }
@@ -201,8 +201,8 @@ module _ (n : ℕ) (t d : Bytes) (l b pos : ℕ) (buf : Bytes) (r : Bool) (u : T
   abbrev Says : Carry → Type 0
   Says o = First (change_rows (λ a. carry_gives a d) l (carry_rows n t l b pos (length buf) d)) (write_done n t d l b pos buf) o
 
-  pub write_used : (o : Carry) → r ≡ true → WriteSound n t d l b pos buf o → Says o
-  write_used o e c = inr ((λ k. k (u.yes e)), c)
+  pub write_used : (o : Carry) → not r ≡ false → WriteSound n t d l b pos buf o → Says o
+  write_used o e c = inr ((λ k. k (u.yes (not-false r e))), c)
 
-  pub write_shut : r ≡ false → Says (carry_gives ReadOnlyVolume d)
-  write_shut e = inl (not_in_use l r u e, refl)
+  pub write_shut : not r ≡ true → Says (carry_gives ReadOnlyVolume d)
+  write_shut e = inl (not_in_use l r u (not-true r e), refl)

@@ -8,8 +8,9 @@ use lib.ListN.{length, get_or, take, drop, replicate, take-append-drop}
 use lib.Seq.{length-take-le}
 use Rattle.order.specs.First.{Row, First}
 use Rattle.order.specs.Gate.{cleared}
-use Rattle.order.specs.Answer.{Answer}
-use Rattle.order.specs.Answer.{Done}
+use Rattle.std.specs.Prelude.{Err}
+use Rattle.order.specs.declared.Refusal as why
+use Rattle.order.specs.Answer.{Answer, Done}
 use Rattle.order.proofs.Beside as rows
 use Rattle.order.proofs.Gate.{gate_given, gate_none}
 use Rattle.fat_node.specs.Entry.{Bytes}
@@ -18,8 +19,6 @@ use Rattle.tree_table.specs.Field.{field}
 use Rattle.tree_sound.specs.Sizes.{rooms}
 use Rattle.tree_sound.specs.Tables.{Tables, tables, MisfitIn, OutsideIn, SoundIn}
 use Rattle.volume_gate.specs.Gate.{places, Uneven, Unfit, broken_rows, volume_gate, Opened, VolumeGateOf}
-use Rattle.volume_gate.specs.declared.Gated.{Gated}
-use Rattle.volume_gate.specs.declared.Gated.TheVariants.{Open, Refused}
 use Rattle.audit.specs.Promise.{VolumePromise}
 use Rattle.audit.specs.Inner.Opened.{OpenVolume}
 use Rattle.audit.proofs.Public.{audit_ready, part_ready, part_long, part_clear}
@@ -43,13 +42,9 @@ rooted s v =
       reach = D.reach;
     }
 
-pub test_ready : (t : Bytes) (n l : ℕ) (dh d fh f : Bytes) (work work' : List ℕ) (r : Gated) → VolumeGateOf t n l (tables dh d fh f) work work' r → r ≡ Open
-    → OpenProfile t l d f work'
+pub test_ready : (t : Bytes) (n l : ℕ) (dh d fh f : Bytes) (work work' : List ℕ) → VolumeGateOf t n l (tables dh d fh f) work work' Done → OpenProfile t l d f work'
 unfolding VolumeGateOf
-test_ready t n l dh d fh f work work' r g e = record {
-  volume = audit_ready t n l dh d fh f work work' r g e;
-  dirs = rooted (tables dh d fh f) (subst (VolumeGateOf t n l (tables dh d fh f) work work') e g).tree;
-}
+test_ready t n l dh d fh f work work' g = record { volume = audit_ready t n l dh d fh f work work' g; dirs = rooted (tables dh d fh f) g.tree }
 
 -- a broken rule, as a row of the call
 ruled_first : (rs : List (Row ℕ)) (k : ℕ) → First rs 0 k → First (ruled rs) (profile_gives Done 0) (profile_gives Done k)
@@ -57,25 +52,23 @@ ruled_first [] k e = ap (profile_gives Done) e
 ruled_first (r ∷ rs) k (inl p) = inl (p.0, ap (profile_gives Done) p.1)
 ruled_first (r ∷ rs) k (inr p) = inr (p.0, ruled_first rs k p.1)
 
-module _ (t : Bytes) (d l : ℕ) (s : Tables) (work work' : List ℕ) (r : Gated) (g : VolumeGateOf t d l s work work' r) where
+module _ (t : Bytes) (d l : ℕ) (s : Tables) (work work' : List ℕ) where
   abbrev own : List (Row Profile)
   own = profile_rows (blocks t) t l s.dir_table s.file_table
 
   -- it refuses with a
-  pub test_refused : (a : Answer) (o : Profile) → r ≡ Refused a → o ≡ profile_gives a 0 → TestPromise t d l s work (beside o work')
+  pub test_refused : (a : why.Refusal) (o : Profile) → VolumeGateOf t d l s work work' (Err a) → o ≡ profile_gives (Err a) 0 → TestPromise t d l s work (beside o work')
   unfolding VolumePromise VolumeGateOf
-  test_refused a o e q =
+  test_refused a o g q =
       subst⁻¹ (λ x. TestPromise t d l s work (beside x work')) q
-      (rows.refused (volume_gate (λ a w. beside (profile_gives a 0) w) t d l s work) (cleared (places t s) work) own (profile_gives Done 0) (beside (profile_gives a 0) work')
-      (gate_given (λ a w. beside (profile_gives a 0) w) (places t s) work (Uneven t d l ⊎ MisfitIn s) (Unfit t l ⊎ OutsideIn s) (length work < places t s) (broken_rows t s) a work'
-      (subst (VolumeGateOf t d l s work work') e g)))
+      (rows.refused (volume_gate (λ a w. beside (profile_gives a 0) w) t d l s work) (cleared (places t s) work) own (profile_gives Done 0) (beside (profile_gives (Err a) 0) work')
+      (gate_given (λ a w. beside (profile_gives a 0) w) (places t s) work (Uneven t d l ⊎ MisfitIn s) (Unfit t l ⊎ OutsideIn s) (length work < places t s) (broken_rows t s) (Err a) work' g))
 
   -- it is open, and the rules decide
-  pub test_passed : (work'' : List ℕ) (k : ℕ) → r ≡ Open → OpenSays t l s.dir_table s.file_table work' work'' k
+  pub test_passed : (work'' : List ℕ) (k : ℕ) → VolumeGateOf t d l s work work' Done → OpenSays t l s.dir_table s.file_table work' work'' k
       → TestPromise t d l s work (beside (profile_gives Done k) work'')
   unfolding VolumePromise VolumeGateOf
-  test_passed work'' k e p =
-      let v : Opened t d l s work work' = subst (VolumeGateOf t d l s work work') e g in
+  test_passed work'' k v p =
       subst⁻¹ (λ (w : List ℕ). TestPromise t d l s work (beside (profile_gives Done k) w)) (p.same ∙ v.clear)
       (rows.passed (volume_gate (λ a w. beside (profile_gives a 0) w) t d l s work) (cleared (places t s) work) own (profile_gives Done 0) (profile_gives Done k)
       (gate_none (λ a w. beside (profile_gives a 0) w) (places t s) work (Uneven t d l ⊎ MisfitIn s) (Unfit t l ⊎ OutsideIn s) (length work < places t s) (broken_rows t s) v.none)

@@ -1,8 +1,8 @@
 use Rattle.fat_first.proofs.Gives.{write_used, write_shut}
 use Rattle.fat_first.proofs.write.Goals as goal
 
-pub returns-then-in_use : goal.returns-then-in_use
-returns-then-in_use c = search write_used
+pub returns-then-not-in_use : goal.returns-then-not-in_use
+returns-then-not-in_use c = search write_shut
 
 pub returns : goal.returns
-returns c = search write_shut
+returns c = search write_used
