@@ -3,7 +3,7 @@ use mathlib.Core.Path.{◌≡◌, ap, subst}
 use mathlib.Core.List.{List}
 use Prim.Native.Nat.{ℕ, suc, ◌+◌, ◌-◌, ◌*◌, ◌/◌, ◌%◌, ◌≤◌, ◌<◌}
 use native.Mathlib.Omega.{arith}
-use native.Mathlib.Nat.{add-mul, suc-mul, mod-lt, div-add-mod', div-lt_iff_lt-mul, mul-le-mul, mul-le-mul_right}
+use native.Mathlib.Nat.{add-mul, suc-mul, mod-lt, div-add-mod', mul-le-mul, mul-le-mul_right}
 use mathlib.Core.Bool.{Bool, true, false}
 use Rattle.fat_node.specs.Entry.{Bytes}
 use Rattle.fat_node.specs.Node.{Run}
@@ -11,9 +11,9 @@ use Rattle.fat_table.specs.Chain.{total, size_at}
 use Rattle.fat_walk.specs.Inner.Chains.{Standing, Chain, SeekSays}
 use Rattle.fat_judge.specs.Inner.Stretches.{CursorAt}
 use Rattle.fat_walk.specs.declared.Sought.{Sought}
-use Rattle.fat_walk.specs.declared.Sought.TheVariants.{Within, Past}
+use Rattle.fat_walk.specs.declared.Sought.TheVariants.{Within}
 use Rattle.fat_walk.proofs.Nodes.{mid_within, standing_size}
-use Rattle.fat_walk.proofs.Found.{says_within, says_past}
+use Rattle.fat_walk.proofs.Found.{says_within}
 
 -- so many blocks have no more bytes than the largest volume
 pub few_bytes : (n l b : ℕ) → n ≤ 1000000 → l ≤ 65536 → b ≤ n → b * l ≤ 65536000000
@@ -36,12 +36,6 @@ module _ (c : List Run) (l pos : ℕ) (some : 1 ≤ l) (r : Sought) (w : SeekSay
         sum = omega (arith, div-add-mod' pos l, ap (λ (x : ℕ). x * l) s, add-mul (total i.before) (m - 1) l);
         fits = omega (arith, mod-lt pos some, suc-mul (m - 1) l, ap (λ (x : ℕ). x * l) q, mul-le-mul_right l i.fits);
       }
-
-  pub cursor_out : (j m i f : ℕ) → r ≡ Past j m → pos < total c * l → CursorAt c l pos i f
-  cursor_out j m i f e h =
-      let p = says_past c (pos / l + 1) r j m w e in
-      let z : ⊥ = omega (arith, p.sum, p.some, (div-lt_iff_lt-mul some).1 h) in
-      absurd z
 
 -- its numbers are small
 pub cursor_few : (n : ℕ) (t : Bytes) (c : List Run) (l pos : ℕ) (r : Sought) (b m : ℕ) → Chain n t c → 1 ≤ l → l ≤ 65536 → SeekSays c (pos / l + 1) r → r ≡ Within b m

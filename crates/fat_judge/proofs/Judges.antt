@@ -1,15 +1,13 @@
 -- What the judges of create, resize and delete say, from what they call.
 use mathlib.Core.Path.{◌≡◌, refl, sym, ap, subst, ◌∙◌}
 use mathlib.Core.List.{List, [], ◌∷◌, ◌++◌}
-use mathlib.Core.Logic.{inl, inr, ⊎_elim}
+use mathlib.Core.Logic.{⊎_elim}
 use mathlib.Core.Bool.{Bool, true, false, not}
 use Prim.Native.Nat.{ℕ, ◌+◌, ◌-◌, ◌≤◌}
 use native.Mathlib.Omega.{arith}
 use native.Mathlib.Numerals.{add-one}
-use borrow.Author.Tests.{not-true, not-false}
+use borrow.Author.Tests.{not-false}
 use Rattle.words.proofs.Laws as words
-use Rattle.order.specs.Given.{Given}
-use Rattle.order.specs.Answer as is
 use Rattle.fat_node.specs.Entry.{Bytes}
 use Rattle.fat_node.specs.Node.{Run, next_at}
 use Rattle.fat_node.proofs.Nodes.{le_or_lt}
@@ -17,15 +15,15 @@ use Rattle.fat_table.specs.Sound.{File}
 use Rattle.fat_table.specs.Chain.{total, size_at, head_at, chain_at, free_at, file_at}
 use Rattle.fat_table.specs.Steps.{first}
 use Rattle.fat_table.proofs.Unchanged.{total_append}
-use Rattle.fat_promises.specs.Calls.{create_tests, resize_tests, MayResize, delete_tests, list_tests, carry_tests}
+use Rattle.fat_promises.specs.Calls.{MayResize}
 use Rattle.fat_walk.specs.Volume.{Volume}
 use Rattle.fat_walk.specs.Inner.Chains.{Standing, Chain, ChainFrom, Inside, Beyond, SeekSays, Amid, LastAt}
-use Rattle.fat_judge.specs.Inner.Plans.{CreateAt, SameAt, ShrinkAt, GrowAt, DeleteAt}
+use Rattle.fat_judge.specs.Inner.Plans.{CreateAt, SameAt, ShrinkAt, GrowAt}
 use Rattle.fat_walk.specs.declared.Sought.{Sought}
 use Rattle.fat_walk.specs.declared.Sought.TheVariants.{Within, Past}
 use Rattle.fat_walk.proofs.Nodes.{mid_next}
 use Rattle.fat_walk.proofs.Walks.{ended}
-use Rattle.fat_walk.proofs.Found.{inside_standing, inside_count, inside_size, inside_first, last_past, last_some, head_chain, file_from, says_within, says_past, not_file}
+use Rattle.fat_walk.proofs.Found.{inside_standing, inside_count, inside_size, inside_first, last_past, last_some, head_chain, file_from, says_within, says_past}
 
 file_chain_is : (n : ℕ) (t : Bytes) (b : ℕ) → chain_at t n (b + 1) ≡ file_at n t b
 file_chain_is n t b = ap (chain_at t n) (add-one b)
@@ -40,11 +38,6 @@ module _ (n : ℕ) (t : Bytes) (v : Volume n t) (g : words.Bytes t) where
   -- create -------------------------------------------------------------------------------------------------
 
   module _ (c h : ℕ) (r : Sought) (e : h ≡ head_at t) (s : SeekSays (chain_at t n h) c r) where
-    pub create_none : (i m : ℕ) → (c ≡ 0 → ⊥) → r ≡ Past i m → Given (create_tests n t c) is.NoSpace
-    create_none i m z p =
-        let w = says_past (chain_at t n h) c r i m s p in
-        inr (z, inl (omega (arith, w.sum, w.some, ap (λ (j : ℕ). total (chain_at t n j)) e), refl))
-
     pub create_some : (x m : ℕ) → r ≡ Within x m → 1 ≤ h
     create_some x m p =
         let k : ChainFrom n t h = head_chain n t v g h e in
@@ -142,35 +135,8 @@ module _ (n : ℕ) (t : Bytes) (v : Volume n t) (g : words.Bytes t) where
               cut = subst (λ (z : ℕ). Inside (free_at n t) z x m) d (subst (λ (z : ℕ). Inside (chain_at t n z) k x m) e w);
             }
 
-        -- it is in neither
-        pub resize_full : (i m : ℕ) → q ≡ Past i m → Given (resize_tests n t b c) is.NoSpace
-        resize_full i m o =
-            let w : Beyond (chain_at t n h) k i m = says_past (chain_at t n h) k q i m u o in
-            inr ((λ z. z f), inr ((λ z. omega (arith, z, some)), inl (omega (arith, past.sum, w.sum, w.some, file_many, free_many), refl)))
-
 -- whether the block is a file's first, as is_file tells it ---------------------------------------------------
 
 module _ (n : ℕ) (t : Bytes) (b : ℕ) (r : Bool) (s : (r ≡ true → File t n b) × (File t n b → r ≡ true)) where
-  none : not r ≡ true → File t n b → ⊥
-  none e = not_file t n b r s (not-true r e)
-
   pub is_file : not r ≡ false → File t n b
   is_file e = s.0 (not-false r e)
-
-  pub resize_no_file : (c : ℕ) → not r ≡ true → Given (resize_tests n t b c) is.NotAFile
-  resize_no_file c e = inl (none e, refl)
-
-  pub resize_zero : (c : ℕ) → not r ≡ false → c ≡ 0 → Given (resize_tests n t b c) is.InvalidValue
-  resize_zero c e z = inr ((λ o. o (is_file e)), inl (z, refl))
-
-  pub list_no_file : (room : ℕ) → not r ≡ true → Given (list_tests n t b room) is.NotAFile
-  list_no_file room e = inl (none e, refl)
-
-  pub carry_no_file : (l pos many : ℕ) → not r ≡ true → Given (carry_tests n t l b pos many) is.NotAFile
-  carry_no_file l pos many e = inl (none e, refl)
-
-  pub delete_no_file : not r ≡ true → Given (delete_tests n t b) is.NotAFile
-  delete_no_file e = inl (none e, refl)
-
-  pub delete_at : (y : ℕ) → not r ≡ false → LastAt (chain_at t n (b + 1)) y → DeleteAt n t b y
-  delete_at y e w = record { may = record { file = is_file e }; end = last_file n t b y w }

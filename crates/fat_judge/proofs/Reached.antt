@@ -6,7 +6,7 @@ use mathlib.Core.Bool.{Bool, true, false}
 use Prim.Native.Nat.{ℕ, ◌+◌, ◌-◌, ◌*◌, ◌/◌, ◌%◌, ◌≤◌, ◌<◌}
 use native.Mathlib.Omega.{arith}
 use native.Mathlib.Numerals.{add-one}
-use native.Mathlib.Nat.{add-mul, mod-lt, div-add-mod', div-le_self, mul-le-mul_right}
+use native.Mathlib.Nat.{add-mul, mod-lt, div-add-mod', mul-le-mul_right}
 use mir.Syntax.{w64}
 use mir.Val.{Fits}
 use Rattle.words.proofs.Laws as words
@@ -26,7 +26,7 @@ use Rattle.fat_walk.specs.declared.Sought.{Sought}
 use Rattle.fat_walk.specs.declared.Sought.TheVariants.{Within, Past}
 use Rattle.fat_walk.proofs.Nodes.{mid_pos}
 use Rattle.fat_walk.proofs.Found.{inside_count, inside_size, file_from, says_within, says_past, go_on}
-use Rattle.fat_judge.proofs.Cursors.{few_bytes, same_bytes, stretch_few, cursor_in, cursor_out, cursor_few, Passes}
+use Rattle.fat_judge.proofs.Cursors.{few_bytes, same_bytes, stretch_few, cursor_in, cursor_few, Passes}
 
 -- how far a file goes on ---------------------------------------------------------------------------------------------------
 
@@ -94,9 +94,6 @@ module _ (n : ℕ) (t : Bytes) (b l f many s : ℕ) (e : s ≡ size_at t b) wher
   pub goes_near : f + many ≤ s * l → (c : List Run) (p : ℕ) → Chain n t c → CursorAt c l p (b + 1) f → Reaches c l p many true
   goes_near k c p h w = reaches c l p many (near n t b l f s e c p h w many k)
 
-  pub far_fits : f + many ≤ 131072000000 → Fits w64 ((f + many - s * l - 1) / l + 1)
-  far_fits h = omega (arith, h, div-le_self (f + many - s * l - 1) l)
-
   module _ (q : ℕ) (o : q ≡ next_at t b) (some : 1 ≤ l) (k : s * l < f + many) (r : Sought)
       (u : (c : List Run) (k : ℕ) → Chain n t c → Seeking c k q (b + 1) ((f + many - s * l - 1) / l + 1) → SeekSays c k r) where
     pub goes_far : (x m : ℕ) → r ≡ Within x m → (c : List Run) (p : ℕ) → Chain n t c → CursorAt c l p (b + 1) f → Reaches c l p many true
@@ -106,16 +103,6 @@ module _ (n : ℕ) (t : Bytes) (b l f many s : ℕ) (e : s ≡ size_at t b) wher
     goes_not x m z c p h w = reaches_not c l p many (beyond n t b l f s e c p h w many q o some k r u x m z)
 
 -- the judge ---------------------------------------------------------------------------------------------------------------
-
-pub not_passed : (o : Bool) (size pos many : ℕ) → Passes o size pos many → o ≡ false → pos + many ≤ size
-not_passed o size pos many w e = w.1 e
-
--- the data are few
-pub data_fits : (n : ℕ) (t : Bytes) (l : ℕ) → Volume n t → l ≤ 65536 → Fits w64 (n * l)
-data_fits n t l v h = omega (arith, few_bytes n l n v.few h (omega arith))
-
-pub count_fits : (n : ℕ) (t : Bytes) (l pos many : ℕ) → Volume n t → l ≤ 65536 → pos + many ≤ n * l → Fits w64 (pos / l + 1)
-count_fits n t l pos many v h r = omega (arith, few_bytes n l n v.few h (omega arith), r, div-le_self pos l)
 
 module _ (n : ℕ) (t : Bytes) (v : Volume n t) (g : words.Bytes t) (l b pos many : ℕ) (f : File t n b) where
   abbrev C : List Run
@@ -142,15 +129,6 @@ module _ (n : ℕ) (t : Bytes) (v : Volume n t) (g : words.Bytes t) (l b pos man
       numbers : (x ≤ 1000000) × (1 ≤ m) × ((m - 1) * l + pos % l ≤ 65536000000)
       numbers = cursor_few n t C l pos r x m stands some few s e
 
-      pub part_some : 1 ≤ m
-      part_some = numbers.1
-
-      pub part_fits : Fits w64 ((m - 1) * l)
-      part_fits = omega (arith, numbers.2)
-
-      pub from_fits : Fits w64 ((m - 1) * l + pos % l)
-      from_fits = omega (arith, numbers.2)
-
       pub node_fits : Fits w64 (x + 1)
       node_fits = omega (arith, numbers.0)
 
@@ -172,26 +150,3 @@ module _ (n : ℕ) (t : Bytes) (v : Volume n t) (g : words.Bytes t) (l b pos man
 
         pub carry_out : o ≡ false → Given (carry_tests n t l b pos many) is.OutOfBound
         carry_out z = out ((u C pos stands cursor).no z)
-
-    module _ (i m : ℕ) (e : r ≡ Past i m) where
-      past : Beyond C (pos / l + 1) i m
-      past = says_past C (pos / l + 1) r i m s e
-
-      pub past_part : m ≤ pos / l + 1
-      past_part = omega (arith, past.sum)
-
-      past_size : (pos / l + 1 - m) * l ≡ total C * l
-      past_size = same_bytes (pos / l + 1 - m) (total C) l (omega (arith, past.sum))
-
-      pub past_fits : Fits w64 ((pos / l + 1 - m) * l)
-      past_fits = omega (arith, past_size, mul-le-mul_right l stands.sum, small)
-
-      module _ (o : Bool) (w : Passes o ((pos / l + 1 - m) * l) pos many) where
-        pub end_out : o ≡ true → Given (carry_tests n t l b pos many) is.OutOfBound
-        end_out z = out (omega (arith, w.0 z, past_size))
-
-        pub end_at : o ≡ false → CarryAt n t l b pos many 0 0
-        end_at z = record {
-          may = record { file = f; enough = omega (arith, w.1 z, past_size, size_is) };
-          at = λ h. subst (λ (j : ℕ). CursorAt (chain_at t n j) l pos 0 0) (add-one b) (cursor_out C l pos some r s i m 0 0 e (omega (arith, h, size_is)));
-        }

@@ -10,12 +10,12 @@ use Rattle.order.specs.Answer as is
 use Rattle.fat_node.specs.Entry.{Bytes}
 use Rattle.fat_table.specs.Sound.{File}
 use Rattle.fat_promises.specs.Calls.{list_tests, MayList}
-use Rattle.fat_walk.proofs.Found.{inside_count, file_from, says_within, says_past}
+use Rattle.fat_walk.proofs.Found.{inside_count, file_from, says_within}
 use Rattle.fat_table.specs.Chain.{total, chain_at, file_at}
 use Rattle.fat_walk.specs.Volume.{Volume}
 use Rattle.fat_walk.specs.Inner.Chains.{Chain, SeekSays}
 use Rattle.fat_walk.specs.declared.Sought.{Sought}
-use Rattle.fat_walk.specs.declared.Sought.TheVariants.{Within, Past}
+use Rattle.fat_walk.specs.declared.Sought.TheVariants.{Within}
 
 -- open list: a file fits in as many places as there are blocks; into fewer, what is sought past the list's room tells
 module _ (n : ℕ) (t : Bytes) (v : Volume n t) (g : words.Bytes t) (b : ℕ) (f : File t n b) (room : ℕ) where
@@ -35,8 +35,3 @@ module _ (n : ℕ) (t : Bytes) (v : Volume n t) (g : words.Bytes t) (b : ℕ) (f
         inside_count n t (chain_at t n (b + 1)) (room + 1) x m chain (says_within (chain_at t n (b + 1)) (room + 1) r x m s e) in
         let l : room < total (file_at n t b) = omega (arith, k, same) in
         inr ((λ z. z f), inl (l, refl))
-
-    pub list_fits : (i m : ℕ) → r ≡ Past i m → MayList n t b room
-    list_fits i m e =
-        let p = says_past (chain_at t n (b + 1)) (room + 1) r i m s e in
-        record { file = f; enough = omega (arith, p.sum, p.some, same) }

@@ -1,7 +1,6 @@
 -- The chains of a sound table and their nodes, as the functions that go along them find them.
 use mathlib.Core.Path.{◌≡◌, refl, sym, ap, subst, subst⁻¹, ◌∙◌}
 use mathlib.Core.List.{List, [], ◌∷◌, ◌++◌, append_assoc}
-use mathlib.Core.Bool.{Bool, true, false}
 use Prim.Native.Nat.{ℕ, ◌+◌, ◌-◌, ◌*◌, ◌≤◌}
 use native.Mathlib.Omega.{arith}
 use native.Mathlib.Numerals.{add-one}
@@ -108,10 +107,6 @@ are_bytes t g = record { byte = λ i. omega (arith, g i) }
 pub file_fits : (n : ℕ) (t : Bytes) (b : ℕ) → Volume n t → File t n b → Fits w64 (b + 1)
 file_fits n t b v f = omega (arith, v.few, f.0.1)
 
--- a block that is no file's first
-pub not_file : (t : Bytes) (n b : ℕ) (r : Bool) → (r ≡ true → File t n b) × (File t n b → r ≡ true) → r ≡ false → File t n b → ⊥
-not_file t n b r s e f = let z : r ≡ true = s.1 f in let z₁ : ◌≡◌ {A = ℕ} 0 1 = cc in omega (arith, z₁)
-
 -- what is sought, by how it is taken apart
 pub says_within : (l : List Run) (k : ℕ) (r : Sought) (b m : ℕ) → SeekSays l k r → r ≡ Within b m → Inside l k b m
 says_within l k r b m w e = subst (SeekSays l k) e w
@@ -122,12 +117,6 @@ says_past l k r i m w e = subst (SeekSays l k) e w
 module _ (n : ℕ) (t : Bytes) (i : ℕ) (r : Sought) (c : ChainFrom n t i) (w : SeekSays (chain_at t n i) (n + 1) r) where
   pub last_in : (b m : ℕ) → r ≡ Within b m → LastAt (chain_at t n i) b
   last_in b m e = last_within n t i b m c (says_within (chain_at t n i) (n + 1) r b m w e)
-
-  pub last_out : (j m : ℕ) → (i ≡ 0 → ⊥) → r ≡ Past j m → LastAt (chain_at t n i) (j - 1)
-  last_out j m h e = last_past n t i (n + 1) j m c h (says_past (chain_at t n i) (n + 1) r j m w e)
-
-  pub last_out_some : (j m : ℕ) → (i ≡ 0 → ⊥) → r ≡ Past j m → 1 ≤ j
-  last_out_some j m h e = last_some n t i (n + 1) j m c h (says_past (chain_at t n i) (n + 1) r j m w e)
 
 -- on from a node of a chain ------------------------------------------------------------------------------
 
@@ -160,9 +149,6 @@ module _ (n : ℕ) (t : Bytes) (b : ℕ) (a : Amid n t b) where
 
   pub amid_fits : Fits w64 (b + 1)
   amid_fits = let s = amid_standing in omega (arith, s.few, s.node.some, s.node.within)
-
-  pub all_fits : Fits w64 (n + 1)
-  all_fits = omega (arith, a.stands.few)
 
   pub amid_way : (q j : ℕ) → q ≡ next_at t b → Underway n t q (b + 1) (j + 1)
   amid_way q j e = record {

@@ -5,8 +5,6 @@ use mathlib.Core.Logic.{⊎_elim}
 use mathlib.Core.Bool.{true, false}
 use Prim.Native.Nat.{ℕ, zero, suc, ◌+◌, ◌≤◌, ◌<◌}
 use native.Mathlib.Omega.{arith}
-use lib.Dec.{eqb}
-use borrow.Author.Tests.{eq-eqb, eqb-true}
 use Rattle.words.proofs.Laws as words
 use Rattle.fat_node.specs.Entry.{Bytes}
 use Rattle.fat_node.specs.Node.{Run, run, NodeAt, prev_at, next_at}
@@ -96,12 +94,6 @@ module _ (n : ℕ) (t : Bytes) (b c : ℕ) (v : Volume n t) (g : words.Bytes t) 
           within = m.within;
           before = λ i. starts_after n t (whole_of n t v g) c s b here m i k;
         }
-
-  pub hop_says : b ≤ c → (eqb c b ≡ true → IsNode t n b) × (IsNode t n b → eqb c b ≡ true)
-  hop_says k = (
-    (λ e. (subst (Starts t n) (eqb-true c b e) w.starts, h)),
-    (λ i. eq-eqb c b (omega (arith, w.before i))),
-  )
 
 -- a block past the last begins no file
 pub file_out : (t : Bytes) (n b : ℕ) → n ≤ b → (false ≡ true → File t n b) × (File t n b → false ≡ true)

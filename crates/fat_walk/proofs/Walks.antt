@@ -8,8 +8,7 @@ use Rattle.fat_node.specs.Entry.{Bytes}
 use Rattle.fat_node.specs.Node.{Run, next_at}
 use Rattle.fat_table.specs.Chain.{total, size_at, chain_at}
 use Rattle.fat_table.specs.Steps.{first}
-use Rattle.fat_walk.specs.declared.Sought.{Sought}
-use Rattle.fat_walk.specs.Inner.Chains.{Standing, Chain, ChainFrom, Inside, LastIs, none, node, Beyond, Seeking, SeekSays, Underway}
+use Rattle.fat_walk.specs.Inner.Chains.{Standing, Chain, ChainFrom, Inside, LastIs, none, node, Beyond, Seeking, Underway}
 use Rattle.fat_table.proofs.Unchanged.{total_append}
 use Rattle.fat_walk.proofs.Nodes.{mid_size, mid_next, mid_standing, mid_pos}
 
@@ -91,9 +90,6 @@ pub record Onward (n : ℕ) (t : Bytes) (i₀ last₀ k₀ i last k : ℕ) : Typ
   pub way : Underway n t i last k
   pub same : (l : List Run) (m : ℕ) → Chain n t l → Seeking l m i₀ last₀ k₀ → Seeking l m i last k
 
-pub on_begin : (n : ℕ) (t : Bytes) (i last k : ℕ) → Underway n t i last k → Onward n t i last k i last k
-on_begin n t i last k u = record { way = u; same = λ l m c w. w }
-
 module _ (n : ℕ) (t : Bytes) (i₀ last₀ k₀ i last k : ℕ) (o : Onward n t i₀ last₀ k₀ i last k) where
   pub on_past : i ≡ 0 → (l : List Run) (m : ℕ) → Chain n t l → Seeking l m i₀ last₀ k₀ → Beyond l m last k
   on_past h l m c w = seek_past n t l m i last k c (o.same l m c w) h
@@ -126,6 +122,3 @@ module _ (n : ℕ) (t : Bytes) (i₀ last₀ k₀ i last k : ℕ) (o : Onward n 
 module _ (n : ℕ) (t : Bytes) (i k : ℕ) (c : ChainFrom n t i) (h : 1 ≤ k) where
   pub from_first : Underway n t i 0 k
   from_first = record { chain = chain_at t n i; sought = k; stands = c.chain; at = seek_begin (chain_at t n i) i k c.at h }
-
-  pub from_says : (r : Sought) → ((l : List Run) (m : ℕ) → Chain n t l → Seeking l m i 0 k → SeekSays l m r) → SeekSays (chain_at t n i) k r
-  from_says r s = s (chain_at t n i) k c.chain (seek_begin (chain_at t n i) i k c.at h)

@@ -6,7 +6,7 @@ ghost use Rattle.fat_node.specs.Node.{Run, prev_at, next_at};
 ghost use Rattle.fat_table.specs.Sound.{IsNode, File};
 ghost use Rattle.fat_table.specs.Chain.{size_at, head_at, chain_at};
 ghost use Rattle.fat_walk.specs.Volume.{Volume};
-ghost use Rattle.fat_walk.specs.Inner.Chains.{Standing, Chain, ChainFrom, Inside, SeekSays, Seeking, Underway, Amid, LastAt, Least};
+ghost use Rattle.fat_walk.specs.Inner.Chains.{Standing, Chain, ChainFrom, Inside, SeekSays, Seeking, Underway, Amid, LastAt};
 
 use fat_node::Node;
 
@@ -129,11 +129,4 @@ pub fn is_end(table: &[u8], n: usize, b: usize, part: usize) -> bool
 {
     let node = node_at(table, n, b);
     part == node.size && node.next == 0
-}
-
-// The smaller of two numbers.
-pub fn least(a: usize, b: usize) -> usize
-    ensures { Least a b result }
-{
-    if a < b { a } else { b }
 }

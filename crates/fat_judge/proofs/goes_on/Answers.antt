@@ -1,6 +1,5 @@
-use native.Mathlib.Omega.{arith}
 use Rattle.fat_walk.proofs.Found.{amid_standing, amid_room, amid_fits, amid_way}
-use Rattle.fat_judge.proofs.Reached.{reach_fits, goes_near, far_fits, goes_far, goes_not}
+use Rattle.fat_judge.proofs.Reached.{reach_fits, goes_near, goes_far, goes_not}
 use Rattle.fat_judge.proofs.goes_on.Goals as goal
 
 pub size_at-requires : goal.size_at-requires
@@ -8,9 +7,6 @@ size_at-requires c = search amid_standing
 
 pub overflow_mul-reach : goal.overflow_mul-reach
 overflow_mul-reach c = search (reach_fits, amid_standing)
-
-pub overflow_add-end : goal.overflow_add-end
-overflow_add-end c = omega arith
 
 pub returns-then-end-reach : goal.returns-then-end-reach
 returns-then-end-reach c = search goes_near
@@ -20,15 +16,6 @@ next_of-next-requires c = search amid_room
 
 pub overflow_add-b : goal.overflow_add-b
 overflow_add-b c = search amid_fits
-
-pub overflow_sub-end : goal.overflow_sub-end
-overflow_sub-end c = omega arith
-
-pub overflow_sub-end-2 : goal.overflow_sub-end-2
-overflow_sub-end-2 c = omega arith
-
-pub overflow_add-end-2 : goal.overflow_add-end-2
-overflow_add-end-2 c = search far_fits
 
 pub seek_on-requires : goal.seek_on-requires
 seek_on-requires c = search amid_way

@@ -1,4 +1,4 @@
-use Rattle.fat_judge.proofs.Judges.{in_standing, in_amid, resize_same, resize_shrink, past_some, past_last, resize_grow, resize_full}
+use Rattle.fat_judge.proofs.Judges.{in_standing, in_amid, resize_same, resize_shrink, past_some, past_last, resize_grow}
 use Rattle.fat_walk.proofs.Found.{head_chain, file_from, are_bytes}
 use borrow.Author.Rules.{rules}
 use Rattle.fat_judge.proofs.judge_count.Goals as goal
@@ -26,6 +26,3 @@ returns-else-is_end c = search (resize_shrink, are_bytes)
 
 pub returns-in-Within-seek : goal.returns-in-Within-seek
 returns-in-Within-seek c = search (resize_grow, are_bytes)
-
-pub returns-in_default : goal.returns-in_default
-returns-in_default c = search (resize_full, are_bytes)

@@ -1,4 +1,4 @@
-use Rattle.fat_walk.proofs.Found.{amid_room, amid_fits, all_fits, amid_way, last_on, last_end, last_end_some}
+use Rattle.fat_walk.proofs.Found.{amid_room, amid_fits, amid_way, last_on, last_end, last_end_some}
 use Rattle.fat_walk.proofs.last_from.Goals as goal
 
 pub next_of-next-requires : goal.next_of-next-requires
@@ -6,9 +6,6 @@ next_of-next-requires c = search amid_room
 
 pub overflow_add-b : goal.overflow_add-b
 overflow_add-b c = search amid_fits
-
-pub overflow_add-n : goal.overflow_add-n
-overflow_add-n c = search all_fits
 
 pub seek_on-requires : goal.seek_on-requires
 seek_on-requires c = search amid_way

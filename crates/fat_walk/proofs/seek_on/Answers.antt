@@ -1,8 +1,5 @@
-use Rattle.fat_walk.proofs.Walks.{on_begin, on_past, on_at, on_within, on_next, on_less, on_room}
+use Rattle.fat_walk.proofs.Walks.{on_past, on_at, on_within, on_next, on_less, on_room}
 use Rattle.fat_walk.proofs.seek_on.Goals as goal
-
-pub loop-i-init : goal.loop-i-init
-loop-i-init c = search on_begin
 
 pub size_at-size-requires : goal.size_at-size-requires
 size_at-size-requires c = search on_at

@@ -1,4 +1,4 @@
-use Rattle.fat_walk.proofs.Hops.{hop_begin, hop_standing, hop_within, hop_next, hop_says}
+use Rattle.fat_walk.proofs.Hops.{hop_begin, hop_standing, hop_within, hop_next}
 use native.Mathlib.Omega.{arith}
 use Rattle.fat_walk.proofs.starts_at.Goals as goal
 
@@ -22,7 +22,3 @@ loop-c-smaller c =
 pub loop-c-preserved : goal.loop-c-preserved
 loop-c-preserved c =
     hop_next _ _ _ _ c.requires.volume (record { byte = λ k. omega (arith, c.type_inv.table k) }) c.loop-c.invariant (omega arith) (omega arith) _ c.size_at-c.ensures
-
-pub returns : goal.returns
-returns c =
-    hop_says _ _ _ _ c.requires.volume (record { byte = λ k. omega (arith, c.type_inv.table k) }) c.loop-c.invariant (omega arith) (omega arith)
