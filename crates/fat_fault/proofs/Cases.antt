@@ -1,7 +1,7 @@
 -- What the tests of the code tell of the faults, one lemma for each way out.
 use mathlib.Core.Path.{◌≡◌, refl, sym, ap, ◌∙◌}
 use mathlib.Core.List.{List}
-use mathlib.Core.Bool.{Bool, true, false, ◌&&◌, ◌||◌}
+use mathlib.Core.Bool.{Bool, true, false, not, ◌&&◌, ◌||◌}
 use mathlib.Core.Logic.{⊎_elim}
 use Prim.Native.Nat.{ℕ, zero, suc, ◌+◌, ◌<◌}
 use native.Mathlib.Omega.{arith}
@@ -9,7 +9,7 @@ use lib.Dec.{eqb, ltb}
 use lib.ListN.{get_or}
 use borrow.Author.Tests.{eqb-true, eq-eqb, ne_eqb, ltb-true, lt-ltb}
 use Rattle.fat_node.specs.Entry.{Bytes, top, u_at, v_at}
-use Rattle.std.specs.Prelude.{Option, Some, None}
+use Rattle.std.specs.Prelude.{Option, Some, None, MatchOption}
 use Rattle.fat_node.specs.Node.{HeadForm, prev_at, next_at}
 use Rattle.fat_fault.specs.Fault.{is_node, answered, head_fits, loose, hop, ringed, untied}
 use Rattle.fat_fault.specs.Inner.Ring.{Ring}
@@ -40,6 +40,12 @@ module _ (n : ℕ) (t : Bytes) where
   answered_none w m link zero p h = refl
   answered_none w m link (suc k) p h = ne_eqb (suc k) 0 (λ e. omega (arith, e)) ∙ sym (ap (λ (x : Bool). x && eqb (link k) p) (not_node w m k (h k (omega arith))))
 
+  -- so the test of what an index names
+  pub answered_by : (w : List ℕ) → Marked n t w → (link : ℕ → ℕ) (i p : ℕ) (o : Option ℕ) (r : Bool) → Names w i o → {P : ℕ → Type 0} → MatchOption o (r ≡ eqb i 0) P
+      → ((j : ℕ) → P j → r ≡ eqb (link j) p) → r ≡ answered n t link i p
+  answered_by w m link i p None r s e f = e ∙ answered_none w m link i p s
+  answered_by w m link i p (Some j) r s e f = f j e ∙ answered_some w m link i j p (link j) s.0 s.2 refl
+
   pub head_none : (HeadForm t → ⊥) → false ≡ head_fits n t
   unfolding head_fits
   head_none h =
@@ -57,6 +63,19 @@ module _ (n : ℕ) (t : Bytes) where
       a ∙ ap (λ (x : ℕ). answered n t (prev_at t) x 0) e
       ∙ sym (ap (λ (x : Bool). x && (ltb (v_at t 0) top && answered n t (prev_at t) (v_at t 0) 0)) (eq-eqb (u_at t 0) 0 f.0)
       ∙ ap (λ (x : Bool). x && answered n t (prev_at t) (v_at t 0) 0) (lt-ltb (v_at t 0) top f.1))
+
+-- one link, and then the other
+module _ (n : ℕ) (t : Bytes) (b : ℕ) where
+  suc_b : suc b ≡ b + 1
+  suc_b = omega arith
+
+  pub loose_next : (i : ℕ) (r : Bool) → i ≡ next_at t b → r ≡ answered n t (prev_at t) i (b + 1) → r ≡ false → not r ≡ loose n t b
+  unfolding loose
+  loose_next i r e a f = rw (suc_b, ← e, ← a, f)
+
+  pub loose_prev : (i k : ℕ) (r s : Bool) → i ≡ next_at t b → r ≡ answered n t (prev_at t) i (b + 1) → r ≡ true → k ≡ prev_at t b → s ≡ answered n t (next_at t) k (b + 1) → not s ≡ loose n t b
+  unfolding loose
+  loose_prev i k r s e a f g d = rw (suc_b, ← e, ← a, f, ← g, ← d)
 
 -- ---- hops
 

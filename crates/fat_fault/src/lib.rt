@@ -40,32 +40,6 @@ fn named(work: &[u32], i: usize) -> Option<usize>
     }
 }
 
-// Whether index i is 0, or names a node whose previous is p.
-fn prev_is(table: &[u8], n: usize, work: &[u32], i: usize, p: usize) -> bool
-    requires table_len { length table.now ≡ 8 * (n + 1) }
-    requires n_bound { n ≤ 1000000 }
-    requires marked { Marked n table.now work.now }
-    ensures { result ≡ answered n table.now (prev_at table.now) i p }
-{
-    match named(work, i) {
-        Some(j) => fat_node::prev_of(table, j) == p,
-        None => i == 0,
-    }
-}
-
-// Whether index i is 0, or names a node whose next is p.
-fn next_is(table: &[u8], n: usize, work: &[u32], i: usize, p: usize) -> bool
-    requires table_len { length table.now ≡ 8 * (n + 1) }
-    requires n_bound { n ≤ 1000000 }
-    requires marked { Marked n table.now work.now }
-    ensures { result ≡ answered n table.now (next_at table.now) i p }
-{
-    match named(work, i) {
-        Some(j) => fat_node::next_of(table, j) == p,
-        None => i == 0,
-    }
-}
-
 // Whether the head has its form, and names none or a node with no previous.
 fn head_fits(table: &[u8], n: usize, work: &[u32]) -> bool
     requires table_len { length table.now ≡ 8 * (n + 1) }
@@ -73,22 +47,23 @@ fn head_fits(table: &[u8], n: usize, work: &[u32]) -> bool
     requires marked { Marked n table.now work.now }
     ensures { result ≡ head_fits n table.now }
 {
-    match fat_node::get_head(table) {
-        Some(h) => prev_is(table, n, work, h, 0),
-        None => false,
-    }
+    let Some(h) = fat_node::get_head(table) else {
+        return false;
+    };
+    named(work, h).map_or(h == 0, |j| fat_node::prev_of(table, j) == 0)
 }
 
 // Whether a link of the node at block b names no node, or one that does not name it back.
-#[tactic(auto, unfolding(crate::specs::Fault::loose))]
 fn loose(table: &[u8], n: usize, work: &[u32], b: usize) -> bool
     requires table_len { length table.now ≡ 8 * (n + 1) }
     requires b_lt_n { (b < n) × (n ≤ 1000000) }
     requires marked { Marked n table.now work.now }
     ensures { result ≡ loose n table.now b }
 {
-    !prev_is(table, n, work, fat_node::next_of(table, b), b + 1)
-        || !next_is(table, n, work, fat_node::prev_of(table, b), b + 1)
+    let next = fat_node::next_of(table, b);
+    let prev = fat_node::prev_of(table, b);
+    !named(work, next).map_or(next == 0, |j| fat_node::prev_of(table, j) == b + 1)
+        || !named(work, prev).map_or(prev == 0, |j| fat_node::next_of(table, j) == b + 1)
 }
 
 // The block of the node that next names at block b, if it names one.
