@@ -1,3 +1,4 @@
+use native.Mathlib.Omega.{arith}
 use mathlib.Core.List.{[], ◌∷◌}
 use Prim.Native.Nat.{◌<◌}
 use Rattle.std.proofs.lemmas.Result.{err_from_is_err_and}
@@ -15,4 +16,4 @@ returns-in_err-judge_held c =
     rw (p.1, p.2) (given_front (held_tests_of (alone c.args.w c.args.table.now) c.args.opens c.args.x) (row (0 < readers c.args.opens) Busy ∷ []) _ c.in_err-judge_held.ensures)
 
 pub returns-then-readers_in-gt0 : goal.returns-then-readers_in-gt0
-returns-then-readers_in-gt0 c = alone_busy _ _ _ _ c.in_ok-judge_held.ensures _ c.readers_in.ensures c.if-readers_in-gt0.true
+returns-then-readers_in-gt0 c = alone_busy _ _ _ _ c.in_ok-judge_held.ensures _ c.readers_in.ensures (omega arith)

@@ -19,9 +19,9 @@ returns-then-x-eq1 c = dir_root c.requires c.args.opens c.args.x c.in_ok-judge_d
 pub returns-then-link_of-ne0 : goal.returns-then-link_of-ne0
 returns-then-link_of-ne0 c =
     elim c.then-link_of-ne0.branch [
-      then-link_of-ne0-via-then-link_of-ne0 w ↦
+      | then-link_of-ne0-via-then-link_of-ne0 w ↦
           dir_dirs c.requires c.args.opens c.args.x c.in_ok-judge_delete.ensures c.link_of.result c.if-x-eq1.false c.link_of.ensures w.if-link_of-ne0.true
-    | then-link_of-ne0-via-else-link_of-ne0+then-link_of-ne0-2 w ↦
+      | then-link_of-ne0-via-else-link_of-ne0+then-link_of-ne0-2 w ↦
           dir_files c.requires c.args.opens c.args.x c.in_ok-judge_delete.ensures w.link_of-else-link_of-ne0.result c.if-x-eq1.false w.link_of-else-link_of-ne0.ensures w.if-link_of-ne0-2.true
     ]
 
