@@ -1,4 +1,3 @@
-use Prim.Native.Nat.{◌-◌}
 use native.Mathlib.Omega.{arith}
 use borrow.Author.Rules.{rules}
 use Rattle.fat_merge.proofs.Loops.{lays_begin, lays_marked, lays_reading, lays_passed, lays_fits, lays_next, lays_end}

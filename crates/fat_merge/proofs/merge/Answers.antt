@@ -6,7 +6,7 @@ pub slice_bounds-merge_sound-end : goal.slice_bounds-merge_sound-end
 slice_bounds-merge_sound-end c = merge_fits c.args.table.now _ _ _ _ _ c.in_ok-table_gate.ensures _ c.blocks-n.ensures
 
 pub slice_bounds-merge_sound-end-2 : goal.slice_bounds-merge_sound-end-2
-slice_bounds-merge_sound-end-2 c = ?
+slice_bounds-merge_sound-end-2 c = merge_long c.args.table.now _ _ _ _ _ c.in_ok-table_gate.ensures _ c.blocks-n.ensures
 
 pub merge_sound-requires : goal.merge_sound-requires
 merge_sound-requires c = record {

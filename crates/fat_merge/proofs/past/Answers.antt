@@ -1,4 +1,3 @@
-use Prim.Native.Nat.{◌-◌}
 use native.Mathlib.Omega.{arith}
 use Rattle.fat_merge.proofs.Loops.{pass_begin, pass_here, pass_next, pass_met, pass_end}
 use Rattle.fat_merge.proofs.past.Goals as goal

@@ -1,4 +1,3 @@
-use Prim.Native.Nat.{◌-◌}
 use native.Mathlib.Omega.{arith}
 use Rattle.fat_merge.proofs.Loops.{skip_begin, skip_here, skip_next, skip_met, skip_end}
 use Rattle.fat_merge.proofs.skip.Goals as goal
