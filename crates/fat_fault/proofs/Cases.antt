@@ -1,12 +1,12 @@
 -- What the tests of the code tell of the faults, one lemma for each way out.
-use mathlib.Core.Path.{◌≡◌, refl, sym, ap, ◌∙◌}
+use mathlib.Core.Path.{◌≡◌, refl, sym, ap, subst⁻¹, ◌∙◌}
 use mathlib.Core.List.{List}
 use mathlib.Core.Bool.{Bool, true, false, not, ◌&&◌, ◌||◌}
 use mathlib.Core.Logic.{⊎_elim}
 use Prim.Native.Nat.{ℕ, zero, suc, ◌+◌, ◌<◌}
 use native.Mathlib.Omega.{arith}
 use lib.Dec.{eqb, ltb}
-use lib.ListN.{get_or}
+use lib.ListN.{length, get_or}
 use borrow.Author.Tests.{eqb-true, eq-eqb, ne_eqb, ltb-true, lt-ltb}
 use Rattle.fat_node.specs.Entry.{Bytes, top, u_at, v_at}
 use Rattle.std.specs.Prelude.{Option, Some, None, MatchOption}
@@ -63,6 +63,10 @@ module _ (n : ℕ) (t : Bytes) where
       a ∙ ap (λ (x : ℕ). answered n t (prev_at t) x 0) e
       ∙ sym (ap (λ (x : Bool). x && (ltb (v_at t 0) top && answered n t (prev_at t) (v_at t 0) 0)) (eq-eqb (u_at t 0) 0 f.0)
       ∙ ap (λ (x : Bool). x && answered n t (prev_at t) (v_at t 0) 0) (lt-ltb (v_at t 0) top f.1))
+
+-- marks that are as many as the blocks
+pub marked_long : {n : ℕ} {t : Bytes} {w : List ℕ} → Marked n t w → Marked (length w) t w
+marked_long {n} {t} {w} m = subst⁻¹ (λ (k : ℕ). Marked k t w) m.long m
 
 -- one link, and then the other
 module _ (n : ℕ) (t : Bytes) (b : ℕ) where

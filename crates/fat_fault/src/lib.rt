@@ -14,12 +14,13 @@ use order::Fault;
 const ROUND: u32 = 2147483648;
 
 // Marks every node by 1, along the walk from block 0; or finds the first that can't be read.
-fn walk(table: &[u8], n: usize, work: &mut [u32]) -> Result<(), Fault>
-    requires table_len { length table.now ≡ 8 * (n + 1) }
-    requires n_bound { (n ≤ 1000000) × (length work.old ≡ n) }
-    requires work_value { work.old ≡ replicate n 0 }
-    ensures { Walked n table.now work.new result }
+fn walk(table: &[u8], work: &mut [u32]) -> Result<(), Fault>
+    requires table_len { length table.now ≡ 8 * (length work.old + 1) }
+    requires work_len_bound { length work.old ≤ 1000000 }
+    requires work_value { work.old ≡ replicate (length work.old) 0 }
+    ensures { Walked (length work.old) table.now work.new result }
 {
+    let n = work.len();
     let mut b: usize = 0;
     while b < n {
         let node = fat_node::get_node(table, n, b)?;
@@ -41,11 +42,11 @@ fn named(work: &[u32], i: usize) -> Option<usize>
 }
 
 // Whether the head has its form, and names none or a node with no previous.
-fn head_fits(table: &[u8], n: usize, work: &[u32]) -> bool
-    requires table_len { length table.now ≡ 8 * (n + 1) }
-    requires n_bound { n ≤ 1000000 }
-    requires marked { Marked n table.now work.now }
-    ensures { result ≡ head_fits n table.now }
+fn head_fits(table: &[u8], work: &[u32]) -> bool
+    requires table_len { length table.now ≡ 8 * (length work.now + 1) }
+    requires work_len_bound { length work.now ≤ 1000000 }
+    requires marked { Marked (length work.now) table.now work.now }
+    ensures { result ≡ head_fits (length work.now) table.now }
 {
     let Some(h) = fat_node::get_head(table) else {
         return false;
@@ -54,11 +55,11 @@ fn head_fits(table: &[u8], n: usize, work: &[u32]) -> bool
 }
 
 // Whether a link of the node at block b names no node, or one that does not name it back.
-fn loose(table: &[u8], n: usize, work: &[u32], b: usize) -> bool
-    requires table_len { length table.now ≡ 8 * (n + 1) }
-    requires b_lt_n { (b < n) × (n ≤ 1000000) }
-    requires marked { Marked n table.now work.now }
-    ensures { result ≡ loose n table.now b }
+fn loose(table: &[u8], work: &[u32], b: usize) -> bool
+    requires table_len { length table.now ≡ 8 * (length work.now + 1) }
+    requires b_in_bounds { (b < length work.now) × (length work.now ≤ 1000000) }
+    requires marked { Marked (length work.now) table.now work.now }
+    ensures { result ≡ loose (length work.now) table.now b }
 {
     let next = fat_node::next_of(table, b);
     let prev = fat_node::prev_of(table, b);
@@ -67,28 +68,28 @@ fn loose(table: &[u8], n: usize, work: &[u32], b: usize) -> bool
 }
 
 // The block of the node that next names at block b, if it names one.
-fn hop(table: &[u8], n: usize, work: &[u32], b: usize) -> Option<usize>
-    requires table_len { length table.now ≡ 8 * (n + 1) }
-    requires b_lt_n { (b < n) × (n ≤ 1000000) }
-    requires marked { Marked n table.now work.now }
-    ensures { Hops n table.now b result }
+fn hop(table: &[u8], work: &[u32], b: usize) -> Option<usize>
+    requires table_len { length table.now ≡ 8 * (length work.now + 1) }
+    requires b_in_bounds { (b < length work.now) × (length work.now ≤ 1000000) }
+    requires marked { Marked (length work.now) table.now work.now }
+    ensures { Hops (length work.now) table.now b result }
 {
     named(work, fat_node::next_of(table, b))
 }
 
 // Gives every node of the ring that block j lies in the ring's mark.
-fn ring(table: &[u8], n: usize, work: &mut [u32], j: usize)
-    requires table_len { length table.now ≡ 8 * (n + 1) }
-    requires j_lt_n { (j < n) × (n ≤ 1000000) }
-    requires marked { Marked n table.now work.old }
-    requires closed { Closed n table.now work.old }
-    requires ring { Ring (hop n table.now) j }
-    ensures { Rounded n table.now j work.old work.new }
+fn ring(table: &[u8], work: &mut [u32], j: usize)
+    requires table_len { length table.now ≡ 8 * (length work.old + 1) }
+    requires j_in_bounds { (j < length work.old) × (length work.old ≤ 1000000) }
+    requires marked { Marked (length work.old) table.now work.old }
+    requires closed { Closed (length work.old) table.now work.old }
+    requires ring { Ring (hop (length work.old) table.now) j }
+    ensures { Rounded (length work.old) table.now j work.old work.new }
 {
     let mut i = j;
     while work[i] != ROUND {
         work[i] = ROUND;
-        let Some(next) = hop(table, n, work, i) else {
+        let Some(next) = hop(table, work, i) else {
             return;
         };
         i = next;
@@ -96,11 +97,11 @@ fn ring(table: &[u8], n: usize, work: &mut [u32], j: usize)
 }
 
 // Colours what is come to from the node at block b, as far as it was not, and tells whether one comes back to b. Where that closes another ring, marks it.
-fn colour(table: &[u8], n: usize, work: &mut [u32], b: usize) -> bool
-    requires table_len { length table.now ≡ 8 * (n + 1) }
-    requires b_lt_n { (b < n) × (n ≤ 1000000) }
-    requires coloured { Coloured n table.now b work.old }
-    ensures { Came n table.now b work.new result }
+fn colour(table: &[u8], work: &mut [u32], b: usize) -> bool
+    requires table_len { length table.now ≡ 8 * (length work.old + 1) }
+    requires b_in_bounds { (b < length work.old) × (length work.old ≤ 1000000) }
+    requires coloured { Coloured (length work.old) table.now b work.old }
+    ensures { Came (length work.old) table.now b work.new result }
 {
     let own = b as u32 + 2;
     let mut at = Some(b);
@@ -111,39 +112,39 @@ fn colour(table: &[u8], n: usize, work: &mut [u32], b: usize) -> bool
                 if j == b {
                     return true;
                 }
-                ring(table, n, work, j);
+                ring(table, work, j);
             }
             return false;
         }
         work[j] = own;
-        at = hop(table, n, work, j);
+        at = hop(table, work, j);
     }
     false
 }
 
 // Whether a node stands at block b that is loose or in a ring; the nodes below b are coloured.
-fn untied(table: &[u8], n: usize, work: &mut [u32], b: usize) -> bool
-    requires table_len { length table.now ≡ 8 * (n + 1) }
-    requires b_lt_n { (b < n) × (n ≤ 1000000) }
-    requires coloured { Coloured n table.now b work.old }
-    ensures { (result ≡ untied n table.now b) × (result ≡ false → Coloured n table.now (b + 1) work.new) }
+fn untied(table: &[u8], work: &mut [u32], b: usize) -> bool
+    requires table_len { length table.now ≡ 8 * (length work.old + 1) }
+    requires b_in_bounds { (b < length work.old) × (length work.old ≤ 1000000) }
+    requires coloured { Coloured (length work.old) table.now b work.old }
+    ensures { (result ≡ untied (length work.old) table.now b) × (result ≡ false → Coloured (length work.old) table.now (b + 1) work.new) }
 {
-    if colour(table, n, work, b) {
+    if colour(table, work, b) {
         return true;
     }
     let m = work[b];
-    m == ROUND || m != 0 && loose(table, n, work, b)
+    m == ROUND || m != 0 && loose(table, work, b)
 }
 
 // The lowest node that is loose or in a ring. It is told as soon as it is come to.
-fn lowest(table: &[u8], n: usize, work: &mut [u32]) -> Fault
-    requires table_len { length table.now ≡ 8 * (n + 1) }
-    requires n_bound { n ≤ 1000000 }
-    requires fresh { Fresh n table.now work.old }
-    ensures { result ≡ lowest n table.now n 0 }
+fn lowest(table: &[u8], work: &mut [u32]) -> Fault
+    requires table_len { length table.now ≡ 8 * (length work.old + 1) }
+    requires work_len_bound { length work.old ≤ 1000000 }
+    requires fresh { Fresh (length work.old) table.now work.old }
+    ensures { result ≡ lowest (length work.old) table.now (length work.old) 0 }
 {
-    for b in 0..n {
-        if untied(table, n, work, b) {
+    for b in 0..work.len() {
+        if untied(table, work, b) {
             return Fault {
                 entry: b + 1,
                 rule: 7,
@@ -154,29 +155,29 @@ fn lowest(table: &[u8], n: usize, work: &mut [u32]) -> Fault
 }
 
 // The fault, with a work list that is 0 before it.
-fn find(table: &[u8], n: usize, work: &mut [u32]) -> Fault
-    requires table_len { length table.now ≡ 8 * (n + 1) }
-    requires n_bound { (n ≤ 1000000) × (length work.old ≡ n) }
-    requires work_value { work.old ≡ replicate n 0 }
-    ensures { result ≡ fault_of n table.now }
+fn find(table: &[u8], work: &mut [u32]) -> Fault
+    requires table_len { length table.now ≡ 8 * (length work.old + 1) }
+    requires work_len_bound { length work.old ≤ 1000000 }
+    requires work_value { work.old ≡ replicate (length work.old) 0 }
+    ensures { result ≡ fault_of (length work.old) table.now }
 {
-    if let Err(found) = walk(table, n, work) {
+    if let Err(found) = walk(table, work) {
         return found;
     }
-    if !head_fits(table, n, work) {
+    if !head_fits(table, work) {
         return Fault { entry: 0, rule: 6 };
     }
-    lowest(table, n, work)
+    lowest(table, work)
 }
 
-// Where a table of n blocks is broken, with a work list of n places that is 0 before and after.
-pub fn locate(table: &[u8], n: usize, work: &mut [u32]) -> Fault
-    requires table_len { length table.now ≡ 8 * (n + 1) }
-    requires n_bound { (n ≤ 1000000) × (length work.old ≡ n) }
-    requires work_value { work.old ≡ replicate n 0 }
-    ensures { (result ≡ fault_of n table.now) × (work.new ≡ replicate n 0) }
+// Where a table is broken, with a work list of as many places as blocks that is 0 before and after.
+pub fn locate(table: &[u8], work: &mut [u32]) -> Fault
+    requires table_len { length table.now ≡ 8 * (length work.old + 1) }
+    requires work_len_bound { length work.old ≤ 1000000 }
+    requires work_value { work.old ≡ replicate (length work.old) 0 }
+    ensures { (result ≡ fault_of (length work.old) table.now) × (work.new ≡ replicate (length work.old) 0) }
 {
-    let found = find(table, n, work);
+    let found = find(table, work);
     order::clear(work);
     found
 }

@@ -35,8 +35,7 @@ fn ruling(table: &[u8], work: &mut [u32]) -> Result<Counts, Refusal>
     if let Some(counts) = fat_ends::run(table, work) {
         return Ok(counts);
     }
-    let n = work.len();
-    Err(Refusal::BrokenFat(fat_fault::locate(table, n, work)))
+    Err(Refusal::BrokenFat(fat_fault::locate(table, work)))
 }
 
 // The same of a table whose sizes fit, in the first places of the work list, one a block, which are 0 after it.

@@ -1,5 +1,10 @@
 -- `fat_fault::colour` meets its contract.
-use Rattle.std.proofs.Common.{ap, ◌+◌, ◌≡◌, suc, arith}
+use mathlib.Core.Path.{subst, subst⁻¹, ◌∙◌}
+use Rattle.fat_fault.specs.Fault.{hop}
+use Rattle.fat_fault.specs.Inner.Ring.{Ring}
+use Rattle.fat_fault.specs.Inner.Marks.{Closed, Rounded}
+use Rattle.fat_fault.proofs.Cases.{marked_long}
+use Rattle.std.proofs.Common.{ap, ℕ, ◌+◌, ◌≡◌, suc, arith}
 use Rattle.fat_fault.proofs.Colours.{
   index_of,
   hop_index,
@@ -31,17 +36,20 @@ pub ring-requires : goal.ring-requires
 ring-requires c =
     let inv = c.loop-at.invariant in
     let at : index_of c.loop-at.at ≡ suc c.in-Some.j = ap index_of c.in-Some.is in
+    let l = inv.marked.long in
+    let t = c.args.table.now in
     record {
       table_len = omega arith;
-      j_lt_n = (omega (arith, at, inv.most), omega arith);
-      marked = inv.marked;
-      closed = own_closed _ _ _ _ _ (omega arith) (omega arith) _ inv;
-      ring = own_ring _ _ _ _ _ (omega arith) (omega arith) _ inv _ at c.if-m-own.true;
+      j_in_bounds = (omega (arith, at, inv.most), omega arith);
+      marked = marked_long inv.marked;
+      closed = subst⁻¹ (λ (m : ℕ). Closed m t c.loop-at.work) l (own_closed _ _ _ _ _ (omega arith) (omega arith) _ inv);
+      ring = subst⁻¹ (λ (m : ℕ). Ring (hop m t) c.in-Some.j) l (own_ring _ _ _ _ _ (omega arith) (omega arith) _ inv _ at c.if-m-own.true);
     }
 
 pub returns-else-j-b : goal.returns-else-j-b
 returns-else-j-b c =
-    came_on _ _ _ _ (colour_round _ _ _ _ _ (omega arith) (omega arith) _ c.loop-at.invariant _ _ (ap index_of c.in-Some.is) c.if-m-own.true c.ring.ensures)
+    let o = subst (λ (m : ℕ). Rounded m c.args.table.now c.in-Some.j c.loop-at.work c.ring.new.work) c.loop-at.invariant.marked.long c.ring.ensures in
+    came_on _ _ _ _ (colour_round _ _ _ _ _ (omega arith) (omega arith) _ c.loop-at.invariant _ _ (ap index_of c.in-Some.is) c.if-m-own.true o)
 
 pub returns-else-m-own : goal.returns-else-m-own
 returns-else-m-own c =
@@ -51,10 +59,11 @@ pub hop-at-requires : goal.hop-at-requires
 hop-at-requires c =
     let inv = c.loop-at.invariant in
     let at : index_of c.loop-at.at ≡ suc c.in-Some.j = ap index_of c.in-Some.is in
+    let k = colouring_node _ _ _ _ _ _ _ inv c.if-m-ne1.false in
     record {
-      table_len = omega arith;
-      b_lt_n = (omega (arith, at, inv.most), omega arith);
-      marked = colouring_node _ _ _ _ _ _ _ inv c.if-m-ne1.false;
+      table_len = omega (arith, k.long);
+      b_in_bounds = (omega (arith, at, inv.most, k.long), omega (arith, k.long));
+      marked = marked_long k;
     }
 
 pub loop-at-smaller : goal.loop-at-smaller
@@ -63,7 +72,10 @@ loop-at-smaller c =
     seen_less c.loop-at.work c.in-Some.j (c.args.b + 2) (omega (arith, at, c.loop-at.invariant.most, c.loop-at.invariant.marked.long)) c.if-m-ne1.false (omega arith)
 
 pub loop-at-preserved : goal.loop-at-preserved
-loop-at-preserved c = colouring_more _ _ _ _ _ _ _ _ c.loop-at.invariant (ap index_of c.in-Some.is) c.if-m-ne1.false (hop_index _ _ _ _ c.hop-at.ensures)
+loop-at-preserved c =
+    let m = colouring_node _ _ _ _ _ _ _ c.loop-at.invariant c.if-m-ne1.false in
+    colouring_more _ _ _ _ _ _ _ _ c.loop-at.invariant (ap index_of c.in-Some.is) c.if-m-ne1.false
+    (hop_index _ _ _ _ c.hop-at.ensures ∙ ap (λ (k : ℕ). hop k c.args.table.now c.in-Some.j) m.long)
 
 pub returns : goal.returns
 returns c = came_on _ _ _ _ (colour_none _ _ _ _ _ (omega arith) (omega arith) _ c.loop-at.invariant (ap index_of c.in_default.is))
