@@ -2,16 +2,17 @@
 use mathlib.Core.Path.{◌≡◌, refl, sym, ap, subst, subst⁻¹, ◌∙◌}
 use mathlib.Core.List.{List, [], ◌∷◌}
 use mathlib.Core.Bool.{Bool, true, false, cond}
-use mathlib.Core.Logic.{⊎_elim}
-use Prim.Native.Nat.{ℕ, zero, suc, ◌+◌, ◌*◌, ◌-◌, ◌≤◌, ◌<◌}
+use Prim.Native.Nat.{ℕ, zero, suc, ◌+◌, ◌-◌, ◌≤◌, ◌<◌}
 use native.Mathlib.Omega.{arith}
-use native.Mathlib.Nat.{mul-le-mul_right, sub-zero}
-use lib.Dec.{eqb, leb}
-use lib.ListN.{length, get_or, set, length-set}
-use lib.Seq.{sets}
-use Rattle.links.proofs.Held.{same_or}
+use native.Mathlib.Nat.{sub-zero}
+use lib.Dec.{eqb}
+use lib.ListN.{length, get_or, set, take, drop, length-set}
+use lib.Seq.{sets, drop-cons}
+use Rattle.std.specs.List.{count_by}
+use Rattle.std.proofs.lemmas.List.{drop-take}
+use Rattle.std.proofs.lemmas.List.Sums.{sum_by-cons}
 use Rattle.tree_table.specs.Field.{field}
-use Rattle.tree_table.specs.Chain.{member, link_at}
+use Rattle.tree_table.specs.Chain.{link_at}
 use Rattle.salvage_tree.specs.Entries.{bound, met_from, collision, gone}
 use Rattle.salvage_tree.specs.Inner.Says.{Marks, unmarked, Sized}
 use Rattle.salvage_tree.proofs.Marked.{stops_zero, stops_over, stops_met, goes_on, met_stop, met_on, marked_met, free_met, marks_on, unmarked_free, unmarked_not}
@@ -91,20 +92,28 @@ skip x n work h e =
     let q : suc x ≡ x + 1 = omega arith in
     ap (λ (k : ℕ). unmarked k x work) (next_left x n h) ∙ unmarked_not (n - (x + 1)) x work e ∙ ap (λ (y : ℕ). unmarked (n - (x + 1)) y work) q
 
-pub record Counting (n : ℕ) (work : List ℕ) (x count : ℕ) : Type 0 where
-  pub sum : count + length (unmarked (n - x) x work) ≡ length (unmarked (n - 1) 1 work)
-  pub few : count ≤ x
+-- of k places from x on those that are 0 are as many as the entries with no mark
+free_count : (k x : ℕ) (work : List ℕ) → x + k ≤ length work → count_by (λ m. eqb m 0) (take k (drop x work)) ≡ length (unmarked k x work)
+free_count zero x work h = refl
+free_count (suc k) x work h =
+    ap (λ (l : List ℕ). count_by (λ m. eqb m 0) (take (suc k) l)) (drop-cons work x 0 (omega (arith, h)))
+    ∙ sum_by-cons (λ m. cond (eqb m 0) 1 0) (get_or work x 0) (take k (drop (suc x) work))
+    ∙ ap (λ (c : ℕ). cond (eqb (get_or work x 0) 0) 1 0 + c) (free_count k (suc x) work (omega (arith, h)))
+    ∙ one_more (eqb (get_or work x 0) 0) (unmarked k (suc x) work)
+  where
+    one_more : (b : Bool) (l : List ℕ) → cond b 1 0 + length l ≡ length (cond b (x ∷ l) l)
+    one_more true l = omega arith
+    one_more false l = omega arith
 
-module _ (n : ℕ) (work : List ℕ) (x count : ℕ) (g : Counting n work x count) where
-  -- place i is that of entry x, and m the count then
-  pub counting_hit : x < n → (i : ℕ) → i ≡ x → get_or work i 0 ≡ 0 → (m : ℕ) → m ≡ count + 1 → Counting n work (x + 1) m
-  counting_hit h i q e m k =
-      let e : get_or work x 0 ≡ 0 = subst (λ (j : ℕ). get_or work j 0 ≡ 0) q e in
-      record { sum = omega (arith, g.sum, ap length (more x n work h e), k); few = omega (arith, g.few, k) }
-
-  pub counting_skip : x < n → (i : ℕ) → i ≡ x → (get_or work i 0 ≡ 0 → ⊥) → (m : ℕ) → m ≡ count → Counting n work (x + 1) m
-  counting_skip h i q e m k =
-      record { sum = omega (arith, g.sum, ap length (skip x n work h (λ z. e (subst⁻¹ (λ (j : ℕ). get_or work j 0 ≡ 0) q z))), k); few = omega (arith, g.few, k) }
+pub count_is : (n i : ℕ) (work : List ℕ) → i ≡ n → n ≤ length work → count_by (λ m. eqb m 0) (drop 1 (take i work)) ≡ length (unmarked (n - 1) 1 work)
+count_is zero i work e h = ap (λ (j : ℕ). count_by (λ m. eqb m 0) (drop 1 (take j work))) e
+count_is (suc k) i work e h =
+    let q : i ≡ 1 + k = omega (arith, e) in
+    let s : suc k - 1 ≡ k = omega arith in
+    ap (λ (j : ℕ). count_by (λ m. eqb m 0) (drop 1 (take j work))) q
+    ∙ ap (count_by (λ m. eqb m 0)) (drop-take 1 k work)
+    ∙ free_count k 1 work (omega (arith, h))
+    ∙ ap (λ (j : ℕ). length (unmarked j 1 work)) (sym s)
 
 pub record Listing (n : ℕ) (work l₀ l : List ℕ) (x at : ℕ) : Type 0 where
   pub is : sets l₀ 0 (unmarked (n - 1) 1 work) ≡ sets l at (unmarked (n - x) x work)

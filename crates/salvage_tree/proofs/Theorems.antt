@@ -1,27 +1,26 @@
 -- What the entries that are listed are worth: where count, removed list and lengths are those of a sound table, they are exactly its live entries.
-use mathlib.Core.Path.{◌≡◌, refl, sym, ap, subst, subst⁻¹, ◌∙◌}
+use mathlib.Core.Path.{◌≡◌, refl, sym, ap, subst⁻¹, ◌∙◌}
 use mathlib.Core.List.{List, [], ◌∷◌, ◌++◌}
 use mathlib.Core.Bool.{Bool, true, false, cond, ◌||◌}
-use mathlib.Core.Logic.{◌⊎◌, inl, inr, ⊎_elim}
+use mathlib.Core.Logic.{inl, inr, ⊎_elim}
 use Prim.Native.Nat.{ℕ, zero, suc, ◌+◌, ◌-◌, ◌/◌, ◌≤◌, ◌<◌}
 use native.Mathlib.Omega.{arith}
-use lib.Dec.{eqb, leb}
+use lib.Dec.{eqb}
 use lib.ListN.{length}
-use borrow.Author.Tests.{le-leb, eq-eqb, ne_eqb}
+use borrow.Author.Tests.{le-leb, ne_eqb}
 use Rattle.order.specs.Gate.{cleared}
 use Rattle.order.specs.Beside.{Beside, beside, within}
 use Rattle.order.proofs.One.{one}
 use Rattle.links.specs.Links.{◌∈◌, Distinct, Links}
 use Rattle.links.specs.Change.{pick}
-use Rattle.links.proofs.Laws.{by_eq, kept, at_most, distinct}
-use Rattle.links.proofs.Held.{same_or}
+use Rattle.links.proofs.Laws.{kept, at_most}
 use Rattle.tree_table.specs.Field.{field, count_field}
 use Rattle.tree_table.specs.View.{View, LiveIn, removed_of}
 use Rattle.tree_table.specs.Chain.{member}
 use Rattle.tree_sound.specs.Sound.{Table}
 use Rattle.tree_table.proofs.Chain.{member_in, not_member}
 use Rattle.tree_marks.proofs.Walks.{le_or_lt}
-use Rattle.salvage_tree.specs.Entries.{bound, goes, met_from, collision, gone, others, entries}
+use Rattle.salvage_tree.specs.Entries.{bound, met_from, collision, gone, others, entries}
 use Rattle.salvage_tree.specs.Calls.{Entered, entered_gives, entered_rows, entered_done, entered_gate, EnteredPromise}
 use Rattle.salvage_tree.proofs.Marked.{stops_zero, goes_on, met_stop, met_on}
 

@@ -2,7 +2,7 @@
 // width of an entry.
 #![tactic(auto)]
 
-ghost use Rattle.std.specs.Prelude.{◌≡◌, [], ◌-◌, ◌≤◌, ◌<◌, ◌/◌, length};
+ghost use Rattle.std.specs.Prelude.{◌≡◌, ◌==◌, [], ◌-◌, ◌≤◌, ◌<◌, ◌/◌, length, drop, count_by};
 ghost use Rattle.std.specs.Result.{result_unwrap_or};
 ghost use Rattle.std.proofs.lemmas.List.Edits.{sets};
 ghost use Rattle.order.specs.Answer.{answer_of};
@@ -30,18 +30,11 @@ pub fn mark_gone(table: &[u8], w: usize, n: u32, work: &mut [u32])
     }
 }
 
-// How many entries from 1 below n have no mark.
-fn count_live(n: u32, work: &[u32]) -> usize
-    requires { (n ≤ length work.now) × (n ≤ 65536) }
-    ensures { result ≡ length (unmarked (n - 1) 1 work.now) }
+// How many entries from 1 on have no mark, of as many as there are marks.
+fn count_live(marks: &[u32]) -> usize
+    ensures { result ≡ count_by (λ mark. mark == 0) (drop 1 marks.now) }
 {
-    let mut count = 0;
-    for x in 1..n {
-        if work[tree_table::index(x)] == 0 {
-            count += 1;
-        }
-    }
-    count
+    marks.iter().skip(1).filter(|mark| **mark == 0).count()
 }
 
 // Writes the entries from 1 below n that have no mark to a list, which has room for them.
@@ -72,7 +65,7 @@ fn entries_sized(
 {
     order::clear(work);
     mark_gone(table, w, n, work);
-    let count = count_live(n, work);
+    let count = count_live(&work[..tree_table::index(n)]);
     if list.len() < count {
         order::clear(work);
         return Err(Refusal::ListTooShort);

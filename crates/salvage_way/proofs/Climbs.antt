@@ -1,22 +1,19 @@
 -- Going up, directory by directory: what is counted, and what is listed.
-use mathlib.Core.Path.{◌≡◌, refl, sym, ap, subst, subst⁻¹, ◌∙◌}
+use mathlib.Core.Path.{◌≡◌, refl, sym, ap, subst⁻¹, ◌∙◌}
 use mathlib.Core.List.{List, [], ◌∷◌, ◌++◌}
-use mathlib.Core.Bool.{Bool, true, false, cond}
-use mathlib.Core.Logic.{⊎_elim}
+use mathlib.Core.Bool.{Bool, true, false, cond, not, ◌&&◌}
 use Prim.Native.Nat.{ℕ, zero, suc, ◌+◌, ◌*◌, ◌-◌, ◌≤◌, ◌<◌}
 use native.Mathlib.Omega.{arith}
 use native.Mathlib.Nat.{sub-zero, div-add-mod}
-use lib.Dec.{eqb}
+use lib.Dec.{ltb}
 use lib.ListN.{length, get_or, set, take, length-set, length-append}
 use lib.Seq.{length-take-le, take_all}
 use Rattle.std.proofs.lemmas.List.{append_assoc, append-nil, take_more_set}
-use borrow.Author.Tests.{eq-eqb, ne_eqb}
-use Rattle.links.proofs.Held.{same_or}
-use Rattle.tree_marks.proofs.Walks.{le_or_lt}
+use borrow.Author.Tests.{eq-eqb, ne_eqb, ltb-true}
 use Rattle.tree_table.specs.Field.{field}
 use Rattle.tree_table.specs.Chain.{member, link_at}
 use Rattle.salvage_tree.specs.Entries.{bound, goes, gone}
-use Rattle.salvage_tree.specs.Inner.Says.{Marks, Sized}
+use Rattle.salvage_tree.specs.Inner.Says.{Marks}
 use Rattle.salvage_tree.proofs.Marked.{stops_zero, stops_over, stops_met, goes_on, marked_met, free_met, marks_on}
 use Rattle.salvage_tree.proofs.Outs.{bound_low}
 use Rattle.salvage_way.specs.Way.{parent_of, way_from, way}
@@ -138,13 +135,13 @@ pub list_begin : (t : List ℕ) (inode : ℕ) (l : List ℕ) → Listing t inode
 list_begin t inode l = record { left = bound 40 t; met = gone 40 t; is = begins t inode }
 
 goes_below : (n : ℕ) (met : List ℕ) (x : ℕ) → goes n met x ≡ true → x < n
-goes_below n met x e = ⊎_elim
-    (λ h. ⊎_elim
-    (λ z. let f : goes n met x ≡ false = stops_zero n met x z in absurd (cc))
-    (λ z. let f : goes n met x ≡ false = stops_over n met x (omega (arith, z)) h in absurd (cc))
-    (same_or x 0))
-    (λ h. h)
-    (le_or_lt n x)
+unfolding goes
+goes_below n met x e = go (ltb 0 x) (ltb x n) refl e
+  where
+    go : (a b : Bool) → ltb x n ≡ b → (a && (b && not (member x met))) ≡ true → x < n
+    go true true q h = ltb-true x n q
+    go true false q h = cc
+    go false b q h = cc
 
 -- the way goes on with x, which lies in the table
 record Next (t : List ℕ) (x : ℕ) (rest : List ℕ) : Type 0 where

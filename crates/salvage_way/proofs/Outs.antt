@@ -1,25 +1,21 @@
 -- The ways out of the call that goes up.
-use mathlib.Core.Path.{◌≡◌, refl, sym, ap, subst⁻¹, ◌∙◌}
+use mathlib.Core.Path.{refl, subst⁻¹}
 use mathlib.Core.List.{List, [], ◌++◌}
-use mathlib.Core.Logic.{inl, inr}
-use Prim.Native.Nat.{ℕ, ◌+◌, ◌/◌, ◌≤◌, ◌<◌}
+use Prim.Native.Nat.{ℕ, ◌/◌, ◌<◌}
 use native.Mathlib.Omega.{arith}
-use lib.ListN.{length, take, drop, replicate, length-replicate}
+use lib.ListN.{length, take, drop}
 use Rattle.std.specs.Prelude.{Err}
-use Rattle.order.specs.Answer as is
 use Rattle.order.specs.Beside.{beside}
 use Rattle.order.specs.Gate.{cleared}
 use Rattle.order.specs.declared.Refusal.{Refusal}
 use Rattle.order.proofs.Beside.{passed, refused}
 use Rattle.order.proofs.Gate.{gate_given}
 use Rattle.tree_sound.specs.Sizes.{Beyond}
-use Rattle.salvage_tree.specs.Entries.{gone}
 use Rattle.salvage_tree.specs.Calls.{Entered, entered_gives, entered_gate}
-use Rattle.salvage_tree.specs.Inner.Says.{Marks, Roomy, RoomFor, Sized}
-use Rattle.salvage_tree.proofs.Outs.{still_sized, fits, clear_is}
-use Rattle.salvage_way.specs.Way.{way}
+use Rattle.salvage_tree.specs.Inner.Says.{Roomy, RoomFor}
+use Rattle.salvage_tree.proofs.Outs.{fits, clear_is}
 use Rattle.salvage_way.specs.Calls.{way_rows, way_done, WayPromise}
-use Rattle.salvage_way.specs.Inner.Says.{Ready, WaySays}
+use Rattle.salvage_way.specs.Inner.Says.{WaySays}
 
 -- ---- the rows of sizes and work list
 

@@ -2,10 +2,9 @@
 use mathlib.Core.Path.{◌≡◌, refl, sym, ap, subst, subst⁻¹, ◌∙◌}
 use mathlib.Core.List.{List, [], ◌∷◌, ◌++◌}
 use mathlib.Core.Bool.{Bool, true, false}
-use mathlib.Core.Logic.{◌⊎◌, inl, inr, ⊎_elim}
-use Prim.Native.Nat.{ℕ, zero, suc, ◌+◌, ◌-◌, ◌/◌, ◌≤◌, ◌<◌}
+use mathlib.Core.Logic.{inl, inr, ⊎_elim}
+use Prim.Native.Nat.{ℕ, zero, suc, ◌/◌, ◌≤◌, ◌<◌}
 use native.Mathlib.Omega.{arith}
-use lib.Dec.{eqb}
 use lib.ListN.{length}
 use borrow.Author.Tests.{ne_eqb}
 use Rattle.order.specs.Gate.{cleared}
@@ -17,7 +16,7 @@ use Rattle.links.proofs.Laws.{distinct, at_most}
 use Rattle.links.proofs.Held.{same_or}
 use Rattle.tree_table.specs.Field.{field}
 use Rattle.tree_table.specs.View.{View, LiveIn, removed_of, parent as parent_in}
-use Rattle.tree_table.specs.Chain.{member, link_at}
+use Rattle.tree_table.specs.Chain.{member}
 use Rattle.tree_sound.specs.Sound.{Dirs, up}
 use Rattle.salvage_tree.specs.Entries.{bound, gone}
 use Rattle.salvage_tree.specs.Calls.{Entered, entered_gives, entered_gate}

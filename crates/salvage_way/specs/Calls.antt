@@ -4,7 +4,6 @@ use Rattle.order.specs.First.{Row, row}
 use Rattle.order.specs.Gate.{cleared}
 use Rattle.order.specs.Giving.{giving}
 use Rattle.order.specs.Beside.{Beside, beside, Promised}
-use Rattle.order.specs.Answer.{Answer}
 use Rattle.order.specs.Answer.{Done, ListTooShort}
 use Rattle.salvage_tree.specs.Calls.{Entered, entered_gives, entered_gate}
 use Rattle.salvage_way.specs.Way.{way}

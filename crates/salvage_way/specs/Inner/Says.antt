@@ -1,5 +1,5 @@
 -- What the functions inside say.
-use Rattle.std.specs.Prelude.{◌≡◌, List, ℕ, length, replicate}
+use Rattle.std.specs.Prelude.{◌≡◌, List, ℕ, replicate}
 use Rattle.order.specs.First.{First}
 use Rattle.salvage_tree.specs.Entries.{gone}
 use Rattle.salvage_tree.specs.Calls.{Entered}

@@ -1,6 +1,0 @@
--- `salvage_tree::count_live` meets its contract.
-use Rattle.salvage_tree.proofs.Loops.{Counting}
-use Rattle.salvage_tree.proofs.count_live.Given as goal
-
-abbrev pub invariant-loop-x : goal.invariant-loop-x
-invariant-loop-x l = Counting l.n l.work l.x l.count
