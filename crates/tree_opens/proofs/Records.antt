@@ -1,6 +1,6 @@
 -- What an open more or less does to a record: a reader counts 1, the writer 2,147,483,648.
 use mathlib.Core.Path.{◌≡◌}
-use Prim.Native.Nat.{ℕ, ◌+◌, ◌-◌, ◌≤◌, ◌<◌}
+use Prim.Native.Nat.{ℕ, ◌+◌, ◌-◌, ◌<◌}
 use native.Mathlib.Omega.{arith}
 use Rattle.tree_opens.specs.Record.{readers, writer, total, writer_alone}
 

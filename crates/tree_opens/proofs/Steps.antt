@@ -1,12 +1,12 @@
 -- The rows of a record's open and close, by the places of their code.
 use mathlib.Core.Path.{◌≡◌, refl, sym, ap, ◌∙◌}
 use mathlib.Core.Logic.{inl, inr}
-use Prim.Native.Nat.{ℕ, ◌+◌, ◌-◌, ◌≤◌, ◌<◌}
+use Prim.Native.Nat.{ℕ, ◌+◌, ◌≤◌, ◌<◌}
 use native.Mathlib.Omega.{arith}
 use Rattle.std.proofs.Common.{Result, Ok, Err}
 use Rattle.order.specs.declared.Refusal.{Refusal}
 use Rattle.order.specs.declared.Refusal.TheVariants.{Busy, NotOpen, TooManyOpens}
-use Rattle.tree_opens.specs.Record.{readers, writer, total, writer_alone}
+use Rattle.tree_opens.specs.Record.{writer, total}
 use Rattle.tree_opens.specs.Step.{holds, more, less, more_tests, less_tests, SteppedBy}
 use Rattle.tree_opens.specs.declared.Want.{Want}
 use Rattle.tree_opens.specs.declared.Want.TheVariants.{Reader, Writer}

@@ -9,7 +9,7 @@ ghost use Rattle.tree_opens.specs.Step.{more, less, more_tests, less_tests, Step
 use order::Refusal;
 
 // The top bit.
-const WRITER: u32 = 2147483648;
+const WRITER: u32 = 1 << 31;
 
 // Which open is asked for, or given back.
 #[derive(Clone, Copy)]

@@ -2,14 +2,12 @@
 use mathlib.Core.Path.{◌≡◌, sym, ap, ◌∙◌}
 use mathlib.Core.List.{List}
 use mathlib.Core.Logic.{◌≢◌}
-use mathlib.Core.Bool.{true}
 use Prim.Native.Nat.{ℕ, ◌+◌, ◌-◌, ◌*◌, ◌/◌, ◌≤◌, ◌<◌}
 use native.Mathlib.Omega.{arith}
-use lib.Dec.{eqb}
 use lib.ListN.{length, set}
-use borrow.Author.Tests.{eq-eqb, ne_eqb, lt-ltb, le-ltb, eqb-true}
+use borrow.Author.Tests.{eq-eqb, ne_eqb, lt-ltb, le-ltb}
 use Rattle.tree_packed.specs.Packed.{Packed, Place, rec}
-use Rattle.tree_packed.specs.Put.{IsFull, gives, taken_out, put_in, put_of}
+use Rattle.tree_packed.specs.Put.{gives, taken_out, put_in, put_of}
 use Rattle.std.proofs.Common.{Some, None}
 use Rattle.tree_packed.proofs.Laws.{place_below, listed}
 

@@ -1,13 +1,11 @@
 -- Sound, as RULES 5.7 has it, and the form that the steps are proved with say the same.
-use mathlib.Core.Path.{◌≡◌, refl, sym, ap, ◌∙◌, subst}
-use mathlib.Core.List.{List, [], ◌∷◌}
-use mathlib.Core.Logic.{◌⊎◌, inl, inr, ⊎_elim, ◌≢◌, ◌↔◌}
-use Prim.Native.Nat.{ℕ, ◌≤◌, ◌<◌}
-use native.Mathlib.Omega.{arith}
-use Rattle.links.specs.Links.{◌∈◌, Distinct, Links, Holds}
+use mathlib.Core.Path.{◌≡◌, refl, sym, ◌∙◌, subst}
+use mathlib.Core.List.{List}
+use Prim.Native.Nat.{ℕ, ◌<◌}
+use Rattle.links.specs.Links.{Holds}
 use Rattle.links.proofs.Laws.{distinct}
 use Rattle.links.proofs.Held.{holds_kept}
-use Rattle.tree_table.specs.View.{View, parent, place, Live, LiveIn, removed_of, Reaches}
+use Rattle.tree_table.specs.View.{View, place, Live, LiveIn, removed_of}
 use Rattle.tree_table.proofs.Table.{Here, Sound, not_zero, removed_is}
 use Rattle.tree_sound.specs.Sound.{Table, Below, up}
 use Rattle.tree_sound.specs.Sound as whole

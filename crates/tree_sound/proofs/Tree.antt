@@ -1,22 +1,19 @@
 -- The two tables as one tree, in the form that the steps are proved with: each table sound with one loose inode (0 for none) and its removed list at
 -- hand. It is Sound (RULES 5.7), and make, delete and rename keep it.
 use mathlib.Core.Path.{◌≡◌, refl, sym, ap, ◌∙◌, subst}
-use mathlib.Core.List.{List, [], ◌∷◌, ◌++◌}
-use mathlib.Core.Logic.{◌⊎◌, inl, inr, ⊎_elim, ◌≢◌, ◌↔◌}
-use mathlib.Core.Bool.{Bool, true, false}
-use Prim.Native.Nat.{ℕ, zero, suc, ◌+◌, ◌%◌, ◌≤◌, ◌<◌}
+use mathlib.Core.List.{List, [], ◌∷◌}
+use mathlib.Core.Logic.{◌⊎◌, inl, inr, ⊎_elim, ◌≢◌}
+use Prim.Native.Nat.{ℕ, ◌<◌}
 use native.Mathlib.Omega.{arith}
 use native.Mathlib.Nat.{mod-lt}
-use lib.Dec.{eqb}
-use lib.ListN.{length, get_or}
-use Rattle.links.specs.Links.{◌∈◌, Distinct, Links, Holds}
-use Rattle.links.specs.Change.{pick, walk, upd}
-use Rattle.links.proofs.Laws.{by_eq, positive, walked, fewer, kept, one_list, first_in, distinct}
-use Rattle.links.proofs.Held.{same_or, upd_same, upd_other, holds_kept}
+use Rattle.links.specs.Links.{◌∈◌, Links, Holds}
+use Rattle.links.specs.Change.{upd}
+use Rattle.links.proofs.Laws.{kept, one_list, first_in}
+use Rattle.links.proofs.Held.{same_or, upd_same, upd_other}
 use Rattle.tree_key.specs.Hash.{hash_of}
-use Rattle.tree_table.specs.View.{View, parent, place, Live, LiveIn, removed_of, Reaches}
+use Rattle.tree_table.specs.View.{View, parent, Live, Reaches}
 use Rattle.tree_table.specs.Steps.{taken}
-use Rattle.tree_table.proofs.Table.{Here, Sound, link, linked, unlink, unlinked, unlinked_next, other, take, rest, give, Space, Took, took, took_live, gave, gave_live, not_zero}
+use Rattle.tree_table.proofs.Table.{Here, Sound, link, linked, unlink, unlinked, unlinked_next, take, rest, give, Space, Took, took, took_live, gave, gave_live, not_zero}
 use Rattle.tree_sound.specs.Sound.{up}
 
 -- ---- going up by parents

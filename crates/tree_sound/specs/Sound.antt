@@ -1,6 +1,6 @@
 -- Soundness of the two entry tables together, sentence by sentence as RULES 5.7 has it. D are the directories and F the files, as their views. The
 -- inodes from 1 below count that are not removed are live: LiveIn is that sentence.
-use Rattle.std.specs.Prelude.{◌≡◌, List, [], ◌∷◌, ℕ, ◌≤◌, ◌<◌}
+use Rattle.std.specs.Prelude.{◌≡◌, [], ◌∷◌, ℕ, ◌≤◌, ◌<◌}
 use Rattle.links.specs.Links.{◌∈◌, Distinct, Links, Holds}
 use Rattle.tree_table.specs.View.{View, parent, place, removed_of, LiveIn, Reaches}
 

@@ -2,7 +2,6 @@
 use mathlib.Core.Path.{refl}
 use native.Mathlib.Omega.{arith}
 use borrow.Author.Rules.{rules}
-use borrow.Author.Tests.{not-true, not-false}
 use Rattle.tree_table.proofs.Chain.{goes, fits_at}
 use Rattle.tree_alone.proofs.Entries.{going_begin, going_on, going_stop, going_done, all_fit_far}
 use Rattle.tree_alone.proofs.check_bucket.Goals as goal
@@ -14,10 +13,7 @@ pub entry_fits-requires : goal.entry_fits-requires
 entry_fits-requires c = (fits_at c.loop-x.invariant.on (omega arith), search rules, search rules, search rules, λ n p. (goes c.loop-x.invariant.on (omega arith) refl).rest)
 
 pub returns-then-not-entry_fits : goal.returns-then-not-entry_fits
-returns-then-not-entry_fits c = all_fit_far c.args.table.now c.args.w c.args.buckets c.args.first c.args.mark c.requires.4 (going_stop c.loop-x.invariant (omega arith) c.entry_fits.ensures (not-true c.entry_fits.result c.if-not-entry_fits.true-raw))
-
-pub overflow_sub-w : goal.overflow_sub-w
-overflow_sub-w c = omega arith
+returns-then-not-entry_fits c = all_fit_far c.args.table.now c.args.w c.args.buckets c.args.first c.args.mark c.requires.4 (going_stop c.loop-x.invariant (omega arith) c.entry_fits.ensures (search rules))
 
 pub link_of-x-requires : goal.link_of-x-requires
 link_of-x-requires c = (fits_at c.loop-x.invariant.on (omega arith), omega arith)
@@ -26,7 +22,7 @@ pub loop-x-smaller : goal.loop-x-smaller
 loop-x-smaller c = omega (arith, (goes c.loop-x.invariant.on (omega arith) c.link_of-x.ensures).less)
 
 pub loop-x-preserved : goal.loop-x-preserved
-loop-x-preserved c = going_on c.loop-x.invariant (omega arith) c.link_of-x.ensures c.entry_fits.ensures (not-false c.entry_fits.result c.if-not-entry_fits.false-raw)
+loop-x-preserved c = going_on c.loop-x.invariant (omega arith) c.link_of-x.ensures c.entry_fits.ensures (search rules)
 
 pub returns : goal.returns
 returns c = all_fit_far c.args.table.now c.args.w c.args.buckets c.args.first c.args.mark c.requires.4 (going_done c.loop-x.invariant (omega arith))

@@ -1,5 +1,4 @@
 -- `sort_bucket` meets its contract.
-use borrow.Author.Tests.{not-true, not-false}
 use Rattle.tree_alone.proofs.Entries.{counted_ends, counted_far, counted_stop, counted_no, counted_yes}
 use borrow.Author.Rules.{rules}
 use Rattle.tree_alone.proofs.sort_bucket.Goals as goal
@@ -17,7 +16,7 @@ check_bucket-requires c = (
 )
 
 pub returns-then-not-check_bucket : goal.returns-then-not-check_bucket
-returns-then-not-check_bucket c = counted_no c.in_ok-n.ensures c.check_bucket.ensures (not-true c.check_bucket.result c.if-not-check_bucket.true-raw)
+returns-then-not-check_bucket c = counted_no c.in_ok-n.ensures c.check_bucket.ensures (search rules)
 
 pub returns : goal.returns
-returns c = counted_yes c.in_ok-n.ensures c.check_bucket.ensures c.requires.1 c.requires.2 c.requires.0 (not-false c.check_bucket.result c.if-not-check_bucket.false-raw)
+returns c = counted_yes c.in_ok-n.ensures c.check_bucket.ensures c.requires.1 c.requires.2 c.requires.0 (search rules)

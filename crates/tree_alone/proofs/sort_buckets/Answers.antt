@@ -8,18 +8,6 @@ use Rattle.tree_alone.proofs.sort_buckets.Goals as goal
 pub loop-b-init : goal.loop-b-init
 loop-b-init c = filling_begin _ _ _ _ _ _ _
 
-pub sort_bucket-requires : goal.sort_bucket-requires
-sort_bucket-requires c = (
-  search rules,
-  search rules,
-  search rules,
-  search rules,
-  omega (arith, c.loop-b.invariant.size),
-  search rules,
-  search rules,
-  c.loop-b.invariant.fit.some,
-)
-
 pub returns-in_err-n : goal.returns-in_err-n
 returns-in_err-n c = rw c.from_residual.ensures (filling_stop c.loop-b.invariant (omega arith) (search rules) (numbered c.args.hash.now c.loop-b.b c.get_hash-first.ensures) c.in_err-n.ensures)
 

@@ -8,9 +8,6 @@ use Rattle.tree_table.proofs.Chain.{goes, fits_at, stops}
 use Rattle.tree_apart.proofs.Differing.{far_yes, far_no}
 use Rattle.tree_apart.proofs.is_far.Goals as goal
 
-pub loop-x-init : goal.loop-x-init
-loop-x-init c = (c.requires.0, omega arith, omega arith)
-
 pub returns-then-n-eq-NEAR : goal.returns-then-n-eq-NEAR
 returns-then-n-eq-NEAR c = far_yes c.args.table.now c.args.w c.args.first (omega (arith, c.loop-x.invariant.1, (goes c.loop-x.invariant.0 (omega arith) refl).less))
 

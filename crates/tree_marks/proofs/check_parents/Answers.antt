@@ -3,7 +3,6 @@ use mathlib.Core.Path.{◌≡◌, refl, ap, ◌∙◌, subst}
 use Prim.Native.Nat.{ℕ, ◌+◌, ◌*◌, ◌≤◌}
 use native.Mathlib.Omega.{arith}
 use borrow.Author.Rules.{rules}
-use borrow.Author.Tests.{not-true, not-false}
 use lib.ListN.{length}
 use Rattle.tree_table.specs.Chain.{link_at}
 use Rattle.order.specs.Tells.{Tells}
@@ -36,12 +35,12 @@ get_u32-requires c = let h : c.index-i.result * c.args.w + c.args.w ≤ length c
 pub returns-then-not-named : goal.returns-then-not-named
 returns-then-not-named c =
     check_stop {P = λ z. ParentMarked c.args.root z (mark_at c.args.work.now c.args.off z) (link_at c.args.table.now c.args.w 0 z)} c.loop-y.invariant (search rules)
-    (told _ _ _ _ _ _ (mark_at c.args.work.now c.args.off) (link_at c.args.table.now c.args.w 0) c.index-i.ensures refl c.get_u32.ensures c.named.ensures) (not-true c.named.result c.if-not-named.true-raw)
+    (told _ _ _ _ _ _ (mark_at c.args.work.now c.args.off) (link_at c.args.table.now c.args.w 0) c.index-i.ensures refl c.get_u32.ensures c.named.ensures) (search rules)
 
 pub loop-y-preserved : goal.loop-y-preserved
 loop-y-preserved c =
     check_on {P = λ z. ParentMarked c.args.root z (mark_at c.args.work.now c.args.off z) (link_at c.args.table.now c.args.w 0 z)} c.loop-y.invariant
-    (told _ _ _ _ _ _ (mark_at c.args.work.now c.args.off) (link_at c.args.table.now c.args.w 0) c.index-i.ensures refl c.get_u32.ensures c.named.ensures) (not-false c.named.result c.if-not-named.false-raw)
+    (told _ _ _ _ _ _ (mark_at c.args.work.now c.args.off) (link_at c.args.table.now c.args.w 0) c.index-i.ensures refl c.get_u32.ensures c.named.ensures) (search rules)
 
 pub returns : goal.returns
 returns c = check_done {P = λ z. ParentMarked c.args.root z (mark_at c.args.work.now c.args.off z) (link_at c.args.table.now c.args.w 0 z)} c.loop-y.invariant (search rules)

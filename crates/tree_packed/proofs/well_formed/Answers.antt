@@ -15,9 +15,10 @@ returns-then-pair-last c =
     let x = pair_inode c.args.list.now c.args.k c.as_chunks.ensures.front h c.loop-pair.pair-index [] t in
     let r = pair_record c.args.list.now c.args.k c.as_chunks.ensures.front h c.loop-pair.pair-index [] t in
     tells_no
-    (elim c.then-pair-last.branch
-    [ then-pair-last-via-then-pair-last w ↦ front_low c.loop-pair.invariant t (omega arith)
-    | then-pair-last-via-else-pair-last+then-pair-eq0 w ↦ front_empty t (sym r ∙ w.if-pair-eq0.true) ])
+    (elim c.then-pair-last.branch [
+      | then-pair-last-via-then-pair-last w ↦ front_low c.loop-pair.invariant t (omega arith)
+      | then-pair-last-via-else-pair-last+then-pair-eq0 w ↦ front_empty t (sym r ∙ w.if-pair-eq0.true)
+    ])
 
 pub loop-pair-preserved : goal.loop-pair-preserved
 loop-pair-preserved c =

@@ -11,9 +11,6 @@ loop-i-init c = copy_begin c.args.w c.args.table.now c.args.x (c.args.w / 4 - 1)
 pub link_of-v-requires : goal.link_of-v-requires
 link_of-v-requires c = (omega (arith, c.loop-i.invariant.same, mul-le-mul_right c.args.w c.requires.2), omega arith)
 
-pub put_link-requires : goal.put_link-requires
-put_link-requires c = (omega (arith, c.loop-i.invariant.same), omega arith)
-
 pub loop-i-preserved : goal.loop-i-preserved
 loop-i-preserved c = copy_step c.args.w c.args.table.now c.args.x (c.args.w / 4 - 1) c.loop-i.table c.loop-i.i c.requires.2 refl (omega arith) c.loop-i.invariant c.link_of-v.ensures c.put_link.ensures
 

@@ -5,9 +5,6 @@ use lib.ListN.{length}
 use Rattle.tree_table.proofs.Chain.{ends_short, goes, fits_at, stops}
 use Rattle.tree_table.proofs.count_list.Goals as goal
 
-pub loop-x-init : goal.loop-x-init
-loop-x-init c = (c.requires.0, omega arith)
-
 pub overflow_add-n : goal.overflow_add-n
 overflow_add-n c = omega (arith, ends_short c.requires.0, (goes c.loop-x.invariant.0 (omega arith) refl).less)
 

@@ -1,11 +1,8 @@
-use mathlib.Core.Path.{refl, sym, ◌∙◌}
+use mathlib.Core.Path.{sym, ◌∙◌}
 use native.Mathlib.Omega.{arith}
 use borrow.Author.Rules.{rules}
 use Rattle.tree_table.proofs.Chain.{goes, fits_at, before_on, still_there, before_here, not_ended}
 use Rattle.tree_table.proofs.find_before.Goals as goal
-
-pub loop-x-init : goal.loop-x-init
-loop-x-init c = (c.requires.0, c.requires.2, refl)
 
 pub link_of-x-requires : goal.link_of-x-requires
 link_of-x-requires c = (fits_at c.loop-x.invariant.0 (not_ended c.args.y c.loop-x.invariant.0 c.loop-x.invariant.1), search rules)

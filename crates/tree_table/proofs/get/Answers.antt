@@ -17,9 +17,6 @@ overflow_add-end c = omega (arith, fits_index c.index.result c.loop-x.invariant.
 pub overflow_add-n : goal.overflow_add-n
 overflow_add-n c = omega (arith, c.loop-x.invariant.1, (goes c.loop-x.invariant.0 (omega arith) refl).less)
 
-pub slice_bounds-has_key-count : goal.slice_bounds-has_key-count
-slice_bounds-has_key-count c = omega arith
-
 pub slice_bounds-has_key-start : goal.slice_bounds-has_key-start
 slice_bounds-has_key-start c = omega (arith, fits_index c.index.result c.loop-x.invariant.0 (omega arith) c.index.ensures)
 
@@ -34,9 +31,6 @@ returns-then-has_key c =
     seek_hit (goes c.loop-x.invariant.0 (omega arith) refl) (key_words c.args.key) c.loop-x.n c.has_key.result
     (part_key c.args.table.now c.args.w (key_words c.args.key) c.index.ensures c.requires.1 c.has_key.ensures) c.if-has_key.true
     ∙ c.loop-x.invariant.2
-
-pub overflow_sub-w : goal.overflow_sub-w
-overflow_sub-w c = omega arith
 
 pub link_of-x-requires : goal.link_of-x-requires
 link_of-x-requires c = (fits_at c.loop-x.invariant.0 (omega arith), omega arith)

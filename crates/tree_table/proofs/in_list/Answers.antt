@@ -1,11 +1,8 @@
-use mathlib.Core.Path.{refl, sym, ◌∙◌}
+use mathlib.Core.Path.{sym, ◌∙◌}
 use native.Mathlib.Omega.{arith}
 use borrow.Author.Rules.{rules}
 use Rattle.tree_table.proofs.Chain.{goes, fits_at, member_on, member_found, member_none}
 use Rattle.tree_table.proofs.in_list.Goals as goal
-
-pub loop-x-init : goal.loop-x-init
-loop-x-init c = (c.requires.0, refl)
 
 pub returns-then-x-y : goal.returns-then-x-y
 returns-then-x-y c = member_found c.loop-x.invariant.0 (omega arith) c.if-x-y.true ∙ c.loop-x.invariant.1

@@ -21,8 +21,5 @@ loop-x-smaller c = omega (arith, (goes c.loop-x.invariant.on (omega arith) c.lin
 pub loop-x-preserved : goal.loop-x-preserved
 loop-x-preserved c = write_step c.loop-x.invariant (omega arith) c.link_of-x.ensures
 
-pub shape_of-list : goal.shape_of-list
-shape_of-list c = c.loop-x.invariant.same
-
 pub returns : goal.returns
 returns c = write_end c.loop-x.invariant (omega arith)

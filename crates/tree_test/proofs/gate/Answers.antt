@@ -1,6 +1,6 @@
 -- `gate` meets its contract.
 use native.Mathlib.Omega.{arith}
-use borrow.Author.Tests.{not-true, not-false}
+use borrow.Author.Rules.{rules}
 use Rattle.tree_test.proofs.Cases.{tells_not, sized, gate_misfit, gate_outside, gate_short, gate_broken, gate_open}
 use Rattle.tree_test.specs.Promise.{TreeGateOf}
 use Rattle.tree_test.proofs.gate.Goals as goal
@@ -24,10 +24,10 @@ pub returns-then-not-verdict : goal.returns-then-not-verdict
 unfolding TreeGateOf
 returns-then-not-verdict c =
     gate_broken c.args.dir_hash.now c.args.dir_table.now c.args.file_hash.now c.args.file_table.now c.args.work.now (tells_not c.misfit.ensures c.if-misfit.false) (tells_not c.outside.ensures c.if-outside.false) (omega arith)
-    (tells_not c.verdict.ensures.0 (not-true c.verdict.result c.if-not-verdict.true-raw)) c.verdict.ensures.1
+    (tells_not c.verdict.ensures.0 (search rules)) c.verdict.ensures.1
 
 pub returns : goal.returns
 unfolding TreeGateOf
 returns c =
     gate_open c.args.dir_hash.now c.args.dir_table.now c.args.file_hash.now c.args.file_table.now c.args.work.now (tells_not c.misfit.ensures c.if-misfit.false) (tells_not c.outside.ensures c.if-outside.false) (omega arith)
-    (c.verdict.ensures.0.yes (not-false c.verdict.result c.if-not-verdict.false-raw)) c.verdict.ensures.1
+    (c.verdict.ensures.0.yes (search rules)) c.verdict.ensures.1
