@@ -169,7 +169,7 @@ module _ {G X : Type 0} (out : Answer → X → G) (answer : G → Answer) (rest
 
 -- ---- the block table
 
-pub export_format : (t : Bytes) → OneExport {X = Bytes} (λ a x. (a, x)) (λ o. format.FormatPromise t o.0 o.1)
+pub export_format : (t : Bytes) → OneExport {A = Answer × Bytes} {X = Bytes} (λ a x. (a, x)) (λ o. format.FormatPromise t o.0 o.1)
 export_format t =
     one_export
     (λ (a : Answer) (x : Bytes). (a, x))

@@ -25,7 +25,8 @@ pub extern "C" fn mukthiban_tree_make_dir(
 {
     tree::change::make_dir(
         dir_hash, dir_table, file_hash, file_table, work, opens, opened, parent, name, carried,
-    ).into()
+    )
+    .into()
 }
 
 #[unsafe(no_mangle)]
@@ -45,7 +46,8 @@ pub extern "C" fn mukthiban_tree_make_file(
 {
     tree::change::make_file(
         dir_hash, dir_table, file_hash, file_table, work, opens, opened, parent, name, carried,
-    ).into()
+    )
+    .into()
 }
 
 #[unsafe(no_mangle)]
@@ -65,7 +67,8 @@ pub extern "C" fn mukthiban_tree_rename_dir(
 {
     tree::change::rename_dir(
         dir_hash, dir_table, file_hash, file_table, work, opens, *opened, inode, parent, name,
-    ).into()
+    )
+    .into()
 }
 
 #[unsafe(no_mangle)]
@@ -85,7 +88,8 @@ pub extern "C" fn mukthiban_tree_rename_file(
 {
     tree::change::rename_file(
         dir_hash, dir_table, file_hash, file_table, work, opens, *opened, inode, parent, name,
-    ).into()
+    )
+    .into()
 }
 
 #[unsafe(no_mangle)]
@@ -103,7 +107,8 @@ pub extern "C" fn mukthiban_tree_delete_dir(
 {
     tree::change::delete_dir(
         dir_hash, dir_table, file_hash, file_table, work, opens, opened, inode,
-    ).into()
+    )
+    .into()
 }
 
 #[unsafe(no_mangle)]
@@ -121,5 +126,6 @@ pub extern "C" fn mukthiban_tree_delete_file(
 {
     tree::change::delete_file(
         dir_hash, dir_table, file_hash, file_table, work, opens, opened, inode,
-    ).into()
+    )
+    .into()
 }

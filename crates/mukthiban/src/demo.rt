@@ -26,7 +26,8 @@ pub extern "C" fn mukthiban_kiosk_test(
 {
     kiosk::test(
         table, data, block_len, dir_hash, dir_table, file_hash, file_table, work,
-    ).into()
+    )
+    .into()
 }
 
 #[unsafe(no_mangle)]

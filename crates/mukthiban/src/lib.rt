@@ -93,9 +93,9 @@ impl From<Result<Counts, Refusal>> for Tested {
     ghost use Rattle.fat_test.specs.Promise.{tested, tested_by};
 
     ghost from_gives = { λ r t.
-      (t.answer ≡ number_of (answer_of r))
-      × (fault t.entry t.rule ≡ fault_in (answer_of r))
-      × (tested (answer_of r) t.free t.files ≡ tested_by r) };
+        (t.answer ≡ number_of (answer_of r))
+        × (fault t.entry t.rule ≡ fault_in (answer_of r))
+        × (tested (answer_of r) t.free t.files ≡ tested_by r) };
 
     fn from(r: Result<Counts, Refusal>) -> Tested {
         let found = order::broken_at(&r);
@@ -126,9 +126,9 @@ impl From<Result<usize, Refusal>> for Created {
     ghost use Rattle.order.specs.Answer.{answer_of, fault, fault_in, number_of};
 
     ghost from_gives = { λ r c.
-      (c.answer ≡ number_of (answer_of r))
-      × (fault c.entry c.rule ≡ fault_in (answer_of r))
-      × (c.first_block ≡ result_unwrap_or r 0) };
+        (c.answer ≡ number_of (answer_of r))
+        × (fault c.entry c.rule ≡ fault_in (answer_of r))
+        × (c.first_block ≡ result_unwrap_or r 0) };
 
     fn from(r: Result<usize, Refusal>) -> Created {
         let found = order::broken_at(&r);
@@ -180,9 +180,9 @@ impl From<Result<usize, Refusal>> for Opened {
     ghost use Rattle.order.specs.Answer.{answer_of, fault, fault_in, number_of};
 
     ghost from_gives = { λ r o.
-      (o.answer ≡ number_of (answer_of r))
-      × (fault o.entry o.rule ≡ fault_in (answer_of r))
-      × (o.count ≡ result_unwrap_or r 0) };
+        (o.answer ≡ number_of (answer_of r))
+        × (fault o.entry o.rule ≡ fault_in (answer_of r))
+        × (o.count ≡ result_unwrap_or r 0) };
 
     fn from(r: Result<usize, Refusal>) -> Opened {
         let found = order::broken_at(&r);
@@ -236,8 +236,8 @@ impl From<Result<MetaStat, Refusal>> for Stat {
     ghost use Rattle.tree_look.specs.Stat.{stat_given};
 
     ghost from_gives = { λ r s.
-      (s.answer ≡ number_of (answer_of r))
-      × (stat_gives (answer_of r) s.dir_total s.dir_free s.file_total s.file_free ≡ stat_given r) };
+        (s.answer ≡ number_of (answer_of r))
+        × (stat_gives (answer_of r) s.dir_total s.dir_free s.file_total s.file_free ≡ stat_given r) };
 
     fn from(r: Result<MetaStat, Refusal>) -> Stat {
         let stat = r.unwrap_or(MetaStat {
@@ -271,9 +271,9 @@ impl From<Looked> for Found {
     ghost use Rattle.order.specs.Answer.{answer_of, number_of};
 
     ghost from_gives = { λ l f.
-      (f.answer ≡ number_of (answer_of l.inode))
-      × (f.inode ≡ result_unwrap_or l.inode 0)
-      × (f.compared ≡ l.compared) };
+        (f.answer ≡ number_of (answer_of l.inode))
+        × (f.inode ≡ result_unwrap_or l.inode 0)
+        × (f.compared ≡ l.compared) };
 
     fn from(l: Looked) -> Found {
         Found {
@@ -299,7 +299,7 @@ impl From<Result<Option<Entry>, Refusal>> for Aged {
     ghost use Rattle.tree_aged.specs.Calls.{age_gives, aged_says};
 
     ghost from_gives = { λ r a.
-      (a.answer ≡ number_of (answer_of r)) × (age_gives (answer_of r) a.table a.inode ≡ aged_says r) };
+        (a.answer ≡ number_of (answer_of r)) × (age_gives (answer_of r) a.table a.inode ≡ aged_says r) };
 
     fn from(r: Result<Option<Entry>, Refusal>) -> Aged {
         let answer = order::number(&r);
@@ -357,9 +357,9 @@ impl From<Result<usize, Refusal>> for Audited {
     ghost use Rattle.order.specs.Answer.{answer_of, fault, fault_in, number_of};
 
     ghost from_gives = { λ r a.
-      (a.answer ≡ number_of (answer_of r))
-      × (fault a.entry a.rule ≡ fault_in (answer_of r))
-      × (a.count ≡ result_unwrap_or r 0) };
+        (a.answer ≡ number_of (answer_of r))
+        × (fault a.entry a.rule ≡ fault_in (answer_of r))
+        × (a.count ≡ result_unwrap_or r 0) };
 
     fn from(r: Result<usize, Refusal>) -> Audited {
         let found = order::broken_at(&r);
@@ -388,9 +388,9 @@ impl From<Result<usize, Refusal>> for Planned {
     ghost use Rattle.order.specs.Answer.{answer_of, fault, fault_in, number_of};
 
     ghost from_gives = { λ r p.
-      (p.answer ≡ number_of (answer_of r))
-      × (fault p.entry p.rule ≡ fault_in (answer_of r))
-      × (p.count ≡ result_unwrap_or r 0) };
+        (p.answer ≡ number_of (answer_of r))
+        × (fault p.entry p.rule ≡ fault_in (answer_of r))
+        × (p.count ≡ result_unwrap_or r 0) };
 
     fn from(r: Result<usize, Refusal>) -> Planned {
         let found = order::broken_at(&r);
@@ -420,8 +420,8 @@ impl From<Result<Walked, Refusal>> for Salvaged {
     ghost use Rattle.salvage.specs.Calls.{chain_gives, chain_says};
 
     ghost from_gives = { λ r s.
-      (s.answer ≡ number_of (answer_of r))
-      × ((list : List ℕ) → chain_gives (answer_of r) s.count (fault s.entry s.rule) list ≡ chain_says r list) };
+        (s.answer ≡ number_of (answer_of r))
+        × ((list : List ℕ) → chain_gives (answer_of r) s.count (fault s.entry s.rule) list ≡ chain_says r list) };
 
     fn from(r: Result<Walked, Refusal>) -> Salvaged {
         let walked = r.unwrap_or(Walked {
@@ -453,9 +453,9 @@ impl From<Result<u32, Refusal>> for Profiled {
     ghost use Rattle.order.specs.Answer.{answer_of, fault, fault_in, number_of};
 
     ghost from_gives = { λ r p.
-      (p.answer ≡ number_of (answer_of r))
-      × (fault p.entry p.rule ≡ fault_in (answer_of r))
-      × (p.broken ≡ result_unwrap_or r 0) };
+        (p.answer ≡ number_of (answer_of r))
+        × (fault p.entry p.rule ≡ fault_in (answer_of r))
+        × (p.broken ≡ result_unwrap_or r 0) };
 
     fn from(r: Result<u32, Refusal>) -> Profiled {
         let found = order::broken_at(&r);

@@ -21,7 +21,8 @@ pub extern "C" fn mukthiban_tree_lookup_dir(
 {
     tree::look::lookup_dir(
         dir_hash, dir_table, file_hash, file_table, work, parent, name,
-    ).into()
+    )
+    .into()
 }
 
 #[unsafe(no_mangle)]
@@ -38,7 +39,8 @@ pub extern "C" fn mukthiban_tree_list_dirs(
 {
     tree::look::list_dirs(
         dir_hash, dir_table, file_hash, file_table, work, inode, list,
-    ).into()
+    )
+    .into()
 }
 
 #[unsafe(no_mangle)]
@@ -74,7 +76,8 @@ pub extern "C" fn mukthiban_tree_set_carried_dir(
 {
     tree::carry::set_carried_dir(
         dir_hash, dir_table, file_hash, file_table, work, inode, *carried,
-    ).into()
+    )
+    .into()
 }
 
 #[unsafe(no_mangle)]
@@ -91,7 +94,8 @@ pub extern "C" fn mukthiban_tree_lookup_file(
 {
     tree::look::lookup_file(
         dir_hash, dir_table, file_hash, file_table, work, parent, name,
-    ).into()
+    )
+    .into()
 }
 
 #[unsafe(no_mangle)]
@@ -108,7 +112,8 @@ pub extern "C" fn mukthiban_tree_list_files(
 {
     tree::look::list_files(
         dir_hash, dir_table, file_hash, file_table, work, inode, list,
-    ).into()
+    )
+    .into()
 }
 
 #[unsafe(no_mangle)]
@@ -144,7 +149,8 @@ pub extern "C" fn mukthiban_tree_set_carried_file(
 {
     tree::carry::set_carried_file(
         dir_hash, dir_table, file_hash, file_table, work, inode, *carried,
-    ).into()
+    )
+    .into()
 }
 
 #[unsafe(no_mangle)]

@@ -63,7 +63,10 @@ pub extern "C" fn mukthiban_tree_name(
 ) -> Named
     ensures { Exported result.answer (λ a. NamePromise (tables dir_hash.now dir_table.now file_hash.now file_table.now) work.old kind inode (beside (named_gives a result.offset) work.new)) }
 {
-    name(dir_hash, dir_table, file_hash, file_table, work, kind, inode).into()
+    name(
+        dir_hash, dir_table, file_hash, file_table, work, kind, inode,
+    )
+    .into()
 }
 
 // Where the name of entry x of a sound table of width w begins.

@@ -38,13 +38,20 @@ pub extern "C" fn mukthiban_tree_open_dir(
     ensures { Exported result.answer (λ a. OpenKindPromise Directory (tables dir_hash.now dir_table.now file_hash.now file_table.now) (packed.opens opened.old opens.old) work.old inode kind (beside (gives a 0 (tables dir_hash.now dir_table.now file_hash.now file_table.now) (packed.opens opened.new opens.new)) work.new)) }
 {
     if kind > 1 {
-        return Plain::from(Err(other_kind(
-            dir_hash, dir_table, file_hash, file_table,
-        )));
+        return Plain::from(Err(other_kind(dir_hash, dir_table, file_hash, file_table)));
     }
     tree::opens::open_dir(
-        dir_hash, dir_table, file_hash, file_table, work, opens, opened, inode, want_of(kind),
-    ).into()
+        dir_hash,
+        dir_table,
+        file_hash,
+        file_table,
+        work,
+        opens,
+        opened,
+        inode,
+        want_of(kind),
+    )
+    .into()
 }
 
 #[unsafe(no_mangle)]
@@ -62,13 +69,20 @@ pub extern "C" fn mukthiban_tree_open_file(
     ensures { Exported result.answer (λ a. OpenKindPromise File (tables dir_hash.now dir_table.now file_hash.now file_table.now) (packed.opens opened.old opens.old) work.old inode kind (beside (gives a 0 (tables dir_hash.now dir_table.now file_hash.now file_table.now) (packed.opens opened.new opens.new)) work.new)) }
 {
     if kind > 1 {
-        return Plain::from(Err(other_kind(
-            dir_hash, dir_table, file_hash, file_table,
-        )));
+        return Plain::from(Err(other_kind(dir_hash, dir_table, file_hash, file_table)));
     }
     tree::opens::open_file(
-        dir_hash, dir_table, file_hash, file_table, work, opens, opened, inode, want_of(kind),
-    ).into()
+        dir_hash,
+        dir_table,
+        file_hash,
+        file_table,
+        work,
+        opens,
+        opened,
+        inode,
+        want_of(kind),
+    )
+    .into()
 }
 
 #[unsafe(no_mangle)]
@@ -86,13 +100,20 @@ pub extern "C" fn mukthiban_tree_close_dir(
     ensures { Exported result.answer (λ a. CloseKindPromise Directory (tables dir_hash.now dir_table.now file_hash.now file_table.now) (packed.opens opened.old opens.old) work.old inode kind (beside (gives a 0 (tables dir_hash.now dir_table.now file_hash.now file_table.now) (packed.opens opened.new opens.new)) work.new)) }
 {
     if kind > 1 {
-        return Plain::from(Err(other_kind(
-            dir_hash, dir_table, file_hash, file_table,
-        )));
+        return Plain::from(Err(other_kind(dir_hash, dir_table, file_hash, file_table)));
     }
     tree::opens::close_dir(
-        dir_hash, dir_table, file_hash, file_table, work, opens, opened, inode, want_of(kind),
-    ).into()
+        dir_hash,
+        dir_table,
+        file_hash,
+        file_table,
+        work,
+        opens,
+        opened,
+        inode,
+        want_of(kind),
+    )
+    .into()
 }
 
 #[unsafe(no_mangle)]
@@ -110,11 +131,18 @@ pub extern "C" fn mukthiban_tree_close_file(
     ensures { Exported result.answer (λ a. CloseKindPromise File (tables dir_hash.now dir_table.now file_hash.now file_table.now) (packed.opens opened.old opens.old) work.old inode kind (beside (gives a 0 (tables dir_hash.now dir_table.now file_hash.now file_table.now) (packed.opens opened.new opens.new)) work.new)) }
 {
     if kind > 1 {
-        return Plain::from(Err(other_kind(
-            dir_hash, dir_table, file_hash, file_table,
-        )));
+        return Plain::from(Err(other_kind(dir_hash, dir_table, file_hash, file_table)));
     }
     tree::opens::close_file(
-        dir_hash, dir_table, file_hash, file_table, work, opens, opened, inode, want_of(kind),
-    ).into()
+        dir_hash,
+        dir_table,
+        file_hash,
+        file_table,
+        work,
+        opens,
+        opened,
+        inode,
+        want_of(kind),
+    )
+    .into()
 }

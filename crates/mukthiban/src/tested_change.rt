@@ -26,7 +26,8 @@ pub extern "C" fn mukthiban_tested_tree_make_dir(
 {
     tree_make::make_dir(
         dir_hash, dir_table, file_hash, file_table, opens, opened, parent, name, carried,
-    ).into()
+    )
+    .into()
 }
 
 #[unsafe(no_mangle)]
@@ -46,7 +47,8 @@ pub extern "C" fn mukthiban_tested_tree_make_file(
 {
     tree_make::make_file(
         dir_hash, dir_table, file_hash, file_table, opens, opened, parent, name, carried,
-    ).into()
+    )
+    .into()
 }
 
 #[unsafe(no_mangle)]
@@ -66,7 +68,8 @@ pub extern "C" fn mukthiban_tested_tree_rename_dir(
 {
     tree_change::rename_dir(
         dir_hash, dir_table, file_hash, file_table, opens, *opened, inode, parent, name,
-    ).into()
+    )
+    .into()
 }
 
 #[unsafe(no_mangle)]
@@ -86,7 +89,8 @@ pub extern "C" fn mukthiban_tested_tree_rename_file(
 {
     tree_change::rename_file(
         dir_hash, dir_table, file_hash, file_table, opens, *opened, inode, parent, name,
-    ).into()
+    )
+    .into()
 }
 
 #[unsafe(no_mangle)]
@@ -104,7 +108,8 @@ pub extern "C" fn mukthiban_tested_tree_delete_dir(
 {
     tree_change::delete_dir(
         dir_hash, dir_table, file_hash, file_table, opens, opened, inode,
-    ).into()
+    )
+    .into()
 }
 
 #[unsafe(no_mangle)]
@@ -122,5 +127,6 @@ pub extern "C" fn mukthiban_tested_tree_delete_file(
 {
     tree_change::delete_file(
         dir_hash, dir_table, file_hash, file_table, opens, opened, inode,
-    ).into()
+    )
+    .into()
 }

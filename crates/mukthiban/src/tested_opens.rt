@@ -33,7 +33,8 @@ pub extern "C" fn mukthiban_tested_tree_open_dir(
         opened,
         inode,
         want_of(kind),
-    ).into()
+    )
+    .into()
 }
 
 #[unsafe(no_mangle)]
@@ -58,7 +59,8 @@ pub extern "C" fn mukthiban_tested_tree_open_file(
         opened,
         inode,
         want_of(kind),
-    ).into()
+    )
+    .into()
 }
 
 #[unsafe(no_mangle)]
@@ -83,7 +85,8 @@ pub extern "C" fn mukthiban_tested_tree_close_dir(
         opened,
         inode,
         want_of(kind),
-    ).into()
+    )
+    .into()
 }
 
 #[unsafe(no_mangle)]
@@ -108,5 +111,6 @@ pub extern "C" fn mukthiban_tested_tree_close_file(
         opened,
         inode,
         want_of(kind),
-    ).into()
+    )
+    .into()
 }

@@ -22,7 +22,8 @@ pub extern "C" fn mukthiban_tree_format(
 {
     tree::format::format(
         dir_hash, dir_table, dir_max, file_hash, file_table, file_max,
-    ).into()
+    )
+    .into()
 }
 
 #[unsafe(no_mangle)]

@@ -23,5 +23,6 @@ pub extern "C" fn mukthiban_volume_audit(
 {
     audit::audit(
         table, data, block_len, dir_hash, dir_table, file_hash, file_table, work, list,
-    ).into()
+    )
+    .into()
 }

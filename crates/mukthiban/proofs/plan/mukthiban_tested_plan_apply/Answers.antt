@@ -1,0 +1,5 @@
+-- `mukthiban_tested_plan_apply` meets its contract.
+use Rattle.mukthiban.proofs.plan.mukthiban_tested_plan_apply.Goals as goal
+
+pub returns : goal.returns
+returns c = (_, c.into.ensures.0, c.into.ensures.1, rw c.into.ensures.2 c.tested_apply.ensures)
