@@ -1,9 +1,8 @@
 // The bytes that a caller keeps in an entry, and its name: read, written and shown on sound tables. Nothing here tests soundness.
 #![tactic(auto)]
 
-ghost use Rattle.std.specs.Prelude.{◌≡◌, [], ◌+◌, ◌*◌, ◌≤◌, length, take, drop, replicate};
+ghost use Rattle.std.specs.Prelude.{◌≡◌, [], ◌++◌, ◌+◌, ◌*◌, ◌≤◌, length, take, drop, replicate};
 ghost use Rattle.std.specs.Result.{result_unwrap_or};
-ghost use Rattle.words.specs.Word.{word, put_word};
 ghost use Rattle.order.specs.First.{First};
 ghost use Rattle.order.specs.Answer.{Done, answer_of};
 ghost use Rattle.tree_sound.specs.Tables.{Tables, tables};
@@ -26,28 +25,21 @@ fn bytes_at<const N: usize>(table: &[u8], at: usize) -> [u8; N]
     out
 }
 
+// Writes N bytes to a table, from a place on.
+fn put_bytes<const N: usize>(table: &mut [u8], at: usize, bytes: &[u8; N])
+    requires { at + N ≤ length table.old }
+    ensures { table.new ≡ take at table.old ++ (bytes.now ++ drop (at + N) table.old) }
+{
+    table[at..at + N].copy_from_slice(bytes);
+}
+
 // Writes the four bytes that a directory carries.
 pub fn put_carried_dir(dirs: &mut [u8], x: u32, padding: &[u8; 4])
     requires { x * 40 + 40 ≤ length dirs.old }
     ensures { dirs.new ≡ (with_carried Directory (tables [] dirs.old [] []) x padding.now).dir_table }
 {
-    let v = words::get_u32(padding, 0);
-    tree_table::put_link(dirs, SaveExtDirEntry::WIDTH, SaveExtDirEntry::CARRIED, x, v);
-}
-
-// One word of the bytes that a file carries, the one from byte i on.
-fn put_part(files: &mut [u8], x: u32, carried: &[u8; 20], i: usize)
-    requires { (x * 48 + 48 ≤ length files.old) × (i ≤ 16) }
-    ensures { files.new ≡ put_word files.old (x * 48 + (24 + i)) (word carried.now i) }
-{
-    let v = words::get_u32(carried, i);
-    tree_table::put_link(
-        files,
-        SaveExtFileEntry::WIDTH,
-        SaveExtFileEntry::CARRIED + i,
-        x,
-        v,
-    );
+    let entry = tree_table::index(x) * SaveExtDirEntry::WIDTH;
+    put_bytes(dirs, entry + SaveExtDirEntry::CARRIED, padding);
 }
 
 // Writes the twenty bytes that a file carries.
@@ -55,11 +47,8 @@ pub fn put_carried_file(files: &mut [u8], x: u32, carried: &[u8; 20])
     requires { x * 48 + 48 ≤ length files.old }
     ensures { files.new ≡ (with_carried File (tables [] [] [] files.old) x carried.now).file_table }
 {
-    put_part(files, x, carried, 0);
-    put_part(files, x, carried, 4);
-    put_part(files, x, carried, 8);
-    put_part(files, x, carried, 12);
-    put_part(files, x, carried, 16);
+    let entry = tree_table::index(x) * SaveExtFileEntry::WIDTH;
+    put_bytes(files, entry + SaveExtFileEntry::CARRIED, carried);
 }
 
 // Reads the N bytes that entry x of a table carries, from place `at` of the entry on.
