@@ -132,12 +132,15 @@ take_long n t s w e h = omega (arith, e, length-take-le (n + rooms_in s) w h)
 -- ---- once the sizes have passed, the gates tell of soundness
 
 module _ (t : Bytes) (d l : ℕ) (s : Tables) (f : Fit t d l s) (work work' : List ℕ) (room : places t s ≤ length work) where
-  pub blocks_broken : (a : why.Refusal) → fat.GateOf t d l work work' (Err a) → SoundOf t s (Err a)
-  blocks_broken a (inl p) = absurd (f.even p.0)
-  blocks_broken a (inr (m, inl p)) = absurd (f.fit p.0)
-  blocks_broken a (inr (m, inr (i, inl p))) = let z : ⊥ = omega (arith, p.0, room) in absurd z
-  blocks_broken a (inr (m, inr (i, inr (h, p)))) =
+  broken : (a : why.Refusal) → fat.GateOf t d l work work' (Err a) → Given (broken_rows t s) (Err a)
+  broken a (inl p) = absurd (f.even p.0)
+  broken a (inr (m, inl p)) = absurd (f.fit p.0)
+  broken a (inr (m, inr (i, inl p))) = let z : ⊥ = omega (arith, p.0, room) in absurd z
+  broken a (inr (m, inr (i, inr (h, p)))) =
       given_left (unsound t) (row (SoundIn s → ⊥) BrokenTree ∷ []) (Err a) (later_answer (blocks t) work (unsound t) (Err a) work' p)
+
+  pub blocks_broken : (a : why.Refusal) → fat.GateOf t d l work work' (Err a) → (o : Answer) → o ≡ Err a → SoundOf t s o
+  blocks_broken a p o e = subst⁻¹ (SoundOf t s) e (broken a p)
 
   module _ (c : Counts) (opened : fat.GateOf t d l work work' (Ok c)) (work₁ work₂ : List ℕ) (long : length work₁ ≡ length work) where
     sound_rows : None (unsound t)
@@ -161,9 +164,9 @@ module _ (t : Bytes) (d l : ℕ) (s : Tables) (work work₁ : List ℕ) (same : 
   stays : (g : Answer) → VolumeGateOf t d l s work work g → VolumeGateOf t d l s work work₁ g
   stays g p = subst⁻¹ (λ (w : List ℕ). VolumeGateOf t d l s work w g) same p
 
-  pub gate_sized : (a : why.Refusal) → Given (size_rows t d l s) (Err a) → VolumeGateOf t d l s work work₁ (Err a)
+  pub gate_sized : (a : why.Refusal) → Given (size_rows t d l s) (Err a) → (o : Answer) → o ≡ Err a → VolumeGateOf t d l s work work₁ o
   unfolding VolumeGateOf
-  gate_sized a p = stays (Err a) (go p)
+  gate_sized a p o e = subst⁻¹ (VolumeGateOf t d l s work work₁) e (stays (Err a) (go p))
     where
       go : Given (size_rows t d l s) (Err a) → VolumeGateOf t d l s work work (Err a)
       go (inl p) = inl (p.0, ap (λ (x : Answer). refusal x work) p.1)
