@@ -1,28 +1,22 @@
 -- The ways out of the call that follows one chain.
-use mathlib.Core.Path.{◌≡◌, refl, ap, subst⁻¹, ◌∙◌}
-use mathlib.Core.List.{List, ◌++◌}
-use mathlib.Core.Bool.{Bool, true, false, not}
-use mathlib.Core.Logic.{inl, inr}
-use Prim.Native.Nat.{ℕ, ◌≤◌, ◌<◌}
+use mathlib.Core.Path.{◌≡◌, ap, ◌∙◌}
+use mathlib.Core.List.{List}
+use mathlib.Core.Bool.{Bool, true}
+use mathlib.Core.Logic.{inr}
+use Prim.Native.Nat.{ℕ, ◌≤◌}
 use native.Mathlib.Omega.{arith}
-use lib.ListN.{length, drop, replicate}
+use lib.ListN.{length, replicate}
 use lib.Seq.{sets}
-use Rattle.std.specs.Prelude.{Ok, Err}
+use Rattle.std.specs.Prelude.{Ok}
 use Rattle.order.specs.Answer.{unbroken}
 use Rattle.order.specs.Answer as is
-use Rattle.order.specs.Beside.{beside}
-use Rattle.order.specs.declared.Fault.{Fault}
-use Rattle.order.specs.declared.Refusal.TheVariants as refusal
-use Rattle.order.proofs.Beside.{passed}
 use Rattle.fat_node.specs.Entry.{Bytes}
 use Rattle.fat_node.specs.Node.{Run}
-use Rattle.fat_node.specs.Sizes.{blocks, Misfit, Outside}
-use Rattle.fat_node.proofs.Sizes.{denied}
 use Rattle.fat_table.specs.Chain.{total}
 use Rattle.fat_promises.specs.Blocks.{blocks_of}
 use Rattle.fat_list.proofs.Lists.{listed_is}
 use Rattle.salvage.specs.Follow.{salvaged}
-use Rattle.salvage.specs.Calls.{Followed, chain_gives, chain_says, chain_rows, chain_done, salvage_gate, ChainPromise}
+use Rattle.salvage.specs.Calls.{chain_gives, chain_says}
 use Rattle.salvage.specs.Inner.Walks.{Tells, WalkSays, ChainSays}
 use Rattle.salvage.specs.declared.Walked.{Walked}
 use Rattle.salvage.proofs.Walks.{read_some}

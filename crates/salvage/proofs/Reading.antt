@@ -1,17 +1,16 @@
 -- The test that a node can be read says yes exactly where one stands.
-use mathlib.Core.Path.{◌≡◌, refl, sym, ap, subst, ◌∙◌}
+use mathlib.Core.Path.{◌≡◌, sym, ap, subst}
 use mathlib.Core.Bool.{Bool, true, false, ◌&&◌}
 use mathlib.Core.Logic.{⊎_elim}
-use Prim.Native.Nat.{ℕ, ◌+◌, ◌-◌, ◌≤◌, ◌<◌}
+use Prim.Native.Nat.{ℕ, ◌+◌, ◌-◌, ◌≤◌}
 use native.Mathlib.Omega.{arith}
 use lib.Dec.{eqb, ltb}
 use borrow.Author.Tests.{ltb-true, eqb-true, eqb-false, lt-ltb, eq-eqb}
 use Rattle.order.specs.declared.Fault.{Fault}
-use Rattle.fat_node.specs.Entry.{Bytes, top, v_at}
+use Rattle.fat_node.specs.Entry.{Bytes, v_at}
 use Rattle.fat_node.specs.Node.{NodeAt}
 use Rattle.fat_node.specs.Fault.{when, node_fault}
-use Rattle.fat_node.proofs.Faults.{and_yes, yes_and, clear_node, node_clear, when_yes, when_no, tell}
-use Rattle.fat_node.proofs.Cases.{untrue}
+use Rattle.fat_node.proofs.Faults.{and_yes, yes_and, clear_node, node_clear}
 use Rattle.fat_table.specs.Chain.{size_at}
 use Rattle.fat_table.proofs.Sounds.{node_size}
 use Rattle.salvage.specs.Follow.{readable, unread, missed}

@@ -5,11 +5,10 @@ use mathlib.Core.Bool.{Bool, true, false, not}
 use mathlib.Core.Logic.{⊎_elim}
 use Prim.Native.Nat.{ℕ, zero, suc, ◌+◌, ◌-◌, ◌≤◌, ◌<◌}
 use native.Mathlib.Omega.{arith}
-use lib.ListN.{length, get_or, set, replicate, length-set, length-append}
-use lib.Seq.{get_or-set_same, get_or-set_other}
+use lib.ListN.{length, get_or, replicate, length-append}
 use lib.Dec.{eqb, ltb}
 use borrow.Author.Tests.{eq-eqb, ne_eqb, lt-ltb, le-ltb}
-use Rattle.std.specs.Prelude.{Result, Ok, Err, is_ok}
+use Rattle.std.specs.Prelude.{Ok, Err}
 use Rattle.order.specs.Answer.{fault, unbroken}
 use Rattle.order.specs.declared.Fault.{Fault}
 use Rattle.fat_node.specs.Entry.{Bytes}
@@ -19,7 +18,6 @@ use Rattle.fat_node.specs.Inner.Reads.{Unread, Reads}
 use Rattle.fat_node.specs.declared.Node.{Node}
 use Rattle.fat_node.proofs.Faults.{when_yes, when_no}
 use Rattle.fat_node.proofs.Nodes.{le_or_lt}
-use Rattle.fat_node.proofs.Cases.{untrue}
 use Rattle.fat_table.specs.Chain.{total, size_at}
 use Rattle.fat_table.specs.Layout.{hits, covers}
 use Rattle.fat_table.proofs.Layouts.{hits_in, hits_lo, hits_hi, covers_append}
@@ -27,7 +25,7 @@ use Rattle.fat_table.proofs.Chains.{zero_or_not}
 use Rattle.fat_table.proofs.Sounds.{node_size}
 use Rattle.fat_table.proofs.Unchanged.{total_append}
 use Rattle.salvage.specs.Follow.{readable, unread, shared, salvage, missed, follow, salvaged}
-use Rattle.salvage.specs.Inner.Walks.{Looked, LookSays, Tells, Below, Taken, Clash, TakeSays, WalkSays}
+use Rattle.salvage.specs.Inner.Walks.{Looked, LookSays, Tells, Below, Taken, TakeSays, WalkSays}
 use Rattle.salvage.proofs.Reading.{readable_node, node_readable}
 use Rattle.salvage.proofs.Bounds.{Apart, apart_on, apart_none, total_apart, length_total, shared_none, none_shared}
 use Rattle.salvage.proofs.Follows.{follow_whole, follow_none, follow_missed, follow_overlap, follow_on}

@@ -1,5 +1,5 @@
 -- What a chain that is told 0 is worth: it is whole, and no other whole chain of the list has a block of it.
-use mathlib.Core.Path.{◌≡◌, refl, sym, ap, subst, ◌∙◌}
+use mathlib.Core.Path.{◌≡◌, refl, sym, ap, ◌∙◌}
 use mathlib.Core.List.{List, [], ◌∷◌}
 use mathlib.Core.Bool.{Bool, true, false, cond}
 use mathlib.Core.Logic.{⊎_elim}
@@ -12,7 +12,7 @@ use Rattle.fat_node.specs.Entry.{Bytes}
 use Rattle.fat_node.specs.Node.{Run}
 use Rattle.fat_node.proofs.Nodes.{le_or_lt}
 use Rattle.fat_node.proofs.Faults.{or_no}
-use Rattle.fat_table.specs.Layout.{hits, covers}
+use Rattle.fat_table.specs.Layout.{covers}
 use Rattle.fat_table.proofs.Layouts.{hits_lo, hits_hi}
 use Rattle.salvage.specs.Follow.{salvaged}
 use Rattle.salvage_shared.specs.Shared.{kinds, laid, twice, meets, told, tells, trusts}

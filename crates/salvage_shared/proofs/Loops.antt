@@ -1,27 +1,25 @@
 -- The loops over the first blocks: what is judged, counted and told of those before place i.
-use mathlib.Core.Path.{◌≡◌, refl, sym, ap, subst, subst⁻¹, ◌∙◌}
+use mathlib.Core.Path.{◌≡◌, refl, sym, ap, subst, ◌∙◌}
 use mathlib.Core.List.{List, [], ◌∷◌, ◌++◌, append-nil, append_assoc}
 use mathlib.Core.Bool.{Bool, true, false, cond}
-use mathlib.Core.Logic.{⊎_elim}
-use Prim.Native.Nat.{ℕ, zero, suc, ◌+◌, ◌*◌, ◌-◌, ◌≤◌, ◌<◌}
+use Prim.Native.Nat.{ℕ, zero, suc, ◌+◌, ◌*◌, ◌≤◌, ◌<◌}
 use native.Mathlib.Omega.{arith}
 use lib.Dec.{eqb, leb}
-use lib.ListN.{length, get_or, set, drop, take, replicate, length-set, drop_of_length-le}
-use lib.Seq.{sets, sets-eq, drop-cons, get_or-set_other}
-use borrow.Author.Tests.{eq-eqb, ne_eqb, le-leb, lt-leb, eqb-true}
+use lib.ListN.{length, get_or, drop, drop_of_length-le}
+use lib.Seq.{sets, sets-eq, drop-cons}
+use borrow.Author.Tests.{eq-eqb, ne_eqb, le-leb, eqb-true}
 use Rattle.order.specs.declared.Fault.{Fault}
 use Rattle.fat_node.specs.Entry.{Bytes}
 use Rattle.fat_node.specs.Node.{Run, NodeAt}
-use Rattle.fat_node.proofs.Nodes.{le_or_lt}
 use Rattle.fat_table.specs.Chain.{total}
 use Rattle.salvage.specs.Follow.{salvaged, salvage, unread}
-use Rattle.salvage.specs.Inner.Walks.{Below, WalkSays}
+use Rattle.salvage.specs.Inner.Walks.{WalkSays}
 use Rattle.salvage.proofs.Reading.{unread_not}
 use Rattle.salvage.proofs.Bounds.{apart_none, total_apart}
 use Rattle.salvage.proofs.Follows.{left, follow_none}
-use Rattle.salvage.proofs.Walks.{unreadable, clear_below}
-use Rattle.salvage_shared.specs.Shared.{kind_of, kinds, whole_runs, laid, meets, told, tells}
-use Rattle.salvage_shared.specs.Inner.Says.{Counts, Added, MeetsRuns, Tells, TellsAll, Sized, WholeAt, Told, Kinds, MayJudge, Judges, MayShare, JudgedAll}
+use Rattle.salvage.proofs.Walks.{unreadable}
+use Rattle.salvage_shared.specs.Shared.{kind_of, kinds, whole_runs, laid, told, tells}
+use Rattle.salvage_shared.specs.Inner.Says.{Counts, Added, MeetsRuns, Tells, TellsAll, Kinds, MayJudge, Judges, MayShare, JudgedAll}
 use Rattle.salvage_shared.proofs.Counted.{added_none, added_append}
 
 -- ---- places

@@ -1,14 +1,12 @@
 -- The ways out of the call that tells of some chains.
-use mathlib.Core.Path.{◌≡◌, refl, sym, ap, subst, subst⁻¹, ◌∙◌}
-use mathlib.Core.List.{List, [], ◌∷◌, ◌++◌}
-use mathlib.Core.Bool.{Bool, true, false}
-use mathlib.Core.Logic.{◌⊎◌, inl, inr, ⊎_elim}
-use Prim.Native.Nat.{ℕ, ◌≤◌, ◌<◌}
+use mathlib.Core.Path.{◌≡◌, refl, ap, subst, subst⁻¹, ◌∙◌}
+use mathlib.Core.List.{List, [], ◌++◌}
+use mathlib.Core.Logic.{◌⊎◌, ⊎_elim}
+use Prim.Native.Nat.{ℕ, ◌<◌}
 use native.Mathlib.Omega.{arith}
 use lib.ListN.{length, take, drop, replicate, length-replicate}
 use lib.Seq.{length-take-le}
-use Rattle.std.specs.Prelude.{Ok, Err}
-use Rattle.order.specs.Answer as is
+use Rattle.std.specs.Prelude.{Err}
 use Rattle.order.specs.Answer.{Answer}
 use Rattle.order.specs.Beside.{beside}
 use Rattle.order.specs.First.{First}
@@ -19,7 +17,7 @@ use Rattle.order.proofs.Beside.{passed, refused}
 use Rattle.order.proofs.Gate.{gate_given}
 use Rattle.fat_node.specs.Entry.{Bytes}
 use Rattle.fat_node.specs.Sizes.{blocks, Misfit, Outside}
-use Rattle.salvage_shared.specs.Shared.{kinds, laid, tells, trusts}
+use Rattle.salvage_shared.specs.Shared.{laid, tells, trusts}
 use Rattle.salvage_shared.specs.Calls.{Shared, shared_gives, shared_rows, shared_done, shared_gate, SharedPromise}
 use Rattle.salvage_shared.specs.Inner.Says.{Added, TellsAll, Sized, Kinds, MayShare, JudgedAll, Shares, SharedSays, Fitting, BlocksFor}
 use Rattle.salvage_shared.proofs.Counted.{added_clear}

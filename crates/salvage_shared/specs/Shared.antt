@@ -1,6 +1,6 @@
 -- Of some chains of a table of any bytes: which are whole, which are cut, and which are whole but share a block. n is the number of blocks, t the table, b a
 -- first block, k what is told of its chain: 0 whole, 1 cut, 2 shared, 3 not followed.
-use Rattle.std.specs.Prelude.{List, [], ◌∷◌, ◌++◌, Bool, true, false, cond, ◌||◌, ℕ, zero, suc, ◌+◌, ◌*◌, eqb, leb}
+use Rattle.std.specs.Prelude.{List, [], ◌∷◌, ◌++◌, Bool, false, cond, ◌||◌, ℕ, zero, suc, ◌+◌, ◌*◌, eqb, leb}
 use Rattle.fat_node.specs.Entry.{Bytes}
 use Rattle.fat_node.specs.Node.{Run}
 use Rattle.fat_table.specs.Chain.{total}

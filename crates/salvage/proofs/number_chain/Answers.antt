@@ -1,5 +1,4 @@
 -- `salvage::number_chain` meets its contract.
-use Prim.Native.Nat.{◌-◌}
 use native.Mathlib.Omega.{arith}
 use Rattle.salvage.proofs.Fills.{fill_begin, fill_end, fill_some, fill_node, fill_below, fill_fits, fill_next}
 use Rattle.salvage.proofs.number_chain.Goals as goal

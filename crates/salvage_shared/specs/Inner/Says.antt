@@ -1,5 +1,5 @@
 -- What the functions inside say. A place of the work list counts the whole chains that its block is in, as 0, 1, or 2 for more than one.
-use Rattle.std.specs.Prelude.{◌≡◌, Result, Ok, Err, Bool, cond, List, [], ◌∷◌, ℕ, ◌+◌, ◌*◌, ◌≤◌, ◌<◌, leb, length, get_or, replicate}
+use Rattle.std.specs.Prelude.{◌≡◌, Result, Ok, Err, Bool, cond, List, ◌∷◌, ℕ, ◌+◌, ◌*◌, ◌≤◌, ◌<◌, leb, length, get_or, replicate}
 use Rattle.order.specs.First.{First}
 use Rattle.order.specs.Gate.{refusal}
 use Rattle.order.specs.Given.{Given}
