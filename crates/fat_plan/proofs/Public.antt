@@ -1,5 +1,5 @@
 -- The public calls: the gate, then the call that requires soundness on the front of the work list, which it leaves cleared.
-use mathlib.Core.Path.{◌≡◌, sym, ap, subst, subst⁻¹, ◌∙◌}
+use mathlib.Core.Path.{◌≡◌, sym, ap, subst⁻¹, ◌∙◌}
 use mathlib.Core.List.{List, [], ◌++◌}
 use Prim.Native.Nat.{ℕ, ◌+◌, ◌≤◌}
 use native.Mathlib.Omega.{arith}
@@ -13,18 +13,16 @@ use Rattle.order.specs.Answer.{Done}
 use Rattle.fat_node.specs.Entry.{Bytes}
 use Rattle.fat_node.specs.Sizes.{blocks}
 use Rattle.fat_test.specs.Gate.{Uneven, gate_with}
-use Rattle.fat_test.specs.Inner.Gated.{OpenedWith, GateWith, GateOf}
+use Rattle.fat_test.specs.Inner.Gated.{OpenedWith, Opened}
 use Rattle.fat_promises.specs.Promise.{beside, Promise}
 use Rattle.fat_promises.specs.Calls.{Listing, list_gives}
 use Rattle.fat.proofs.Public.{passed}
 use Rattle.fat_plan.specs.Promise.{check_tests, CheckSound, CheckPromise, find_rows, find_done, FindSound, FindPromise}
 
 -- more are the gate's rows after soundness
-module _ (t : Bytes) (d l : ℕ) (more : List (Row Answer)) (work work' : List ℕ) (r : Gated) (g : GateWith (Uneven t d l) t l more work work' r) (free files n : ℕ) (e : r ≡ gate.Open free files) (q : n ≡ blocks t) where
+module _ (t : Bytes) (d l : ℕ) (more : List (Row Answer)) (work work' : List ℕ) (free files n : ℕ) (g : OpenedWith (Uneven t d l) t l more work work' free files) (q : n ≡ blocks t) where
   work_is : work' ≡ replicate n 0 ++ drop n work
-  work_is =
-      let v : OpenedWith (Uneven t d l) t l more work work' free files = subst (GateWith (Uneven t d l) t l more work work') e g in
-      v.clear ∙ ap (λ (m : ℕ). cleared m work) (sym q)
+  work_is = g.clear ∙ ap (λ (m : ℕ). cleared m work) (sym q)
 
   pub lent_fits : n ≤ length work'
   lent_fits =
@@ -54,16 +52,16 @@ module _ (t : Bytes) (d l : ℕ) (more : List (Row Answer)) (work work' : List �
       subst⁻¹
       (λ (x : List ℕ). Promised (gate_with (λ a w. beside (refuse a) w) (Uneven t d l) t l more work) (cleared (blocks t) work) (own (blocks t)) (done (blocks t)) (beside o x))
       (lent_back w z)
-      (passed t d l more work work' r g refuse own done free files n o e q p)
+      (passed t d l more work work' refuse own done free files n o g q p)
 
-module _ (t : Bytes) (d l : ℕ) (work work' : List ℕ) (r : Gated) (g : GateOf t d l work work' r) (free files n : ℕ) (e : r ≡ gate.Open free files) (q : n ≡ blocks t) where
+module _ (t : Bytes) (d l : ℕ) (work work' : List ℕ) (free files n : ℕ) (g : Opened t d l work work' free files) (q : n ≡ blocks t) where
   pub check_passed : (b : ℕ) (plan : List ℕ) (o : Answer) (w : List ℕ) → CheckSound n t b plan o → w ≡ replicate n 0
       → CheckPromise t d l work b plan (beside o (w ++ drop n work'))
   unfolding Promise
-  check_passed b plan o w p z = went t d l [] work work' r g free files n e q (λ a. a) (λ m. check_tests m t b plan) (λ m. Done) o w p z
+  check_passed b plan o w p z = went t d l [] work work' free files n g q (λ a. a) (λ m. check_tests m t b plan) (λ m. Done) o w p z
 
   pub find_passed : (b : ℕ) (list : List ℕ) (o : Listing) (w : List ℕ) → FindSound n t b list o → w ≡ replicate n 0
       → FindPromise t d l work b list (beside o (w ++ drop n work'))
   unfolding Promise
   find_passed b list o w p z =
-      went t d l [] work work' r g free files n e q (λ a. list_gives a 0 list) (λ m. find_rows m t b list) (λ m. find_done m t b list) o w p z
+      went t d l [] work work' free files n g q (λ a. list_gives a 0 list) (λ m. find_rows m t b list) (λ m. find_done m t b list) o w p z

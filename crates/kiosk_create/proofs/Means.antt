@@ -12,10 +12,8 @@ use Rattle.order.specs.Answer.{Done}
 use Rattle.fat_node.specs.Entry.{Bytes}
 use Rattle.fat_node.specs.Sizes.{blocks}
 use Rattle.fat_table.specs.Chain.{free_at}
-use Rattle.fat_test.specs.Gate.{InUse, retired}
-use Rattle.fat_test.specs.Inner.Gated.{ChangeGateOf}
-use Rattle.fat_test.specs.declared.Gated.{Gated}
-use Rattle.fat_test.specs.declared.Gated.TheVariants as gate
+use Rattle.fat_test.specs.Gate.{InUse, Uneven, retired}
+use Rattle.fat_test.specs.Inner.Gated.{OpenedWith}
 use Rattle.fat_promises.specs.Promise.{ChangePromise}
 use Rattle.fat_promises.specs.Calls.{Create, create_gives}
 use Rattle.fat_promises.proofs.Unique.{one_change}
@@ -27,13 +25,11 @@ use Rattle.kiosk_create.specs.Create.{kiosk_tests, kiosk_rows, kiosk_done, Kiosk
 use Rattle.kiosk_create.proofs.Kiosk.{long_found, some_asked}
 
 -- the gate is open, and the call's own rows decide
-pub kiosk_passed : (t : Bytes) (d l : ℕ) (work work' : List ℕ) (r : Gated) → ChangeGateOf t d l work work' r → (free files n : ℕ) → r ≡ gate.Open free files
-    → n ≡ blocks t
-    → (count : ℕ) (o : Create)
+pub kiosk_passed : (t : Bytes) (d l : ℕ) (work work' : List ℕ) (free files n count : ℕ) (o : Create) → OpenedWith (Uneven t d l) t l (retired l) work work' free files → n ≡ blocks t
     → KioskSound n t count o
     → KioskPromise t d l work count (beside o work')
-kiosk_passed t d l work work' r g free files n e q count o p =
-    change_passed t d l work work' r g (λ a. create_gives a 0 t) (λ m. kiosk_rows m t count) (λ m. kiosk_done m t count) free files n o e q p
+kiosk_passed t d l work work' free files n count o =
+    change_passed t d l work work' (λ a. create_gives a 0 t) (λ m. kiosk_rows m t count) (λ m. kiosk_done m t count) free files n o
 
 -- one answer: the promise and its input leave one outcome
 pub one_kiosk : (t : Bytes) (d l : ℕ) (work : List ℕ) (count : ℕ) (o o' : Beside Create) → KioskPromise t d l work count o → KioskPromise t d l work count o' → o ≡ o'
