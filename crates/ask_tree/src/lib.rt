@@ -1,158 +1,135 @@
-// Each tree call by its number in oracle/stored/README.md, for the programs that read from their input what to ask. What is cheap to prove: see ask_blocks.
+// Each tree call by its number in oracle/stored/README.md, for the programs that read from their input what to ask.
 #![tactic(auto)]
 
-mod change;
-mod look;
+mod changes;
+mod looks;
+mod said;
 
-ghost use Rattle.std.specs.Prelude.{◌≤◌};
-
-use order::Answer;
+use tree_opens::Want;
 use tree_promises::Kind;
 
-// What a call answers: the number of RULES 2.1, and the other fields. Bytes that a call answers with are fields of eight bytes, the low one first.
-#[derive(Drop)]
-pub struct Said {
-    pub number: u32,
-    pub one: u64,
-    pub two: u64,
-    pub three: u64,
-    pub four: u64,
+pub use said::Said;
+
+// The calls that change no table.
+#[derive(Clone, Copy)]
+pub enum Look {
+    Test,
+    Lookup,
+    List,
+    Stat,
+    Name,
+    NameAnswer,
+    Carried,
+    Aged,
 }
 
-pub fn says(answer: Answer, one: u64, two: u64) -> Said {
-    let number = order::number(answer);
-    Said {
-        number,
-        one,
-        two,
-        three: 0,
-        four: 0,
+// The calls on one kind that change tables or open records.
+#[derive(Clone, Copy)]
+pub enum Change {
+    Make,
+    Rename,
+    Delete,
+    SetCarried,
+    Open,
+    Close,
+}
+
+#[derive(Clone, Copy)]
+pub enum Call {
+    Format,
+    Look(Look),
+    Change(Change),
+}
+
+// The calls in the order of their numbers.
+const CALLS: [Call; 15] = [
+    Call::Format,
+    Call::Look(Look::Test),
+    Call::Look(Look::Lookup),
+    Call::Change(Change::Make),
+    Call::Change(Change::Rename),
+    Call::Change(Change::Delete),
+    Call::Look(Look::List),
+    Call::Look(Look::Stat),
+    Call::Look(Look::Name),
+    Call::Look(Look::NameAnswer),
+    Call::Look(Look::Carried),
+    Call::Change(Change::SetCarried),
+    Call::Change(Change::Open),
+    Call::Change(Change::Close),
+    Call::Look(Look::Aged),
+];
+
+impl Call {
+    // The call with a number, if there is one.
+    pub fn numbered(number: u32) -> Option<Call> {
+        CALLS.get(number as usize).copied()
     }
 }
 
-// A call on one kind that changes tables or open records.
-fn changes(
-    which: u32,
-    kind: Kind,
-    dh: &mut [u8],
-    d: &mut [u8],
-    fh: &mut [u8],
-    f: &mut [u8],
-    work: &mut [u32],
-    dir_opens: &mut [u32],
-    file_opens: &mut [u32],
-    inode: u32,
-    parent: u32,
-    name: [u8; 16],
-    carried: [u8; 20],
-) -> Said {
-    match kind {
-        Kind::Directory => change::on_dirs(
-            which, dh, d, fh, f, work, dir_opens, inode, parent, name, carried,
-        ),
-        Kind::File => change::on_files(
-            which, dh, d, fh, f, work, file_opens, inode, parent, name, carried,
-        ),
-    }
+// What is asked; the maxima are format's.
+#[derive(Clone, Copy)]
+pub struct Request {
+    pub call: Call,
+    pub kind: Kind,
+    pub inode: u32,
+    pub parent: u32,
+    pub name: [u8; 16],
+    pub carried: [u8; 20],
+    pub dir_max: usize,
+    pub file_max: usize,
 }
 
-// A tree call on what is lent to it; the maxima are format's.
-fn call(
-    which: u32,
-    kind: Kind,
-    dh: &mut [u8],
-    d: &mut [u8],
-    fh: &mut [u8],
-    f: &mut [u8],
-    work: &mut [u32],
-    dir_opens: &mut [u32],
-    file_opens: &mut [u32],
-    list: &mut [u32],
-    inode: u32,
-    parent: u32,
-    name: [u8; 16],
-    carried: [u8; 20],
-    dir_max: usize,
-    file_max: usize,
-) -> Said {
-    match which {
-        0 => {
-            let answer = tree::format::format(dh, d, dir_max, fh, f, file_max);
-            says(answer, 0, 0)
+impl Request {
+    // The open that open and close are asked for, by what stands in the parent's place: 0 is a reader's, another number the writer's.
+    fn want(&self) -> Want {
+        if self.parent == 0 {
+            Want::Reader
+        } else {
+            Want::Writer
         }
-        3..=5 | 11..=13 => changes(
-            which, kind, dh, d, fh, f, work, dir_opens, file_opens, inode, parent, name, carried,
-        ),
-        _ => look::looks(which, kind, dh, d, fh, f, work, list, inode, parent, name),
+    }
+
+    // The four bytes that a directory takes.
+    fn padding(&self) -> [u8; 4] {
+        let carried = self.carried;
+        [carried[0], carried[1], carried[2], carried[3]]
     }
 }
 
-// How much of each buffer a call is lent: bytes of the tables, places of the lists. In the last place of a list of open records is the number of records.
+// What a call is lent. In the last place of a list of open records is the number of records.
 #[derive(Drop)]
-pub struct Lent {
-    pub dir_hash: usize,
-    pub dir_table: usize,
-    pub file_hash: usize,
-    pub file_table: usize,
-    pub work: usize,
-    pub dir_opens: usize,
-    pub file_opens: usize,
-    pub list: usize,
+pub struct Lent<'a> {
+    pub dir_hash: &'a mut [u8],
+    pub dir_table: &'a mut [u8],
+    pub file_hash: &'a mut [u8],
+    pub file_table: &'a mut [u8],
+    pub work: &'a mut [u32],
+    pub dir_opens: &'a mut [u32],
+    pub file_opens: &'a mut [u32],
+    pub list: &'a mut [u32],
 }
 
-fn least(x: usize, most: usize) -> usize
-    ensures { result ≤ most }
-{
-    if most < x {
-        return most;
+// Makes a call on what is lent to it.
+pub fn ask(request: &Request, lent: Lent<'_>) -> Said {
+    let Lent {
+        dir_hash: dh,
+        dir_table: d,
+        file_hash: fh,
+        file_table: f,
+        work,
+        dir_opens,
+        file_opens,
+        list,
+    } = lent;
+    match request.call {
+        Call::Format => {
+            tree::format::format(dh, d, request.dir_max, fh, f, request.file_max).into()
+        }
+        Call::Look(look) => looks::ask(look, request, dh, d, fh, f, work, list),
+        Call::Change(change) => match request.kind {
+            Kind::Directory => changes::on_dirs(change, request, dh, d, fh, f, work, dir_opens),
+            Kind::File => changes::on_files(change, request, dh, d, fh, f, work, file_opens),
+        },
     }
-    x
-}
-
-// A tree call on buffers cut to what is lent of each.
-pub fn ask(
-    which: u32,
-    kind: Kind,
-    lent: Lent,
-    dh: &mut [u8],
-    d: &mut [u8],
-    fh: &mut [u8],
-    f: &mut [u8],
-    work: &mut [u32],
-    dir_opens: &mut [u32],
-    file_opens: &mut [u32],
-    list: &mut [u32],
-    inode: u32,
-    parent: u32,
-    name: [u8; 16],
-    carried: [u8; 20],
-    dir_max: usize,
-    file_max: usize,
-) -> Said {
-    let a = least(lent.dir_hash, dh.len());
-    let b = least(lent.dir_table, d.len());
-    let c = least(lent.file_hash, fh.len());
-    let e = least(lent.file_table, f.len());
-    let w = least(lent.work, work.len());
-    let o = least(lent.dir_opens, dir_opens.len());
-    let p = least(lent.file_opens, file_opens.len());
-    let l = least(lent.list, list.len());
-    call(
-        which,
-        kind,
-        &mut dh[..a],
-        &mut d[..b],
-        &mut fh[..c],
-        &mut f[..e],
-        &mut work[..w],
-        &mut dir_opens[..o],
-        &mut file_opens[..p],
-        &mut list[..l],
-        inode,
-        parent,
-        name,
-        carried,
-        dir_max,
-        file_max,
-    )
 }

@@ -1,8 +1,0 @@
--- `on_dirs` meets its contract: the part that is lent is as long as what was cut.
-use mathlib.Core.Path.{sym}
-use native.Mathlib.Omega.{arith}
-use lib.Seq.{length-take-le}
-use Rattle.ask_tree.proofs.change.on_dirs.Goals as goal
-
-pub slice_bounds-dirs-end-2 : goal.slice_bounds-dirs-end-2
-slice_bounds-dirs-end-2 c = sym (length-take-le _ _ (omega arith))
