@@ -1,10 +1,10 @@
 -- The loops over the first blocks: what is followed, told and written of those before place i.
-use mathlib.Core.Path.{◌≡◌, refl, sym, ap, subst, subst⁻¹, ◌∙◌}
+use mathlib.Core.Path.{◌≡◌, refl, sym, ap, ◌∙◌}
 use mathlib.Core.List.{List, [], ◌∷◌, ◌++◌, append_assoc}
 use mathlib.Core.Logic.{⊎_elim}
-use Prim.Native.Nat.{ℕ, zero, suc, ◌+◌, ◌*◌, ◌-◌, ◌≤◌, ◌<◌}
+use Prim.Native.Nat.{ℕ, ◌+◌, ◌*◌, ◌≤◌, ◌<◌}
 use native.Mathlib.Omega.{arith}
-use lib.ListN.{length, get_or, set, take, drop, drop_of_length-le}
+use lib.ListN.{length, get_or, take, drop}
 use lib.Seq.{sets, sets-eq, length-sets}
 use Rattle.std.proofs.lemmas.List.{drop-drop}
 use borrow.Rule.Slice.PartMut.{put_mid}
@@ -22,7 +22,7 @@ use Rattle.salvage.proofs.Walks.{look_out, clear_below}
 use Rattle.salvage_shared.specs.Inner.Says.{MayJudge}
 use Rattle.salvage_shared.proofs.Loops.{from_at, few}
 use Rattle.salvage_chains.specs.Chains.{one, chains_from, chains, many, told, ends_of, followed}
-use Rattle.salvage_chains.specs.Inner.Says.{OneSays, MayNumber, MayAll, Summed, Rooms, Wrote}
+use Rattle.salvage_chains.specs.Inner.Says.{OneSays, MayNumber, MayAll, Rooms}
 
 -- ---- one chain
 

@@ -1,12 +1,12 @@
 -- The ways out of the call that follows some chains.
 use mathlib.Core.Path.{◌≡◌, refl, sym, ap, subst, subst⁻¹, ◌∙◌}
 use mathlib.Core.List.{List, [], ◌∷◌, ◌++◌}
-use mathlib.Core.Bool.{Bool, true, false}
-use mathlib.Core.Logic.{◌⊎◌, inl, inr}
+use mathlib.Core.Bool.{Bool, true}
+use mathlib.Core.Logic.{◌⊎◌, inr}
 use Prim.Native.Nat.{ℕ, ◌+◌, ◌*◌, ◌≤◌, ◌<◌}
 use native.Mathlib.Omega.{arith}
-use lib.ListN.{length, take, drop, replicate, length-replicate, length-append}
-use lib.Seq.{sets, sets-eq, length-take-le}
+use lib.ListN.{length, drop, replicate, length-append}
+use lib.Seq.{sets, sets-eq}
 use Rattle.std.specs.Prelude.{Err}
 use Rattle.order.specs.Answer as is
 use Rattle.order.specs.Beside.{beside}
@@ -23,11 +23,11 @@ use Rattle.fat_promises.specs.Blocks.{blocks_of}
 use Rattle.fat_walk.proofs.Blocks.{length_blocks}
 use Rattle.salvage.specs.Follow.{Salvage}
 use Rattle.salvage_shared.specs.Calls.{shared_gate}
-use Rattle.salvage_shared.specs.Inner.Says.{Sized, Fitting, BlocksFor}
+use Rattle.salvage_shared.specs.Inner.Says.{Fitting, BlocksFor}
 use Rattle.salvage_shared.proofs.Outs.{fits, cleared_is}
-use Rattle.salvage_chains.specs.Chains.{one, chains_from, chains, many, told, ends_of, followed}
+use Rattle.salvage_chains.specs.Chains.{one, chains_from, chains, many, ends_of, followed}
 use Rattle.salvage_chains.specs.Calls.{Chained, chained_gives, chained_rows, chained_done, ChainsPromise}
-use Rattle.salvage_chains.specs.Inner.Says.{MayAll, Summed, RoomSays, Rooms, Wrote, ChainedSays}
+use Rattle.salvage_chains.specs.Inner.Says.{MayAll, RoomSays, Wrote, ChainedSays}
 use Rattle.salvage_chains.proofs.Theorems.{places}
 
 -- ---- lengths
