@@ -6,7 +6,7 @@ use mathlib.Core.Logic.{◌⊎◌, inl, inr, ⊎_elim, ◌↔◌, ◌≢◌}
 use Prim.Native.Nat.{ℕ, zero, suc, ◌+◌, ◌*◌, ◌<◌, ◌≤◌}
 use native.Mathlib.Omega.{arith}
 use lib.Dec.{eqb, ltb}
-use lib.ListN.{length}
+use lib.ListN.{length, get_or}
 use borrow.Author.Tests.{eqb-true, eq-eqb, ltb-true, lt-ltb}
 use Rattle.words.proofs.Laws as words
 use Rattle.links.specs.Links.{◌∈◌, Distinct}
@@ -24,6 +24,8 @@ use Rattle.fat_table.proofs.Sounds.{Tied, tied_holds, holds_sound, node_holds, i
 use Rattle.order.specs.declared.Fault.{Fault}
 use Rattle.order.specs.Answer.{fault, unbroken}
 use Rattle.fat_node.specs.Fault.{when}
+use Rattle.std.specs.Prelude.{Result, Ok, Err, IsErr}
+use Rattle.fat_fault.specs.Inner.Marks.{Finds}
 use Rattle.fat_fault.specs.Fault.{walk_fault, is_node, answered, head_fits, loose, hop, ringed, untied, lowest, later_fault, fault_of}
 use Rattle.fat_fault.specs.Inner.Ring.{Ring}
 use Rattle.fat_node.proofs.Faults.{when_yes, when_no, not_given, or_no, no_or, not_no, and_yes, yes_and, tell}
@@ -252,3 +254,8 @@ module _ (n : ℕ) (small : n ≤ 1000000) (t : Bytes) (bytes : words.Bytes t) (
 
   pub sound_fault : Sound t n ↔ ((fault_of n t).rule ≡ 0)
   sound_fault = (λ s. ap (λ (f : Fault). f.rule) (sound_none s), none_sound)
+
+-- of a table that is not sound a fault is found
+pub finds_err : (n : ℕ) (t : Bytes) → n ≤ 1000000 → ((i : ℕ) → get_or t i 0 < 256) → length t ≡ 8 * (n + 1) → (r : Result (Unit {0}) Fault) → Finds (fault_of n t) r → (Sound t n → ⊥) → IsErr r
+finds_err n t small bytes room (Ok done) e h = absurd (h (none_sound n small t (record { byte = bytes }) room (ap (λ (f : Fault). f.rule) e)))
+finds_err n t small bytes room (Err f) p h = refl

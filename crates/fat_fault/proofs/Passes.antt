@@ -1,5 +1,5 @@
 -- The walk, the last pass and the whole: the invariants of their loops.
-use mathlib.Core.Path.{◌≡◌, refl, sym, ap, ◌∙◌}
+use mathlib.Core.Path.{◌≡◌, refl, sym, ap, subst, ◌∙◌}
 use mathlib.Core.List.{List, [], ◌∷◌}
 use mathlib.Core.Bool.{Bool, true, false, ◌||◌}
 use mathlib.Core.Logic.{◌⊎◌, inl, inr, ⊎_elim}
@@ -11,7 +11,7 @@ use lib.Seq.{get_or-set_same}
 use borrow.Author.Tests.{eqb-true, eq-eqb, ne_eqb}
 use Rattle.fat_node.specs.Entry.{Bytes}
 use Rattle.fat_node.specs.Node.{Run, NodeAt}
-use Rattle.std.specs.Prelude.{Ok, Err}
+use Rattle.std.specs.Prelude.{Result, Ok, Err}
 use Rattle.fat_node.specs.Inner.Reads.{Unread}
 use Rattle.fat_node.proofs.Cases.{untrue}
 use Rattle.fat_table.specs.Chain.{size_at}
@@ -21,7 +21,7 @@ use Rattle.order.specs.declared.Fault.{Fault}
 use Rattle.order.specs.Answer.{fault, unbroken}
 use Rattle.fat_node.specs.Fault.{node_fault}
 use Rattle.fat_fault.specs.Fault.{or_else, walk_from, walk_fault, starts_at, is_node, head_fits, untied, lowest, later_fault, fault_of}
-use Rattle.fat_fault.specs.Inner.Marks.{Walked}
+use Rattle.fat_fault.specs.Inner.Marks.{Finds, Walked}
 use Rattle.fat_node.proofs.Faults.{when_yes, when_no, tell, node_clear}
 use Rattle.fat_fault.proofs.Rules.{then_first, then_second}
 use Rattle.fat_fault.proofs.Standing.{walk_on, walk_end, scan_on, scan_end}
@@ -159,24 +159,26 @@ low_step n t b k h = go k.left k.whole k.rest
 pub low_more : (n : ℕ) (t : Bytes) (b : ℕ) (r : Bool) → Low n t b → b < n → r ≡ untied n t b → r ≡ false → Low n t (b + 1)
 low_more n t b r k h e f = let o = low_step n t b k h in record { left = o.0; whole = o.1; rest = o.2 ∙ when_no _ _ _ (sym e ∙ f) }
 
-pub low_found : (n : ℕ) (t : Bytes) (b : ℕ) (r : Bool) → Low n t b → b < n → r ≡ untied n t b → r ≡ true → fault (b + 1) 7 ≡ lowest n t n 0
-low_found n t b r k h e f = let o = low_step n t b k h in sym (o.2 ∙ when_yes _ _ _ (sym e ∙ f))
+pub low_found : (n : ℕ) (t : Bytes) (b : ℕ) (r : Bool) → Low n t b → b < n → r ≡ untied n t b → r ≡ true → Finds (lowest n t n 0) (Err (fault (b + 1) 7))
+low_found n t b r k h e f = let o = low_step n t b k h in (sym (o.2 ∙ when_yes _ _ _ (sym e ∙ f)), λ q. omega (arith, q))
 
-pub low_end : (n : ℕ) (t : Bytes) (b : ℕ) → Low n t b → n ≤ b → unbroken ≡ lowest n t n 0
+pub low_end : (n : ℕ) (t : Bytes) (b : ℕ) → Low n t b → n ≤ b → lowest n t n 0 ≡ unbroken
 low_end n t b k h =
     let e : k.left ≡ 0 = omega (arith, k.whole) in
-    sym (k.rest ∙ ap (λ (l : ℕ). lowest n t l b) e)
+    k.rest ∙ ap (λ (l : ℕ). lowest n t l b) e
 
 -- ---- the whole
 
-pub find_walk : (n : ℕ) (t : Bytes) (f : Fault) → f ≡ walk_fault n t → (f.rule ≡ 0 → ⊥) → f ≡ fault_of n t
+pub find_walk : (n : ℕ) (t : Bytes) (f : Fault) → Finds (walk_fault n t) (Err f) → Finds (fault_of n t) (Err f)
 unfolding fault_of
-find_walk n t f e z = e ∙ sym (then_first _ _ (λ q. z (ap (λ (x : Fault). x.rule) e ∙ q)))
+find_walk n t f p = (p.0 ∙ sym (then_first _ _ (λ q. p.1 (ap (λ (x : Fault). x.rule) p.0 ∙ q))), p.1)
 
-pub find_head : (n : ℕ) (t : Bytes) (r : Bool) → walk_fault n t ≡ unbroken → r ≡ head_fits n t → r ≡ false → fault 0 6 ≡ fault_of n t
+pub find_head : (n : ℕ) (t : Bytes) (r : Bool) → walk_fault n t ≡ unbroken → r ≡ head_fits n t → r ≡ false → Finds (fault_of n t) (Err (fault 0 6))
 unfolding fault_of later_fault
-find_head n t r z h b = sym (then_second _ _ (ap (λ (x : Fault). x.rule) z) ∙ when_no _ _ _ (sym h ∙ b))
+find_head n t r z h b = (sym (then_second _ _ (ap (λ (x : Fault). x.rule) z) ∙ when_no _ _ _ (sym h ∙ b)), λ q. omega (arith, q))
 
-pub find_lowest : (n : ℕ) (t : Bytes) (r : Bool) (l : Fault) → walk_fault n t ≡ unbroken → r ≡ head_fits n t → r ≡ true → l ≡ lowest n t n 0 → l ≡ fault_of n t
+pub find_lowest : (n m : ℕ) (t : Bytes) (r : Bool) (l : Result (Unit {0}) Fault) → m ≡ n → walk_fault n t ≡ unbroken → r ≡ head_fits n t → r ≡ true → Finds (lowest m t m 0) l → Finds (fault_of n t) l
 unfolding fault_of later_fault
-find_lowest n t r l z h b q = q ∙ sym (then_second _ _ (ap (λ (x : Fault). x.rule) z) ∙ when_yes _ _ _ (sym h ∙ b))
+find_lowest n m t r l e z h b p =
+    subst (λ (f : Fault). Finds f l)
+    (ap (λ (k : ℕ). lowest k t k 0) e ∙ sym (then_second _ _ (ap (λ (x : Fault). x.rule) z) ∙ when_yes _ _ _ (sym h ∙ b))) p

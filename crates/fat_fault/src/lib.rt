@@ -6,7 +6,7 @@ ghost use Rattle.std.specs.Prelude.{◌≡◌, true, false, ℕ, suc, ◌+◌, �
 ghost use Rattle.fat_node.specs.Node.{prev_at, next_at};
 ghost use Rattle.fat_fault.specs.Fault.{answered, head_fits, loose, hop, untied, lowest, fault_of};
 ghost use Rattle.fat_fault.specs.Inner.Ring.{Ring};
-ghost use Rattle.fat_fault.specs.Inner.Marks.{Marked, Fresh, Walked, Names, Hops, Coloured, Closed, Rounded, Came};
+ghost use Rattle.fat_fault.specs.Inner.Marks.{Marked, Fresh, Finds, Walked, Names, Hops, Coloured, Closed, Rounded, Came};
 
 use order::Fault;
 
@@ -48,10 +48,10 @@ fn head_fits(table: &[u8], work: &[u32]) -> bool
     requires marked { Marked (length work.now) table.now work.now }
     ensures { result ≡ head_fits (length work.now) table.now }
 {
-    let Some(h) = fat_node::get_head(table) else {
-        return false;
-    };
-    named(work, h).map_or(h == 0, |j| fat_node::prev_of(table, j) == 0)
+    match fat_node::get_head(table) {
+        Some(h) => named(work, h).map_or(h == 0, |j| fat_node::prev_of(table, j) == 0),
+        None => false,
+    }
 }
 
 // Whether a link of the node at block b names no node, or one that does not name it back.
@@ -129,53 +129,47 @@ fn untied(table: &[u8], work: &mut [u32], b: usize) -> bool
     requires coloured { Coloured (length work.old) table.now b work.old }
     ensures { (result ≡ untied (length work.old) table.now b) × (result ≡ false → Coloured (length work.old) table.now (b + 1) work.new) }
 {
-    if colour(table, work, b) {
-        return true;
-    }
-    let m = work[b];
-    m == ROUND || m != 0 && loose(table, work, b)
+    colour(table, work, b) || work[b] == ROUND || work[b] != 0 && loose(table, work, b)
 }
 
-// The lowest node that is loose or in a ring. It is told as soon as it is come to.
-fn lowest(table: &[u8], work: &mut [u32]) -> Fault
+// Whether no node is loose or in a ring; or the lowest that is, which is told as soon as it is come to.
+fn lowest(table: &[u8], work: &mut [u32]) -> Result<(), Fault>
     requires table_len { length table.now ≡ 8 * (length work.old + 1) }
     requires work_len_bound { length work.old ≤ 1000000 }
     requires fresh { Fresh (length work.old) table.now work.old }
-    ensures { result ≡ lowest (length work.old) table.now (length work.old) 0 }
+    ensures { Finds (lowest (length work.old) table.now (length work.old) 0) result }
 {
     for b in 0..work.len() {
         if untied(table, work, b) {
-            return Fault {
+            return Err(Fault {
                 entry: b + 1,
                 rule: 7,
-            };
+            });
         }
     }
-    Fault { entry: 0, rule: 0 }
+    Ok(())
 }
 
-// The fault, with a work list that is 0 before it.
-fn find(table: &[u8], work: &mut [u32]) -> Fault
+// Whether there is no fault; or the first, with a work list that is 0 before it.
+fn find(table: &[u8], work: &mut [u32]) -> Result<(), Fault>
     requires table_len { length table.now ≡ 8 * (length work.old + 1) }
     requires work_len_bound { length work.old ≤ 1000000 }
     requires work_value { work.old ≡ replicate (length work.old) 0 }
-    ensures { result ≡ fault_of (length work.old) table.now }
+    ensures { Finds (fault_of (length work.old) table.now) result }
 {
-    if let Err(found) = walk(table, work) {
-        return found;
-    }
+    walk(table, work)?;
     if !head_fits(table, work) {
-        return Fault { entry: 0, rule: 6 };
+        return Err(Fault { entry: 0, rule: 6 });
     }
     lowest(table, work)
 }
 
-// Where a table is broken, with a work list of as many places as blocks that is 0 before and after.
-pub fn locate(table: &[u8], work: &mut [u32]) -> Fault
+// Whether a table is sound; or where it is broken, with a work list of as many places as blocks that is 0 before and after.
+pub fn locate(table: &[u8], work: &mut [u32]) -> Result<(), Fault>
     requires table_len { length table.now ≡ 8 * (length work.old + 1) }
     requires work_len_bound { length work.old ≤ 1000000 }
     requires work_value { work.old ≡ replicate (length work.old) 0 }
-    ensures { (result ≡ fault_of (length work.old) table.now) × (work.new ≡ replicate (length work.old) 0) }
+    ensures { Finds (fault_of (length work.old) table.now) result × (work.new ≡ replicate (length work.old) 0) }
 {
     let found = find(table, work);
     order::clear(work);

@@ -1,10 +1,12 @@
 -- Each way out of the test and of the gate, as a fact about the rows.
-use mathlib.Core.Path.{◌≡◌, refl}
+use mathlib.Core.Path.{◌≡◌, subst, refl}
 use mathlib.Core.List.{List}
 use mathlib.Core.Logic.{◌⊎◌, inl, inr, ⊎_elim}
 use Prim.Native.Nat.{ℕ, ◌*◌, ◌<◌}
 use lib.ListN.{length}
 use Rattle.std.specs.Prelude.{Result, Ok, Err}
+use Rattle.order.specs.declared.Fault.{Fault}
+use Rattle.fat_fault.specs.Inner.Marks.{Finds}
 use Rattle.order.specs.declared.Refusal as why
 use Rattle.order.specs.First.{First}
 use Rattle.order.specs.Gate.{cleared, Refusal, refusal}
@@ -16,6 +18,10 @@ use Rattle.fat_node.specs.declared.Counts.{Counts}
 use Rattle.fat_test.specs.Gate.{test_gate, block_gate}
 use Rattle.fat_test.specs.Promise.{Tested, tested, tested_by, test_refused, test_done}
 use Rattle.fat_test.specs.Inner.Gated.{Ruled, GateOf}
+
+-- ---- the fault that was found
+pub finds_is : {g f : Fault} (r : Result (Unit {0}) Fault) → Finds g r → r ≡ Err f → f ≡ g
+finds_is {g} r p e = (subst (Finds g) e p).0
 
 -- ---- the test
 module _ (t : Bytes) (work : List ℕ) where

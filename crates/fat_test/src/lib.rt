@@ -35,7 +35,8 @@ fn ruling(table: &[u8], work: &mut [u32]) -> Result<Counts, Refusal>
     if let Some(counts) = fat_ends::run(table, work) {
         return Ok(counts);
     }
-    Err(Refusal::BrokenFat(fat_fault::locate(table, work)))
+    let found = fat_fault::locate(table, work).unwrap_err();
+    Err(Refusal::BrokenFat(found))
 }
 
 // The same of a table whose sizes fit, in the first places of the work list, one a block, which are 0 after it.

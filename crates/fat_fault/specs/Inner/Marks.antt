@@ -22,10 +22,15 @@ pub record Fresh (n : ℕ) (t : Bytes) (w : List ℕ) : Type 0 where
   pub marked : Marked n t w
   pub least : (x : ℕ) → get_or w x 0 ≤ 1
 
+-- a fault f of the rules is found, or there is none
+abbrev pub Finds : Fault → Result (Unit {0}) Fault → Type 0
+Finds f (Ok done) = f ≡ unbroken
+Finds f (Err found) = (found ≡ f) × (found.rule ≡ 0 → ⊥)
+
 -- the walk leaves the marks, or finds the first fault
 abbrev pub Walked : ℕ → Bytes → List ℕ → Result (Unit {0}) Fault → Type 0
 Walked n t w (Ok done) = (walk_fault n t ≡ unbroken) × Fresh n t w
-Walked n t w (Err f) = (f ≡ walk_fault n t) × (f.rule ≡ 0 → ⊥)
+Walked n t w (Err f) = Finds (walk_fault n t) (Err f)
 
 -- index i names block j, whose place is not 0; or it names none
 abbrev pub Names : List ℕ → ℕ → Option ℕ → Type 0
