@@ -1,5 +1,5 @@
 -- The blocks of a chain written into a list.
-use mathlib.Core.Path.{◌≡◌, refl, sym, ap, subst, subst⁻¹, ◌∙◌}
+use mathlib.Core.Path.{◌≡◌, sym, ap, subst, subst⁻¹, ◌∙◌}
 use mathlib.Core.List.{List, [], ◌∷◌, ◌++◌, append_assoc}
 use Prim.Native.Nat.{ℕ, zero, suc, ◌+◌, ◌-◌, ◌*◌, ◌≤◌}
 use native.Mathlib.Omega.{arith}
@@ -18,7 +18,7 @@ use Rattle.fat_promises.specs.Blocks.{blocks_from, blocks_of}
 use Rattle.fat_walk.specs.Inner.Chains.{Standing, Chain}
 use Rattle.fat_table.proofs.Unchanged.{total_append}
 use Rattle.fat_walk.proofs.Nodes.{mid_size, mid_next, mid_standing, mid_pos, mid_within}
-use Rattle.fat_walk.proofs.Walks.{Named, named, ended}
+use Rattle.fat_walk.proofs.Walks.{Named, named}
 use Rattle.fat_walk.proofs.Blocks.{length_from, length_blocks, sets_append}
 
 -- k numbers of a run are written, and one more
@@ -45,17 +45,7 @@ pub record Filling (c : List Run) (l₀ : List ℕ) (i at : ℕ) (l : List ℕ) 
   pub done : sets l₀ 0 (blocks_of c) ≡ sets l at (blocks_of rest)
   pub long : length l ≡ length l₀
 
-pub fill_begin : (c : List Run) (l : List ℕ) (i : ℕ) → first c ≡ i → Filling c l i 0 l
-fill_begin c l i e = record { passed = []; rest = c; is = refl; at_first = e; sum = refl; done = refl; long = refl }
-
 module _ (n : ℕ) (t : Bytes) (c : List Run) (l₀ : List ℕ) (i at : ℕ) (l : List ℕ) (k : Chain n t c) (w : Filling c l₀ i at l) where
-  pub fill_end : i ≡ 0 → l ≡ sets l₀ 0 (blocks_of c)
-  fill_end h = sym (w.done ∙ ap (λ (r : List Run). sets l at (blocks_of r)) (ended w.rest i w.at_first h))
-
-  pub fill_count : i ≡ 0 → at ≡ total c
-  fill_count h =
-      omega (arith, w.sum, ap total w.is, total_append w.passed w.rest, ap total (ended w.rest i w.at_first h))
-
   module _ (h : i ≡ 0 → ⊥) where
     abbrev here : Named w.rest i
     here = named w.rest i w.at_first h

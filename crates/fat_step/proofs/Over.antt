@@ -85,10 +85,6 @@ pub data Begins (b : ℕ) : List Run → Type 0 where
   here : {r : Run} {l : List Run} → r.start ≡ b → Begins b (r ∷ l)
   there : {r : Run} {l : List Run} → Begins b l → Begins b (r ∷ l)
 
-pub begins_left : {b : ℕ} {l : List Run} (m : List Run) → Begins b l → Begins b (l ++ m)
-begins_left m (here e) = here e
-begins_left m (there w) = there (begins_left m w)
-
 pub begins_right : {b : ℕ} (l : List Run) {m : List Run} → Begins b m → Begins b (l ++ m)
 begins_right [] w = w
 begins_right (r ∷ l) w = there (begins_right l w)

@@ -134,9 +134,6 @@ module _ (n : ℕ) (t : Bytes) (c : ℕ) where
   create_refused a s = test_refused (λ a. create_gives a 0 t) (create_done n t c) (create_tests n t c) a s
 
   module _ (f x m : ℕ) (w : CreateAt n t c f x m) where
-    pub create_goes : TakeAt n t x m
-    create_goes = record { count = c; cut = w.cut }
-
     pub create_done_lem : (u : Bytes) → ((c : ℕ) → Inside (free_at n t) c x m → u ≡ created n t c) → CreateSound n t c (create_gives is.Done f u)
     create_done_lem u p =
         subst⁻¹ (λ (z : Bytes). CreateSound n t c (create_gives is.Done f z)) (p c w.cut)

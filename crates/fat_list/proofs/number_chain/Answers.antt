@@ -1,9 +1,6 @@
-use Rattle.fat_list.proofs.Lists.{fill_begin, fill_end, fill_count, fill_standing, fill_room, fill_fits, fill_next}
+use Rattle.fat_list.proofs.Lists.{fill_standing, fill_room, fill_fits, fill_next}
 use native.Mathlib.Omega.{arith}
 use Rattle.fat_list.proofs.number_chain.Goals as goal
-
-pub loop-i-init : goal.loop-i-init
-loop-i-init c = fill_begin _ _ _ c.requires.chain_from.at
 
 pub size_at-size-requires : goal.size_at-size-requires
 size_at-size-requires c = search fill_standing
@@ -26,6 +23,3 @@ loop-i-smaller c =
 
 pub loop-i-preserved : goal.loop-i-preserved
 loop-i-preserved c = search fill_next
-
-pub returns : goal.returns
-returns c = (search fill_count, search fill_end)

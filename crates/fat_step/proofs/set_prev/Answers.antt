@@ -6,9 +6,6 @@ use Rattle.fat_step.proofs.set_prev.Goals as goal
 pub returns-then-i-eq0 : goal.returns-then-i-eq0
 returns-then-i-eq0 c = search with_none
 
-pub node_at-node-requires : goal.node_at-node-requires
-node_at-node-requires c = search at_standing
-
 pub set_node-requires : goal.set_node-requires
 set_node-requires c =
     let w = at_standing _ _ _ c.requires.standing_at c.if-i-eq0.false in
