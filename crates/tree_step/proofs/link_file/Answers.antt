@@ -1,14 +1,5 @@
-use Rattle.tree_look.proofs.Lives.{bucket_fits}
 use Rattle.tree_step.proofs.Links.{linked_file}
 use Rattle.tree_step.proofs.link_file.Goals as goal
-
-pub get_hash-first-requires : goal.get_hash-first-requires
-get_hash-first-requires c =
-    bucket_fits c.args.hash.now _ c.hash-b.result c.hash-b.ensures c.requires.2
-
-pub put_hash-requires : goal.put_hash-requires
-put_hash-requires c =
-    bucket_fits c.args.hash.now _ c.hash-b.result c.hash-b.ensures c.requires.2
 
 pub returns : goal.returns
 returns c =

@@ -1,8 +1,0 @@
-use borrow.Author.Tests.{eq-eqb, ne_eqb}
-use Rattle.tree_step.proofs.leave_dir.Goals as goal
-
-pub returns-then-before-eq0 : goal.returns-then-before-eq0
-returns-then-before-eq0 c = simp (eq-eqb _ _ c.if-before-eq0.true) c.put_link.ensures
-
-pub returns-else-before-eq0 : goal.returns-else-before-eq0
-returns-else-before-eq0 c = simp (ne_eqb _ _ c.if-before-eq0.false) c.put_link-else-before-eq0.ensures
