@@ -5,7 +5,6 @@ use mathlib.Core.Logic.{inl, ◌≢◌}
 use Prim.Native.Nat.{ℕ, zero, suc, ◌+◌, ◌-◌, ◌*◌, ◌/◌, ◌≤◌, ◌<◌}
 use native.Mathlib.Omega.{arith}
 use native.Mathlib.Nat.{div-mul-le_self}
-use lib.Dec.{eqb}
 use lib.ListN.{length}
 use Rattle.order.specs.First.{Row}
 use Rattle.order.specs.Given.{Given, None}
@@ -14,15 +13,14 @@ use Rattle.order.specs.Answer.{Done}
 use Rattle.links.specs.Links.{◌∈◌, Links}
 use Rattle.links.specs.Change.{pick, walk}
 use Rattle.links.proofs.Laws.{by_eq}
-use Rattle.tree_table.specs.Field.{field, write, wrote}
+use Rattle.tree_table.specs.Field.{field}
 use Rattle.tree_table.specs.View.{removed_of, LiveIn}
-use Rattle.tree_table.specs.Steps.{taken, take_writes, free_of}
-use Rattle.tree_table.proofs.Field.{length_wrote}
+use Rattle.tree_table.specs.Steps.{taken, free_of}
 use Rattle.tree_packed.specs.Opens.{Opens, opens, with_record}
 use Rattle.tree_opens.specs.Record.{writer_alone}
 use Rattle.tree_sound.specs.Tables.{Tables, tables, dirs, files}
 use Rattle.tree_promises.specs.declared.Kind.TheVariants.{Directory, File}
-use Rattle.tree_promises.specs.Steps.{linked_to, with_carried, made}
+use Rattle.tree_promises.specs.Steps.{made}
 use Rattle.tree_promises.specs.Calls.{make_tests}
 use Rattle.tree_promises.specs.Packed.{gives, refuse, Inside, make_tests_in, make_done}
 use Rattle.tree_promises.specs.Inner.Ready.{Ready, ReadyOpens, Single, alone, hashed}
@@ -95,43 +93,7 @@ module _ (s : Tables) (R : Ready s) (p : ℕ) (name : List ℕ) where
   pub new_dir_asks : None (make_tests s (dirs s) p name) → Takes 40 s.dir_table × (p * 40 + 40 ≤ length s.dir_table) × (0 < length s.dir_hash / 4)
   new_dir_asks n = (takes (dir_single s R) n.1.1.1.0, parent_fits (live_sure 40 s.dir_table p n.1.0), R.dir_buckets)
 
--- what the code has made
-
-abbrev took : ℕ → List ℕ → List ℕ
-took w t = wrote w t (take_writes (eqb (field w t 0 0) 0) (field w t))
-
-pub same_took : (w : ℕ) (t t1 : List ℕ) → t1 ≡ took w t → length t1 ≡ length t
-same_took w t t1 e = ap length e ∙ simp length_wrote
-
-pub taken_fits : (w : ℕ) (t t1 : List ℕ) (x : ℕ) → Takes w t → x ≡ taken (alone w t) → t1 ≡ took w t → x * w + w ≤ length t1
-taken_fits w t t1 x T ex e = omega (arith, subst (λ z. z * w + w ≤ length t) (sym ex) T.inside, same_took w t t1 e)
-
-pub made_file : (d h f f1 d2 h2 f2 f3 : List ℕ) (x p : ℕ) (name carried : List ℕ) → x ≡ taken (alone 48 f) → f1 ≡ took 48 f
-    → d2 ≡ (linked_to File (tables [] d h f1) x p name).dir_table → h2 ≡ (linked_to File (tables [] d h f1) x p name).file_hash → f2 ≡ (linked_to File (tables [] d h f1) x p name).file_table
-    → f3 ≡ (with_carried File (tables [] [] [] f2) x carried).file_table
-    → (d2 ≡ (made File (tables [] d h f) p name carried).dir_table) × (h2 ≡ (made File (tables [] d h f) p name carried).file_hash) × (f3 ≡ (made File (tables [] d h f) p name carried).file_table)
-made_file d h f f1 d2 h2 f2 f3 x p name carried ex e1 ed eh ef e3 = (
-  ed ∙ ap₂ (λ y z. (linked_to File (tables [] d h y) z p name).dir_table) e1 ex,
-  eh ∙ ap₂ (λ y z. (linked_to File (tables [] d h y) z p name).file_hash) e1 ex,
-  e3
-      ∙ ap (λ z. (with_carried File (tables [] [] [] z) x carried).file_table) (ef ∙ ap₂ (λ y z. (linked_to File (tables [] d h y) z p name).file_table) e1 ex)
-      ∙ ap (λ z. (with_carried File (tables [] [] [] (linked_to File (tables [] d h (took 48 f)) (taken (alone 48 f)) p name).file_table) z carried).file_table) ex,
-)
-
-pub made_dir : (h d d1 d2 h3 d3 d4 : List ℕ) (x p : ℕ) (name padding : List ℕ) → x ≡ taken (alone 40 d) → d1 ≡ took 40 d
-    → d2 ≡ wrote 40 d1 (write x 7 0 ∷ write x 8 0 ∷ [])
-    → h3 ≡ (linked_to Directory (tables h d2 [] []) x p name).dir_hash → d3 ≡ (linked_to Directory (tables h d2 [] []) x p name).dir_table
-    → d4 ≡ (with_carried Directory (tables [] d3 [] []) x padding).dir_table
-    → (h3 ≡ (made Directory (tables h d [] []) p name padding).dir_hash) × (d4 ≡ (made Directory (tables h d [] []) p name padding).dir_table)
-made_dir h d d1 d2 h3 d3 d4 x p name padding ex e1 e2 eh ed e4 =
-    let c : d2 ≡ wrote 40 (took 40 d) (write (taken (alone 40 d)) 7 0 ∷ write (taken (alone 40 d)) 8 0 ∷ []) =
-    e2 ∙ ap₂ (λ y z. wrote 40 y (write z 7 0 ∷ write z 8 0 ∷ [])) e1 ex in (
-      eh ∙ ap₂ (λ y z. (linked_to Directory (tables h y [] []) z p name).dir_hash) c ex,
-      e4
-          ∙ ap₂ (λ y z. (with_carried Directory (tables [] y [] []) z padding).dir_table) (ed ∙ ap₂ (λ y z. (linked_to Directory (tables h y [] []) z p name).dir_table) c ex) ex,
-    )
-
--- and what the call gives
+-- what the call gives
 pub gave_file : (dh d h f d' h' f' : List ℕ) (o o' : Opens) (x p : ℕ) (name carried : List ℕ) → x ≡ taken (alone 48 f)
     → d' ≡ (made File (tables [] d h f) p name carried).dir_table → h' ≡ (made File (tables [] d h f) p name carried).file_hash → f' ≡ (made File (tables [] d h f) p name carried).file_table
     → o' ≡ with_record o x writer_alone
