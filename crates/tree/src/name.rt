@@ -1,4 +1,4 @@
-// The name of an entry, shown as a part of the directory table or of the file table.
+// The name of an entry, shown as a part of the directory table or of the file table. Two calls, as the C interface has them: the number, and the bytes.
 ghost use Rattle.std.specs.Prelude.{[]};
 ghost use Rattle.order.specs.First.{First};
 ghost use Rattle.order.specs.Giving.{giving};

@@ -1,4 +1,5 @@
 // The calls inside that change sound entry tables: delete, rename and make. Each judges first and changes nothing where a row applies; none tests soundness.
+// Directories and files apart, as in tree_step: their tables can't be lent alike.
 #![tactic(auto)]
 
 ghost use Rattle.tree_sound.specs.Tables.{Tables, tables};

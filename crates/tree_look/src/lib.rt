@@ -125,7 +125,7 @@ fn list_children(table: &[u8], w: usize, first: u32, list: &mut [u32]) -> Result
     Ok(n)
 }
 
-// The directories in a directory, in their list's order.
+// The directories in a directory, in their list's order. What this shares with list_files is list_children: the rest names its own list and table.
 pub fn list_dirs(
     dir_hash: &[u8],
     dir_table: &[u8],

@@ -1,4 +1,5 @@
 // The calls inside that make an entry in sound tables: judged first, then the entry is taken, linked and filled.
+// Directories and files apart, as in tree_step: their tables can't be lent alike.
 #![tactic(auto)]
 
 ghost use Rattle.std.specs.Prelude.{◌≡◌, [], ◌∷◌, ◌+◌, ◌*◌, ◌/◌, ◌≤◌, ◌<◌, length};

@@ -6,8 +6,8 @@ use Rattle.tree_look.proofs.live.Goals.{then-x-eq0-via-then-x-eq0, then-x-eq0-vi
 pub returns-then-x-eq0 : goal.returns-then-x-eq0
 returns-then-x-eq0 c =
     elim c.then-x-eq0.branch [
-      then-x-eq0-via-then-x-eq0 w ↦ search (live_zero)
-    | then-x-eq0-via-else-x-eq0+then-get_u32-x w ↦ search (live_beyond)
+      | then-x-eq0-via-then-x-eq0 w ↦ search (live_zero)
+      | then-x-eq0-via-else-x-eq0+then-get_u32-x w ↦ search (live_beyond)
     ]
 
 pub overflow_mul-at : goal.overflow_mul-at
