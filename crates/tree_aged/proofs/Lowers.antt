@@ -1,13 +1,13 @@
 -- The walks from one entry after the other, and what one table's walks leave.
 use mathlib.Core.Path.{◌≡◌, refl, sym, ap, ◌∙◌, subst, subst⁻¹}
-use mathlib.Core.List.{List, [], ◌∷◌}
-use mathlib.Core.Logic.{◌⊎◌, inl, inr, ⊎_elim, ◌≢◌}
+use mathlib.Core.List.{List}
+use mathlib.Core.Logic.{inl, ⊎_elim, ◌≢◌}
 use mathlib.Core.Bool.{Bool, true, false, false≢true}
-use Rattle.std.specs.Prelude.{Option, Some, None}
-use Prim.Native.Nat.{ℕ, zero, suc, ◌+◌, ◌-◌, ◌*◌, ◌≤◌, ◌<◌}
+use Rattle.std.specs.Prelude.{None}
+use Prim.Native.Nat.{ℕ, ◌+◌, ◌-◌, ◌*◌, ◌≤◌, ◌<◌}
 use native.Mathlib.Omega.{arith}
-use native.Mathlib.Nat.{mul-le-mul_right, zero-add}
-use lib.ListN.{length, get_or, replicate}
+use native.Mathlib.Nat.{zero-add}
+use lib.ListN.{length, get_or}
 use Rattle.links.specs.Links.{◌∈◌, Links}
 use Rattle.links.proofs.Laws.{one_list}
 use Rattle.links.proofs.Held.{same_or}
@@ -17,7 +17,7 @@ use Rattle.tree_table.specs.View.{removed_of}
 use Rattle.tree_marks.specs.Inner.Marks.{mark_of, mark_at, Unmarked, ListMarked}
 use Rattle.tree_promises.specs.Inner.Ready.{LiveAt, alone}
 use Rattle.tree_aged.specs.Age.{Lost}
-use Rattle.tree_aged.specs.Inner.Walk.{ended, coll_of, next_of, Ends, Fits, At, Known, Gone, Walked, Passed, NoneLost, Lowest, RemovedEnds, Zeros, Begun, Leaves}
+use Rattle.tree_aged.specs.Inner.Walk.{coll_of, next_of, Fits, Known, Walked, Passed, NoneLost, Lowest, RemovedEnds, Zeros, Begun}
 use Rattle.tree_aged.proofs.Circles.{not_lost}
 use Rattle.tree_aged.proofs.Walks.{fits_long}
 

@@ -1,13 +1,11 @@
 -- The links of one entry, as the walk reads them.
-use mathlib.Core.Path.{◌≡◌, refl, sym, ap, ◌∙◌, subst, subst⁻¹}
+use mathlib.Core.Path.{◌≡◌, refl, sym, ◌∙◌, subst, subst⁻¹}
 use mathlib.Core.List.{List}
-use mathlib.Core.Logic.{◌⊎◌, inl, inr}
-use mathlib.Core.Bool.{Bool, true, false, false≢true, not}
+use mathlib.Core.Logic.{inl, inr}
+use mathlib.Core.Bool.{Bool, true, false}
 use Prim.Native.Nat.{ℕ, zero, suc, ◌-◌, ◌<◌}
 use native.Mathlib.Omega.{arith}
-use lib.Dec.{eqb}
-use lib.ListN.{length, get_or}
-use Rattle.links.proofs.Laws.{by_eq}
+use lib.ListN.{length}
 use Rattle.tree_table.specs.Field.{field}
 use Rattle.tree_table.specs.Chain.{link_at}
 use Rattle.tree_marks.specs.Inner.Marks.{mark_of}

@@ -1,35 +1,34 @@
 -- What the rows tell of the two tables, and the public call: the gate, then what is told of sound tables.
 use mathlib.Core.Path.{◌≡◌, refl, sym, ap, ◌∙◌, subst, subst⁻¹}
 use mathlib.Core.List.{List, [], ◌∷◌, ◌++◌, append-nil}
-use mathlib.Core.Logic.{◌⊎◌, inl, inr, ⊎_elim, ◌≢◌}
+use mathlib.Core.Logic.{inl, inr, ⊎_elim, ◌≢◌}
 use Prim.Native.Nat.{ℕ, zero, suc, ◌+◌, ◌-◌, ◌*◌, ◌/◌, ◌≤◌, ◌<◌}
 use native.Mathlib.Omega.{arith}
 use native.Mathlib.Nat.{mul-le-mul_right, mod-lt, div-mul-le_self}
-use lib.ListN.{length, get_or, take, drop, replicate, length-replicate, length-append, take-append-drop, get_or-replicate, get_or-eq_default}
-use lib.Seq.{length-take-le, take_at}
+use lib.ListN.{length, take, drop, replicate, length-replicate, length-append}
+use lib.Seq.{length-take-le}
 use Rattle.order.specs.First.{Row, First}
 use Rattle.order.specs.Beside.{beside}
 use Rattle.order.specs.Gate.{cleared}
-use Rattle.std.specs.Prelude.{Option, Some, None}
+use Rattle.std.specs.Prelude.{Some, None}
 use Rattle.order.specs.Answer.{Answer, Done}
-use Rattle.links.specs.Links.{◌∈◌, Links, Holds}
+use Rattle.links.specs.Links.{◌∈◌, Links}
 use Rattle.links.proofs.Laws.{next_in}
 use Rattle.links.proofs.Held.{same_or}
 use Rattle.tree_key.specs.Hash.{hash_of}
 use Rattle.tree_table.specs.Field.{field}
 use Rattle.tree_table.specs.Chain.{link_at}
 use Rattle.tree_table.specs.View.{View, LiveIn, place, view_of, hash_at}
-use Rattle.tree_sound.specs.Sizes.{dir_room, file_room, rooms}
-use Rattle.tree_sound.specs.Sound.{Table, Below, up}
+use Rattle.tree_sound.specs.Sizes.{dir_room, file_room}
+use Rattle.tree_sound.specs.Sound.{Below, up}
 use Rattle.tree_sound.specs.Tables.{Tables, tables, rooms_in, dirs, files}
 use Rattle.tree_marks.proofs.Walks.{le_or_lt}
 use Rattle.tree_test.specs.Promise.{TreeGateOf}
 use Rattle.tree_promises.specs.Inner.Ready.{Ready, LiveAt, alone}
-use Rattle.tree_promises.specs.Promise.{worked}
 use Rattle.tree_promises.proofs.Gated.{tree_ready, tree_passed}
-use Rattle.tree_aged.specs.Age.{Lost, LostIn}
+use Rattle.tree_aged.specs.Age.{LostIn}
 use Rattle.tree_aged.specs.Calls.{Age, age_gives, lost_from, lost_rows, aged_rows, AgedPromise}
-use Rattle.tree_aged.specs.Inner.Walk.{coll_of, next_of, Fits, NoneLost, Lowest, RemovedEnds, Ripe, Zeros, Leaves, Sorted, OpenTree, alone_rows, OpenSays}
+use Rattle.tree_aged.specs.Inner.Walk.{Fits, Ripe, Sorted, OpenTree, OpenSays}
 
 -- ---- rows for inodes in their order
 

@@ -1,14 +1,13 @@
 -- What the promise means.
 use mathlib.Core.Path.{◌≡◌, refl, sym, ap, ◌∙◌, subst, subst⁻¹}
-use mathlib.Core.List.{List, [], ◌∷◌, ◌++◌, append-nil}
-use mathlib.Core.Logic.{◌⊎◌, inl, inr, ⊎_elim, ◌≢◌}
+use mathlib.Core.List.{List, [], ◌++◌, append-nil}
+use mathlib.Core.Logic.{inl, inr, ⊎_elim, ◌≢◌}
 use Prim.Native.Nat.{ℕ, zero, suc, ◌+◌, ◌-◌, ◌≤◌, ◌<◌}
 use native.Mathlib.Omega.{arith}
-use Rattle.order.specs.First.{Row, row, First}
-use Rattle.order.specs.Beside.{beside}
+use Rattle.order.specs.First.{Row, First}
 use Rattle.order.specs.Answer.{Done}
 use Rattle.links.proofs.Held.{same_or}
-use Rattle.tree_table.specs.View.{View, LiveIn}
+use Rattle.tree_table.specs.View.{View}
 use Rattle.tree_sound.specs.Tables.{Tables, dirs, files}
 use Rattle.tree_promises.proofs.Unique.{One, one_tree}
 use Rattle.tree_promises.specs.Inner.Ready.{Ready, LiveAt}

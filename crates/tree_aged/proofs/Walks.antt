@@ -2,10 +2,9 @@
 use mathlib.Core.Path.{◌≡◌, refl, sym, ap, ◌∙◌, subst, subst⁻¹}
 use mathlib.Core.List.{List, [], ◌∷◌}
 use mathlib.Core.Logic.{◌⊎◌, inl, inr, ⊎_elim, ◌≢◌}
-use mathlib.Core.Bool.{Bool, true, false, false≢true}
-use Prim.Native.Nat.{ℕ, zero, suc, ◌+◌, ◌-◌, ◌*◌, ◌≤◌, ◌<◌}
+use mathlib.Core.Bool.{true, false, false≢true}
+use Prim.Native.Nat.{ℕ, zero, suc, ◌+◌, ◌-◌, ◌≤◌, ◌<◌}
 use native.Mathlib.Omega.{arith}
-use native.Mathlib.Nat.{mul-le-mul_right, suc-mul}
 use lib.Dec.{eqb}
 use lib.ListN.{length, get_or, set, length-set}
 use lib.Seq.{get_or-set_same, get_or-set_other}
@@ -16,7 +15,7 @@ use Rattle.links.proofs.Held.{same_or}
 use Rattle.tree_table.specs.Field.{field}
 use Rattle.tree_marks.specs.Inner.Marks.{mark_of}
 use Rattle.tree_promises.specs.Inner.Ready.{LiveAt}
-use Rattle.tree_aged.specs.Age.{Names, Newer, one, more, Lost}
+use Rattle.tree_aged.specs.Age.{Names, Newer, one, Lost}
 use Rattle.tree_aged.specs.Inner.Walk.{ended, coll_of, next_of, Ends, ends, Fits, At, Open, Known, Walked}
 use Rattle.tree_aged.proofs.Circles.{newer_on}
 

@@ -4,7 +4,7 @@ use Rattle.order.specs.First.{Row, row, First}
 use Rattle.order.specs.Answer.{Done}
 use Rattle.links.specs.Links.{◌∈◌, Links}
 use Rattle.tree_table.specs.Field.{field}
-use Rattle.tree_table.specs.View.{View, removed_of}
+use Rattle.tree_table.specs.View.{removed_of}
 use Rattle.tree_marks.specs.Inner.Marks.{mark_of}
 use Rattle.tree_promises.specs.Inner.Ready.{LiveAt, alone}
 use Rattle.tree_aged.specs.Age.{Names, Lost}
