@@ -10,12 +10,12 @@ use Rattle.fat_retrace.proofs.join_at.Goals.{
 
 pub returns-then-prev_of-ne0 : goal.returns-then-prev_of-ne0
 returns-then-prev_of-ne0 c = elim c.then-prev_of-ne0.branch [
-    then-prev_of-ne0-via-then-prev_of-ne0 w ↦ join_later _ _ _ _ _ _ c.prev_of.ensures w.if-prev_of-ne0.true
+  | then-prev_of-ne0-via-then-prev_of-ne0 w ↦ join_later _ _ _ _ _ _ c.prev_of.ensures w.if-prev_of-ne0.true
   | then-prev_of-ne0-via-else-prev_of-ne0+then-head_of-b w ↦ join_free _ _ _ _ _ _ w.head_of.ensures w.if-head_of-b.true
   | then-prev_of-ne0-via-else-prev_of-ne0+else-head_of-b+then-next_of-eq0 w ↦
       join_one _ _ _ c.requires.volume (record { byte = λ k. omega (arith, c.type_inv.table k) }) c.requires.node _ _ _
       c.prev_of.ensures w.if-prev_of-ne0.false w.head_of.ensures w.if-head_of-b.false w.next_of.ensures _ _ w.if-next_of-eq0.true
-  ]
+]
 
 pub give_up-given-requires : goal.give_up-given-requires
 give_up-given-requires c = let w = several _ _ _ c.requires.volume (record { byte = λ k. omega (arith, c.type_inv.table k) }) c.requires.node _ _ _
