@@ -25,13 +25,21 @@ pub fn on_dirs(
     let mut opened = *last as usize;
     let said = match change {
         Change::Make => tree::change::make_dir(
-            dh, d, fh, f, work, list, &mut opened, parent, &name, &request.padding(),
+            dh,
+            d,
+            fh,
+            f,
+            work,
+            list,
+            &mut opened,
+            parent,
+            &name,
+            &request.padding(),
         )
         .into(),
         Change::Rename => tree::change::rename_dir(
             dh, d, fh, f, work, list, opened, inode, parent, &name,
-        )
-        .into(),
+        ).into(),
         Change::Delete => {
             tree::change::delete_dir(dh, d, fh, f, work, list, &mut opened, inode).into()
         }
@@ -39,13 +47,27 @@ pub fn on_dirs(
             tree::carry::set_carried_dir(dh, d, fh, f, work, inode, request.padding()).into()
         }
         Change::Open => tree::opens::open_dir(
-            dh, d, fh, f, work, list, &mut opened, inode, request.want(),
-        )
-        .into(),
+            dh,
+            d,
+            fh,
+            f,
+            work,
+            list,
+            &mut opened,
+            inode,
+            request.want(),
+        ).into(),
         Change::Close => tree::opens::close_dir(
-            dh, d, fh, f, work, list, &mut opened, inode, request.want(),
-        )
-        .into(),
+            dh,
+            d,
+            fh,
+            f,
+            work,
+            list,
+            &mut opened,
+            inode,
+            request.want(),
+        ).into(),
     };
     *last = u32::try_from(opened).unwrap_or(u32::MAX);
     said
@@ -75,13 +97,21 @@ pub fn on_files(
     let mut opened = *last as usize;
     let said = match change {
         Change::Make => tree::change::make_file(
-            dh, d, fh, f, work, list, &mut opened, parent, &name, &carried,
+            dh,
+            d,
+            fh,
+            f,
+            work,
+            list,
+            &mut opened,
+            parent,
+            &name,
+            &carried,
         )
         .into(),
         Change::Rename => tree::change::rename_file(
             dh, d, fh, f, work, list, opened, inode, parent, &name,
-        )
-        .into(),
+        ).into(),
         Change::Delete => {
             tree::change::delete_file(dh, d, fh, f, work, list, &mut opened, inode).into()
         }
@@ -89,13 +119,27 @@ pub fn on_files(
             tree::carry::set_carried_file(dh, d, fh, f, work, inode, carried).into()
         }
         Change::Open => tree::opens::open_file(
-            dh, d, fh, f, work, list, &mut opened, inode, request.want(),
-        )
-        .into(),
+            dh,
+            d,
+            fh,
+            f,
+            work,
+            list,
+            &mut opened,
+            inode,
+            request.want(),
+        ).into(),
         Change::Close => tree::opens::close_file(
-            dh, d, fh, f, work, list, &mut opened, inode, request.want(),
-        )
-        .into(),
+            dh,
+            d,
+            fh,
+            f,
+            work,
+            list,
+            &mut opened,
+            inode,
+            request.want(),
+        ).into(),
     };
     *last = u32::try_from(opened).unwrap_or(u32::MAX);
     said

@@ -5,10 +5,9 @@ mod changes;
 mod looks;
 mod said;
 
+pub use said::Said;
 use tree_opens::Want;
 use tree_promises::Kind;
-
-pub use said::Said;
 
 // The calls that change no table.
 #[derive(Clone, Copy)]

@@ -4,14 +4,7 @@ use crate::{Look, Request, Said};
 use tree_promises::Kind;
 
 // The name with the answer beside it, which the call itself does not give: its length, and its sixteen bytes.
-fn name(
-    request: &Request,
-    dh: &[u8],
-    d: &[u8],
-    fh: &[u8],
-    f: &[u8],
-    work: &mut [u32],
-) -> Said {
+fn name(request: &Request, dh: &[u8], d: &[u8], fh: &[u8], f: &[u8], work: &mut [u32]) -> Said {
     let Request { kind, inode, .. } = *request;
     let answer = tree::name::name_answer(dh, d, fh, f, work, kind, inode);
     let name = tree::name::name(dh, d, fh, f, work, kind, inode);
@@ -52,9 +45,7 @@ pub fn ask(
         }
         (Look::Stat, _) => tree::look::stat(dh, d, fh, f, work).into(),
         (Look::Name, _) => name(request, dh, d, fh, f, work),
-        (Look::NameAnswer, _) => {
-            tree::name::name_answer(dh, d, fh, f, work, kind, inode).into()
-        }
+        (Look::NameAnswer, _) => { tree::name::name_answer(dh, d, fh, f, work, kind, inode).into() }
         (Look::Carried, Kind::Directory) => {
             tree::carry::carried_dir(dh, d, fh, f, work, inode).into()
         }

@@ -29,7 +29,10 @@ impl Said {
 pub fn fields_of(bytes: &[u8]) -> [u64; 4] {
     let mut fields = [0; 4];
     for (field, part) in fields.iter_mut().zip(bytes.chunks(8)) {
-        *field = part.iter().rev().fold(0, |x, byte| x << 8 | u64::from(*byte));
+        *field = part
+            .iter()
+            .rev()
+            .fold(0, |x, byte| x << 8 | u64::from(*byte));
     }
     fields
 }
