@@ -20,7 +20,7 @@ use Rattle.fat_table.specs.Counts.{starts}
 use Rattle.fat_table.proofs.Files.{Whole}
 use Rattle.fat_test.specs.Gate.{test_gate}
 use Rattle.fat_test.specs.Promise.{test_refused, test_done, TestPromise}
-use Rattle.fat_test.specs.declared.Tested.{Tested}
+use Rattle.fat_test.specs.Promise.{Tested}
 use Rattle.order.specs.Beside.{beside}
 use Rattle.fat_promises.specs.Promise.{Promise, ChangePromise}
 use Rattle.fat_promises.specs.Calls.{

@@ -13,7 +13,7 @@ use Rattle.fat_node.specs.Entry.{Bytes, get, put}
 use Rattle.fat_node.specs.Node.{set_node, set_head, prev_half, next_half}
 use Rattle.fat_node.specs.Sizes.{blocks, Misfit, Outside}
 use Rattle.fat_node.specs.Format.{formatted, format_rows, format_done, format_gives, FormatPromise}
-use Rattle.fat_node.specs.declared.Formatted.{Formatted}
+use Rattle.order.specs.Answer.{Answer}
 use Rattle.checks.specs.Check.{Check, Shows}
 use Rattle.checks.specs.Blocks.{zeros, formats, format4, one_block}
 use Rattle.checks.proofs.Passes.{none_first, Sole, sole}
@@ -35,8 +35,8 @@ module _ (t : Bytes) (n : ℕ) (len : length t ≡ 8 * (n + 1)) (some : 1 ≤ n)
   shows_format wanted cs sees rest =
       then (formats n wanted) cs t (format_done t).1 formats_done.0
       (λ o p. (
-        ap (λ (x : Formatted × Bytes). (formats n wanted).seen x) (formats_done.1 o p) ∙ sees,
-        ap (λ (x : Formatted × Bytes). x.1) (formats_done.1 o p),
+        ap (λ (x : Answer × Bytes). (formats n wanted).seen x) (formats_done.1 o p) ∙ sees,
+        ap (λ (x : Answer × Bytes). x.1) (formats_done.1 o p),
       )) rest
 
 pub sees4 : format4.seen (format_done (zeros 4)) ≡ format4.wanted
@@ -51,5 +51,5 @@ pub one_block_lem : Shows one_block.checks (zeros 1)
 one_block_lem = shows_format (zeros 1) 1 refl (omega arith) (omega arith) (0 ∷ 0 ∷ 1 ∷ 0x80000000 ∷ 0 ∷ []) [] sees1 tt
 
 -- beside the list: a table of more than a million blocks is refused with InvalidValue, and stays as it was
-pub format_many : (t : Bytes) → (Misfit t → ⊥) → 1000000 < blocks t → (o : Formatted × Bytes) → FormatPromise t o.0 o.1 → o ≡ format_gives InvalidValue t
+pub format_many : (t : Bytes) → (Misfit t → ⊥) → 1000000 < blocks t → (o : Answer × Bytes) → FormatPromise t o.0 o.1 → o ≡ format_gives InvalidValue t
 format_many t fit many o p = refused (format_rows t) (format_done t) o (format_gives InvalidValue t) (inr (fit, inl (inr many, refl))) p

@@ -19,7 +19,7 @@ use Rattle.fat_table.specs.Sound.{Sound}
 use Rattle.fat_table.proofs.Files.{Whole}
 use Rattle.fat_test.specs.Gate.{InUse, retired, Uneven, gate_with, block_gate, change_gate, test_gate}
 use Rattle.fat_test.specs.Promise.{test_refused, test_done, TestPromise}
-use Rattle.fat_test.specs.declared.Tested.{Tested}
+use Rattle.fat_test.specs.Promise.{Tested}
 use Rattle.order.specs.Beside.{Beside, beside, within, Promised}
 use Rattle.fat_promises.specs.Promise.{Promise, ChangePromise}
 

@@ -3,9 +3,9 @@ use Rattle.std.specs.Prelude.{List, [], ◌∷◌, ℕ, ◌+◌, ◌*◌, replic
 use Rattle.order.specs.Answer.{number_of}
 use Rattle.fat_node.specs.Entry.{Bytes}
 use Rattle.fat_node.specs.Format.{FormatPromise}
-use Rattle.fat_node.specs.declared.Formatted.{Formatted}
+use Rattle.order.specs.Answer.{Answer}
 use Rattle.fat_test.specs.Promise.{TestPromise}
-use Rattle.fat_test.specs.declared.Tested.{Tested}
+use Rattle.fat_test.specs.Promise.{Tested}
 use Rattle.order.specs.Beside.{Beside}
 use Rattle.fat_promises.specs.Calls.{
   Create,
@@ -39,9 +39,9 @@ nines many = replicate many 9
 abbrev pub formats : ℕ → List ℕ → Check Bytes
 formats n wanted =
     record {
-      Given = Formatted × Bytes;
+      Given = Answer × Bytes;
       promise = λ t o. FormatPromise t o.0 o.1;
-      seen = λ o. number_of o.0.answer ∷ entries (n + 1) 0 o.1;
+      seen = λ o. number_of o.0 ∷ entries (n + 1) 0 o.1;
       wanted = wanted;
       after = λ t o. o.1;
     }
