@@ -50,11 +50,10 @@ fn up_to_four() {
 
 // Writes the number that retrace answers.
 fn answer(what: &[u8], table: &[u8], work: &mut [u32], list: &mut [u32]) {
-    let r = fat_retrace::retrace(table, work, list);
-    let answer = r.answer;
+    let retraced = fat_retrace::retrace(table, work, list);
     io::write_all(1, what);
     io::write_all(1, b": ");
-    io::print_decimal(1, order::number(answer) as u64);
+    io::print_decimal(1, order::number(&retraced) as u64);
     io::write_all(1, b"\n");
 }
 
@@ -68,7 +67,7 @@ fn refusals() {
     answer(b"history of no block", &[0u8; 8], &mut work, &mut list);
     answer(b"with a short work list", &table, &mut short, &mut list);
     answer(b"history of zeros", &table, &mut work, &mut list);
-    fat_node::format(&mut table);
+    let _ = fat_node::format(&mut table);
     answer(
         b"with a list of 9 places for 2 blocks",
         &table,

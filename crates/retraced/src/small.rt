@@ -2,11 +2,11 @@
 // candidate, and the test says which of the candidates are sound.
 ghost use Rattle.std.specs.Prelude.{◌+◌, ◌<◌, ◌≤◌};
 
-use crate::replay::{done, remade};
+use crate::replay::remade;
 use crate::tally::{Tally, count};
 
 // The top bit of a word of an entry.
-const FLAG: u32 = 2147483648;
+const FLAG: u32 = 1 << 31;
 
 // 5 first free nodes, 16 sets of starts, 5 nexts for each of 4 blocks.
 const CANDIDATES: u32 = 50000;
@@ -17,14 +17,7 @@ fn head_of(c: u32) -> u32 {
 
 // Whether block b starts a node.
 fn starts(c: u32, b: u32) -> bool {
-    let set = c / 5 % 16;
-    match b {
-        0 => set % 2 == 1,
-        1 => set / 2 % 2 == 1,
-        2 => set / 4 % 2 == 1,
-        3 => set / 8 % 2 == 1,
-        _ => false,
-    }
+    b < 4 && (c / 5 % 16) >> b & 1 == 1
 }
 
 // The index of the next of the node at block b.
@@ -43,27 +36,17 @@ fn next_of(c: u32, b: u32) -> u32 {
 fn prev_of(c: u32, b: u32) -> u32
     requires { b ≤ 3 }
 {
-    if next_of(c, 0) == b + 1 {
-        return 1;
-    }
-    if next_of(c, 1) == b + 1 {
-        return 2;
-    }
-    if next_of(c, 2) == b + 1 {
-        return 3;
-    }
-    if next_of(c, 3) == b + 1 {
-        return 4;
+    for x in 0..4 {
+        if next_of(c, x) == b + 1 {
+            return x + 1;
+        }
     }
     0
 }
 
 // Whether block b does not go on with the node before it.
 fn stops(c: u32, n: u32, b: u32) -> bool {
-    if n <= b {
-        return true;
-    }
-    starts(c, b)
+    n <= b || starts(c, b)
 }
 
 // The block after the node at block b.
@@ -71,54 +54,30 @@ fn end_of(c: u32, n: u32, b: u32) -> u32
     requires { b ≤ 3 }
     ensures { (b < result) × (result ≤ b + 4) }
 {
-    if stops(c, n, b + 1) {
-        return b + 1;
-    }
-    if stops(c, n, b + 2) {
-        return b + 2;
-    }
-    if stops(c, n, b + 3) {
-        return b + 3;
+    for end in b + 1..b + 4 {
+        if stops(c, n, end) {
+            return end;
+        }
     }
     b + 4
 }
 
 // Whether a candidate says nothing of a block that starts no node, or is not there.
 fn plain_at(c: u32, n: u32, b: u32) -> bool {
-    if n <= b {
-        if starts(c, b) {
-            return false;
-        }
-    }
     if starts(c, b) {
-        return true;
+        return b < n;
     }
     next_of(c, b) == 0
 }
 
 // Whether a candidate is a table of n blocks, sound or not.
 fn plain(c: u32, n: u32) -> bool {
-    if n < head_of(c) {
-        return false;
-    }
-    if !starts(c, 0) {
-        return false;
-    }
-    if !plain_at(c, n, 1) {
-        return false;
-    }
-    if !plain_at(c, n, 2) {
-        return false;
-    }
-    plain_at(c, n, 3)
+    head_of(c) <= n && starts(c, 0) && plain_at(c, n, 1) && plain_at(c, n, 2) && plain_at(c, n, 3)
 }
 
 // Writes a word of a table; past its end none.
 fn put(table: &mut [u8], at: usize, v: u32) {
-    if table.len() < 4 {
-        return;
-    }
-    if table.len() - 4 < at {
+    if table.len() < 4 || table.len() - 4 < at {
         return;
     }
     words::put_u32(table, at, v);
@@ -159,10 +118,9 @@ fn put_node(table: &mut [u8], c: u32, n: u32, b: u32)
 
 fn build(table: &mut [u8], c: u32, n: u32) {
     put_entry(table, 0, 0, head_of(c));
-    put_node(table, c, n, 0);
-    put_node(table, c, n, 1);
-    put_node(table, c, n, 2);
-    put_node(table, c, n, 3);
+    for b in 0..4 {
+        put_node(table, c, n, b);
+    }
 }
 
 // Counts a candidate if it is a sound table.
@@ -175,24 +133,22 @@ fn candidate(t: Tally, c: u32, n: u32, table: &mut [u8], other: &mut [u8], data:
     let mut work = [0u32; 4];
     let mut list = [0u32; 20];
     build(table, c, n);
-    let tested = fat_test::test(table, &mut work);
-    let answer = tested.answer;
-    if !done(answer) {
+    if fat_test::test(table, &mut work).is_err() {
         return t;
     }
-    let r = remade(table, n as usize, other, data, &mut work, &mut list);
-    count(t, r)
+    count(
+        t,
+        remade(table, n as usize, other, data, &mut work, &mut list),
+    )
 }
 
 // All tables of n blocks.
 pub fn all(n: u32, table: &mut [u8], other: &mut [u8], data: &[u8]) -> Tally
     requires { n ≤ 4 }
 {
-    let mut t = crate::tally::none();
-    let mut c: u32 = 0;
-    while c < CANDIDATES {
+    let mut t = Tally::default();
+    for c in 0..CANDIDATES {
         t = candidate(t, c, n, table, other, data);
-        c += 1;
     }
     t
 }

@@ -3,7 +3,7 @@ use crate::replay::Again;
 use std::num::wrapping_add_u64;
 
 // The tables that were accepted, those that their history made again, the calls in all, and the most calls for a node in thousandths.
-#[derive(Clone, Copy)]
+#[derive(Clone, Copy, Default)]
 pub struct Tally {
     pub tables: u64,
     pub remade: u64,
@@ -11,47 +11,25 @@ pub struct Tally {
     pub most: u64,
 }
 
-pub fn none() -> Tally {
-    Tally {
-        tables: 0,
-        remade: 0,
-        calls: 0,
-        most: 0,
-    }
-}
-
 // Calls for a node, in thousandths.
 fn ratio(calls: usize, nodes: usize) -> u64 {
-    if 1000000 < calls {
-        return 0;
-    }
-    if nodes == 0 {
+    if 1000000 < calls || nodes == 0 {
         return 0;
     }
     (calls * 1000 / nodes) as u64
 }
 
-// The larger of two numbers.
-fn larger(a: u64, b: u64) -> u64 {
-    if a < b { b } else { a }
-}
-
-// One table more.
-pub fn count(t: Tally, r: Again) -> Tally {
+// One table more, and what its history made of it.
+pub fn count(t: Tally, r: Option<Again>) -> Tally {
     let tables = wrapping_add_u64(t.tables, 1);
-    if !r.same {
-        return Tally {
-            tables,
-            remade: t.remade,
-            calls: t.calls,
-            most: t.most,
-        };
-    }
+    let Some(again) = r else {
+        return Tally { tables, ..t };
+    };
     Tally {
         tables,
         remade: wrapping_add_u64(t.remade, 1),
-        calls: wrapping_add_u64(t.calls, r.calls as u64),
-        most: larger(t.most, ratio(r.calls, r.nodes)),
+        calls: wrapping_add_u64(t.calls, again.calls as u64),
+        most: t.most.max(ratio(again.calls, again.nodes)),
     }
 }
 
@@ -61,7 +39,7 @@ pub fn both(a: Tally, b: Tally) -> Tally {
         tables: wrapping_add_u64(a.tables, b.tables),
         remade: wrapping_add_u64(a.remade, b.remade),
         calls: wrapping_add_u64(a.calls, b.calls),
-        most: larger(a.most, b.most),
+        most: a.most.max(b.most),
     }
 }
 
