@@ -3,7 +3,7 @@ ghost use Rattle.std.specs.Prelude.{◌≤◌, length};
 
 use crate::line::Line;
 use crate::{line, tell};
-use ask_blocks::{Lent, Said};
+use ask_blocks::{Call, Lent, Request, Said};
 
 // What a line lends from there on: bytes of table and data, the block length, places of the work list.
 #[derive(Clone, Copy)]
@@ -62,19 +62,25 @@ fn ask(
     list: &mut [u32],
     buf: &mut [u8],
 ) -> Said {
-    let lent = Lent {
-        table: volume.table,
-        data: volume.data,
-        work: volume.work,
-        list: l.c,
-        buf: l.d,
+    let request = Request {
+        call: Call::numbered(which).unwrap_or(Call::Read),
+        block_len: volume.block_len,
+        first: l.a,
+        count: l.b,
     };
-    let block_len = volume.block_len;
-    let first = l.a;
-    let count = l.b;
-    ask_blocks::ask(
-        which, lent, table, data, block_len, work, list, buf, first, count,
-    )
+    let t = volume.table.min(table.len());
+    let d = volume.data.min(data.len());
+    let w = volume.work.min(work.len());
+    let c = l.c.min(list.len());
+    let b = l.d.min(buf.len());
+    let lent = Lent {
+        table: &mut table[..t],
+        data: &mut data[..d],
+        work: &mut work[..w],
+        list: &mut list[..c],
+        buf: &mut buf[..b],
+    };
+    ask_blocks::ask(request, lent)
 }
 
 // Where the block table is broken, as BrokenFat says.

@@ -3,7 +3,7 @@ ghost use Rattle.std.specs.Prelude.{◌≤◌, length};
 
 use crate::line::Line;
 use crate::{line, tell};
-use ask_tree::{Lent, Said};
+use ask_tree::{Call, Lent, Look, Request, Said};
 use tree_promises::Kind;
 
 // What a line lends from there on: bytes of hashes and tables, places of the work list and of each list of open records, the last of which is the number of
@@ -87,39 +87,46 @@ fn ask(
 ) -> Said {
     let mut work = [0u32; 7];
     let mut list = [0u32; 7];
-    let lent = Lent {
-        dir_hash: tree.dir_hash,
-        dir_table: tree.dir_table,
-        file_hash: tree.file_hash,
-        file_table: tree.file_table,
-        work: tree.work,
-        dir_opens: tree.opens,
-        file_opens: tree.opens,
-        list: l.d,
+    let request = Request {
+        call: Call::numbered(which / 2).unwrap_or(Call::Look(Look::Carried)),
+        kind: kind(which),
+        inode: tell::word(l.a),
+        parent: tell::word(l.b),
+        name: named(l.c),
+        carried: [7u8; 20],
+        dir_max: l.a,
+        file_max: l.b,
     };
-    let inode = tell::word(l.a);
-    let parent = tell::word(l.b);
-    let name = named(l.c);
-    let of = kind(which);
-    let carried = [7u8; 20];
-    let dir_max = l.a;
-    let file_max = l.b;
-    let number = which / 2;
-    ask_tree::ask(
-        number, of, lent, dh, d, fh, f, &mut work, dir_opens, file_opens, &mut list, inode, parent,
-        name, carried, dir_max, file_max,
-    )
+    let a = tree.dir_hash.min(dh.len());
+    let b = tree.dir_table.min(d.len());
+    let c = tree.file_hash.min(fh.len());
+    let e = tree.file_table.min(f.len());
+    let w = tree.work.min(work.len());
+    let o = tree.opens.min(dir_opens.len());
+    let p = tree.opens.min(file_opens.len());
+    let n = l.d.min(list.len());
+    let lent = Lent {
+        dir_hash: &mut dh[..a],
+        dir_table: &mut d[..b],
+        file_hash: &mut fh[..c],
+        file_table: &mut f[..e],
+        work: &mut work[..w],
+        dir_opens: &mut dir_opens[..o],
+        file_opens: &mut file_opens[..p],
+        list: &mut list[..n],
+    };
+    ask_tree::ask(&request, lent)
 }
 
 // The fields of an answer.
 fn fields(which: u32, said: Said) {
     let number = which / 2;
     match number {
-        2 | 14 => tell::fields(2, said.one, said.two),
-        3 | 6 | 8 | 10 => tell::fields(1, said.one, 0),
+        2 | 14 => tell::fields(2, said.fields[0], said.fields[1]),
+        3 | 6 | 8 | 10 => tell::fields(1, said.fields[0], 0),
         7 => {
-            tell::fields(2, said.one, said.two);
-            tell::fields(2, said.three, said.four);
+            tell::fields(2, said.fields[0], said.fields[1]);
+            tell::fields(2, said.fields[2], said.fields[3]);
         }
         _ => {}
     }

@@ -2,7 +2,7 @@
 ghost use Rattle.std.specs.Prelude.{◌≡◌, length};
 
 use crate::read;
-use ask_blocks::{Lent, Said};
+use ask_blocks::{Call, Lent, Request, Said};
 
 // Whether the stored answer is that one, with the entry and the rule that a broken table names.
 fn answers(kept: &[u8], said: Said) -> bool
@@ -23,19 +23,6 @@ fn answers(kept: &[u8], said: Said) -> bool
     words::get_u32(kept, 80) == said.rule
 }
 
-// How much of each buffer the call is lent.
-fn lent(kept: &[u8]) -> Lent
-    requires { length kept.now ≡ 408 }
-{
-    Lent {
-        table: read::room(kept, 32),
-        data: read::room(kept, 36),
-        buf: read::room(kept, 40),
-        work: read::room(kept, 44),
-        list: read::room(kept, 48),
-    }
-}
-
 // Makes the call.
 fn call(
     table: &mut [u8],
@@ -47,14 +34,25 @@ fn call(
 ) -> Said
     requires { length kept.now ≡ 408 }
 {
-    let which = words::get_u32(kept, 0);
-    let first = read::size(kept, 8);
-    let count = read::size(kept, 16);
-    let block_len = read::size(kept, 24);
-    let room = lent(kept);
-    ask_blocks::ask(
-        which, room, table, data, block_len, work, list, buf, first, count,
-    )
+    let request = Request {
+        call: Call::numbered(words::get_u32(kept, 0)).unwrap_or(Call::Read),
+        block_len: read::size(kept, 24),
+        first: read::size(kept, 8),
+        count: read::size(kept, 16),
+    };
+    let t = read::room(kept, 32).min(table.len());
+    let d = read::room(kept, 36).min(data.len());
+    let b = read::room(kept, 40).min(buf.len());
+    let w = read::room(kept, 44).min(work.len());
+    let l = read::room(kept, 48).min(list.len());
+    let lent = Lent {
+        table: &mut table[..t],
+        data: &mut data[..d],
+        work: &mut work[..w],
+        list: &mut list[..l],
+        buf: &mut buf[..b],
+    };
+    ask_blocks::ask(request, lent)
 }
 
 // Makes the call: whether its answer is the stored one.

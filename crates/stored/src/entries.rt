@@ -2,7 +2,7 @@
 ghost use Rattle.std.specs.Prelude.{◌≡◌, length};
 
 use crate::read;
-use ask_tree::{Lent, Said};
+use ask_tree::{Call, Lent, Look, Request, Said};
 use tree_promises::Kind;
 
 fn kind(kept: &[u8]) -> Kind
@@ -32,54 +32,38 @@ fn carried(kept: &[u8]) -> [u8; 20]
     bytes
 }
 
-// How much of each buffer the call is lent.
-fn lent(kept: &[u8]) -> Lent
-    requires { length kept.now ≡ 1456 }
-{
-    Lent {
-        dir_hash: read::room(kept, 20),
-        dir_table: read::room(kept, 24),
-        file_hash: read::room(kept, 28),
-        file_table: read::room(kept, 32),
-        work: read::room(kept, 36),
-        dir_opens: read::room(kept, 40),
-        file_opens: read::room(kept, 44),
-        list: read::room(kept, 48),
-    }
-}
-
 // Whether the stored fields are those of an answer.
 fn fields(kept: &[u8], said: Said) -> bool
     requires { length kept.now ≡ 1456 }
 {
-    if read::number(kept, 72) != said.one {
+    if read::number(kept, 72) != said.fields[0] {
         return false;
     }
-    if read::number(kept, 80) != said.two {
+    if read::number(kept, 80) != said.fields[1] {
         return false;
     }
-    if read::number(kept, 88) != said.three {
+    if read::number(kept, 88) != said.fields[2] {
         return false;
     }
-    read::number(kept, 96) == said.four
+    read::number(kept, 96) == said.fields[3]
 }
 
 // Whether the stored carried bytes are those of an answer.
 fn carries(kept: &[u8], said: Said) -> bool
     requires { length kept.now ≡ 1456 }
 {
-    if read::number(kept, 140) != said.one {
+    if read::number(kept, 140) != said.fields[0] {
         return false;
     }
-    if read::number(kept, 148) != said.two {
+    if read::number(kept, 148) != said.fields[1] {
         return false;
     }
-    read::wide(words::get_u32(kept, 156)) == said.three
+    read::wide(words::get_u32(kept, 156)) == said.fields[2]
 }
 
 // Whether the sixteen bytes of a table at an offset are those of an answer.
 fn named(table: &[u8], offset: usize, said: Said) -> bool {
-    if said.one != 16 {
+    if said.fields[0] != 16 {
         return false;
     }
     if table.len() < 16 {
@@ -88,10 +72,10 @@ fn named(table: &[u8], offset: usize, said: Said) -> bool {
     if table.len() - 16 < offset {
         return false;
     }
-    if read::number(table, offset) != said.two {
+    if read::number(table, offset) != said.fields[1] {
         return false;
     }
-    read::number(table, offset + 8) == said.three
+    read::number(table, offset + 8) == said.fields[2]
 }
 
 // Whether an answer shows the name that the record says: none where the call was refused, else the bytes of its table at the stored offset.
@@ -99,7 +83,7 @@ fn shows(d: &[u8], f: &[u8], kept: &[u8], said: Said) -> bool
     requires { length kept.now ≡ 1456 }
 {
     if said.number != 0 {
-        return said.one == 0;
+        return said.fields[0] == 0;
     }
     let offset = read::size(kept, 72);
     if words::get_u32(kept, 8) == 0 {
@@ -137,19 +121,35 @@ fn call(
 ) -> Said
     requires { length kept.now ≡ 1456 }
 {
-    let which = words::get_u32(kept, 0);
-    let inode = words::get_u32(kept, 12);
-    let parent = words::get_u32(kept, 16);
-    let dir_max = read::size(kept, 56);
-    let file_max = read::size(kept, 64);
-    let of = kind(kept);
-    let room = lent(kept);
-    let letters = name(kept);
-    let bytes = carried(kept);
-    ask_tree::ask(
-        which, of, room, dh, d, fh, f, work, dir_opens, file_opens, list, inode, parent, letters,
-        bytes, dir_max, file_max,
-    )
+    let request = Request {
+        call: Call::numbered(words::get_u32(kept, 0)).unwrap_or(Call::Look(Look::Carried)),
+        kind: kind(kept),
+        inode: words::get_u32(kept, 12),
+        parent: words::get_u32(kept, 16),
+        name: name(kept),
+        carried: carried(kept),
+        dir_max: read::size(kept, 56),
+        file_max: read::size(kept, 64),
+    };
+    let a = read::room(kept, 20).min(dh.len());
+    let b = read::room(kept, 24).min(d.len());
+    let c = read::room(kept, 28).min(fh.len());
+    let e = read::room(kept, 32).min(f.len());
+    let w = read::room(kept, 36).min(work.len());
+    let o = read::room(kept, 40).min(dir_opens.len());
+    let p = read::room(kept, 44).min(file_opens.len());
+    let l = read::room(kept, 48).min(list.len());
+    let lent = Lent {
+        dir_hash: &mut dh[..a],
+        dir_table: &mut d[..b],
+        file_hash: &mut fh[..c],
+        file_table: &mut f[..e],
+        work: &mut work[..w],
+        dir_opens: &mut dir_opens[..o],
+        file_opens: &mut file_opens[..p],
+        list: &mut list[..l],
+    };
+    ask_tree::ask(&request, lent)
 }
 
 // Fills the tables with what stood in them before the call.
