@@ -1,3 +1,4 @@
+pub mod Copied
 pub mod InRow
 pub mod Puts
 pub mod Carries

@@ -16,6 +16,18 @@ use fat_judge::judge_carry;
 use fat_walk::{is_file, size_at};
 use order::Refusal;
 
+// Copies one part over another of the same length. It is a loop over the bytes, since `copy_from_slice` calls memmove, which an archive for C would then need
+// from outside. It compiles to a vector loop, 32 bytes a turn: look for movups in fat_copy::read_sound and fat_copy::write_sound in
+// `objdump -d dist/x86_64-unknown-linux-gnu/libmukthiban.a`.
+pub fn copy(dst: &mut [u8], src: &[u8])
+    requires { length src.now ≡ length dst.old }
+    ensures { dst.new ≡ src.now }
+{
+    for i in 0..src.len() {
+        dst[i] = src[i];
+    }
+}
+
 // Bytes of a file that lie in a row in the data: `len` of them from place `at` on; index `next` names the node after theirs.
 #[derive(Clone, Copy)]
 struct Stretch {
@@ -65,7 +77,7 @@ fn fetch(
     while done < len {
         let s = stretch_at(table, block_len, n, i - 1, f, len - done);
         let end = done + s.len;
-        buf[done..end].copy_from_slice(&data[s.at..s.at + s.len]);
+        copy(&mut buf[done..end], &data[s.at..s.at + s.len]);
         done = end;
         f = 0;
         i = s.next;
@@ -82,7 +94,7 @@ fn put_row(data: &mut [u8], block_len: usize, at: usize, buf: &[u8])
     while i < len {
         let a = at + i;
         let share = (len - i).min(block_len - a % block_len);
-        data[a..a + share].copy_from_slice(&buf[i..i + share]);
+        copy(&mut data[a..a + share], &buf[i..i + share]);
         i += share;
     }
 }

@@ -2,8 +2,6 @@
 use Rattle.std.proofs.Common.{◌≡◌, ap, sym, subst, ◌∙◌, List, ℕ, suc, ◌+◌, ◌-◌, ◌*◌, ◌/◌, ◌%◌, ◌≤◌, ◌<◌, Bool, true, false, length, get_or, take, drop, arith, ⊎_elim}
 use Rattle.std.proofs.Math.Nat.{suc-mul, add-mul, mul-le-mul_right, div-add-mod', mod-lt, lt_of_mul-lt-mul_right, mul-div_cancel, div-lt_iff_lt-mul}
 use Rattle.std.proofs.lemmas.List.{get_or-take, get_or-drop, length-take, length-drop}
-use Rattle.std.proofs.lemmas.Grind.{div_ceil_times}
-use Rattle.std.specs.Int.{div_ceil}
 use Rattle.order.specs.Tells.{Tells}
 use Rattle.fat_node.proofs.Nodes.{le_or_lt}
 use Rattle.fat_listed.specs.Listed.{Foreign}
@@ -12,11 +10,9 @@ use Rattle.fat_listed.proofs.Tests.{decide}
 
 module _ (list : List ℕ) (l pos many : ℕ) (some : 1 ≤ l) where
   -- where some bytes are asked for
-  module _ (more : 1 ≤ many) (c : ℕ) (e : c ≡ div_ceil (pos % l + many % l) l) where
+  module _ (more : 1 ≤ many) (c : ℕ) (h : (pos % l + many % l ≤ c * l) × (c * l < pos % l + many % l + l)) where
     around : (pos + many ≤ (pos / l + (many / l + c)) * l) × ((pos / l + (many / l + c)) * l < pos + many + l)
     around =
-        let h : (pos % l + many % l ≤ c * l) × (c * l < pos % l + many % l + l) =
-        subst (λ (x : ℕ). (pos % l + many % l ≤ x * l) × (x * l < pos % l + many % l + l)) (sym e) (div_ceil_times (pos % l + many % l) l some) in
         let s : (pos / l + (many / l + c)) * l ≡ pos / l * l + (many / l * l + c * l) =
         add-mul (pos / l) (many / l + c) l ∙ ap (λ (x : ℕ). pos / l * l + x) (add-mul (many / l) c l) in
         (omega (arith, div-add-mod' pos l, div-add-mod' many l, h.0, s), omega (arith, div-add-mod' pos l, div-add-mod' many l, h.1, s))
@@ -24,8 +20,8 @@ module _ (list : List ℕ) (l pos many : ℕ) (some : 1 ≤ l) where
     pub touched_in : pos + many ≤ length list * l → pos / l + (many / l + c) ≤ length list
     touched_in room =
         let q : suc (length list) * l ≡ length list * l + l = suc-mul (length list) l in
-        let h : pos / l + (many / l + c) < suc (length list) = lt_of_mul-lt-mul_right l {m = pos / l + (many / l + c)} {n = suc (length list)} (omega (arith, around.1, room, q)) in
-        omega (arith, h)
+        let k : pos / l + (many / l + c) < suc (length list) = lt_of_mul-lt-mul_right l {m = pos / l + (many / l + c)} {n = suc (length list)} (omega (arith, around.1, room, q)) in
+        omega (arith, k)
 
     pub touched_some : (m : ℕ) → m ≡ many / l + c → pos / l + m ≤ length list → Touched list l pos many (take m (drop (pos / l) list))
     touched_some m q room =

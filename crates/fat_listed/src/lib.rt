@@ -9,6 +9,7 @@ ghost use Rattle.order.specs.Tells.{Tells};
 ghost use Rattle.fat_listed.specs.Listed.{Uneven, Unfit, Foreign, listed_tests, write_tests, ReadBlocksPromise, WriteBlocksPromise};
 ghost use Rattle.fat_listed.specs.Shares.{Domestic, ShareOf, Touched, JudgeSays};
 
+use fat_copy::copy;
 use order::Refusal;
 
 // Whether the data are not a whole number of blocks.
@@ -49,6 +50,20 @@ fn passes(count: usize, block_len: usize, pos: usize, len: usize) -> bool
     left * block_len < pos % block_len + len % block_len
 }
 
+// How many blocks the first bytes of two blocks reach into, told without a division.
+fn spanned(part: usize, block_len: usize) -> usize
+    requires { (1 ≤ block_len) × (part ≤ 2 * block_len) }
+    ensures { (part ≤ result * block_len) × (result * block_len < part + block_len) }
+{
+    if part == 0 {
+        return 0;
+    }
+    if part <= block_len {
+        return 1;
+    }
+    2
+}
+
 // The listed blocks that len bytes from pos on lie in.
 fn touched(list: &[u32], block_len: usize, pos: usize, len: usize) -> &[u32]
     requires { (1 ≤ block_len) × (block_len ≤ 65536) × (pos + len ≤ length list.now * block_len) }
@@ -58,7 +73,7 @@ fn touched(list: &[u32], block_len: usize, pos: usize, len: usize) -> &[u32]
     if len == 0 {
         return &list[first..first];
     }
-    let count = len / block_len + (pos % block_len + len % block_len).div_ceil(block_len);
+    let count = len / block_len + spanned(pos % block_len + len % block_len, block_len);
     &list[first..first + count]
 }
 
@@ -150,7 +165,7 @@ fn fetch(data: &[u8], n: usize, block_len: usize, list: &[u32], pos: usize, buf:
     for &b in blocks {
         let s = share_of(b, block_len, from, len - done);
         let end = done + s.len;
-        buf[done..end].copy_from_slice(&data[s.at..s.at + s.len]);
+        copy(&mut buf[done..end], &data[s.at..s.at + s.len]);
         done = end;
         from = 0;
     }
@@ -169,7 +184,7 @@ fn store(data: &mut [u8], n: usize, block_len: usize, list: &[u32], pos: usize, 
     for &b in blocks {
         let s = share_of(b, block_len, from, len - done);
         let upto = done + s.len;
-        data[s.at..s.at + s.len].copy_from_slice(&buf[done..upto]);
+        copy(&mut data[s.at..s.at + s.len], &buf[done..upto]);
         done = upto;
         from = 0;
     }

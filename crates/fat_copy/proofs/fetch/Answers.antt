@@ -15,8 +15,8 @@ stretch_at-s-requires-clause-block_len_bound c =
 pub overflow_add-s : goal.overflow_add-s
 overflow_add-s c = omega (arith, turn_data c.requires.carries.at c.requires.fact.some c.loop-done-test.true (c.loop-done.invariant _ _ c.requires.carries.at).at c.stretch_at-s.ensures, c.requires.fact.fits)
 
-pub slice_bounds-copy_from_slice-end-in-loop-done : goal.slice_bounds-copy_from_slice-end-in-loop-done
-slice_bounds-copy_from_slice-end-in-loop-done c = omega (arith, turn_data c.requires.carries.at c.requires.fact.some c.loop-done-test.true (c.loop-done.invariant _ _ c.requires.carries.at).at c.stretch_at-s.ensures, c.requires.fact.fits)
+pub slice_bounds-copy-end-in-loop-done : goal.slice_bounds-copy-end-in-loop-done
+slice_bounds-copy-end-in-loop-done c = omega (arith, turn_data c.requires.carries.at c.requires.fact.some c.loop-done-test.true (c.loop-done.invariant _ _ c.requires.carries.at).at c.stretch_at-s.ensures, c.requires.fact.fits)
 
 pub loop-done-smaller : goal.loop-done-smaller
 loop-done-smaller c =
@@ -27,7 +27,7 @@ loop-done-preserved c = λ l p h.
     let r = c.loop-done.invariant l p h in
     read_turn h c.requires.fact.some c.loop-done-test.true r.at c.stretch_at-s.ensures _ _ _ _
     (c.loop-done.done + c.stretch_at-s.result.len - c.loop-done.done) (c.stretch_at-s.result.at + c.stretch_at-s.result.len - c.stretch_at-s.result.at)
-    refl c.requires.fact.fits r (omega arith) (omega arith) c.copy_from_slice.ensures.after
+    refl c.requires.fact.fits r (omega arith) (omega arith) c.copy.ensures
 
 pub returns : goal.returns
 returns c = λ l p h. read_end _ _ _ _ _ _ _ _ _ (c.loop-done.invariant _ _ h) (omega arith)

@@ -8,14 +8,14 @@ pub share_of-s-requires : goal.share_of-s-requires
 share_of-s-requires c =
     (omega (arith, turn_below _ _ _ _ _ c.requires.fact.0.some c.touched-blocks.ensures _ c.requires.domestic _ _ _ c.loop-b-test.true c.loop-b.invariant.0, c.requires.fact.1), c.requires.fact.0.few, turn_fits _ _ _ _ _ c.requires.fact.0.some c.touched-blocks.ensures _ c.requires.domestic _ _ _ c.loop-b-test.true c.loop-b.invariant.0)
 
-pub slice_bounds-copy_from_slice-end : goal.slice_bounds-copy_from_slice-end
-slice_bounds-copy_from_slice-end c = omega (arith, turn_data _ _ _ _ _ c.requires.fact.0.some c.touched-blocks.ensures _ c.requires.domestic _ _ _ c.loop-b-test.true c.loop-b.invariant.0 _ _ c.share_of-s.ensures, c.requires.fact.0.fits, c.loop-b.invariant.2)
+pub slice_bounds-copy-end : goal.slice_bounds-copy-end
+slice_bounds-copy-end c = omega (arith, turn_data _ _ _ _ _ c.requires.fact.0.some c.touched-blocks.ensures _ c.requires.domestic _ _ _ c.loop-b-test.true c.loop-b.invariant.0 _ _ c.share_of-s.ensures, c.requires.fact.0.fits, c.loop-b.invariant.2)
 
 pub loop-b-preserved : goal.loop-b-preserved
 loop-b-preserved c = (
   turn_next _ _ _ _ _ c.requires.fact.0.some c.touched-blocks.ensures _ c.requires.domestic _ _ _ c.loop-b-test.true c.loop-b.invariant.0 _ _ c.share_of-s.ensures,
-  write_turn _ _ _ _ _ _ (turn_row _ _ _ _ _ c.requires.fact.0.some c.touched-blocks.ensures _ c.requires.domestic _ _ _ c.loop-b-test.true c.loop-b.invariant.0 _ _ c.share_of-s.ensures) _ _ _ _ (c.share_of-s.result.at + c.share_of-s.result.len - c.share_of-s.result.at) (c.loop-b.done + c.share_of-s.result.len - c.loop-b.done) (turn_upto _ _ _ _ _ c.requires.fact.0.some c.touched-blocks.ensures _ c.requires.domestic _ _ _ c.loop-b-test.true c.loop-b.invariant.0 _ _ c.share_of-s.ensures) (omega (arith, turn_data _ _ _ _ _ c.requires.fact.0.some c.touched-blocks.ensures _ c.requires.domestic _ _ _ c.loop-b-test.true c.loop-b.invariant.0 _ _ c.share_of-s.ensures, c.requires.fact.0.fits, c.loop-b.invariant.2)) c.loop-b.invariant.1 (omega arith) (omega arith) c.copy_from_slice.ensures.after,
-  write_long _ _ _ _ _ _ (turn_row _ _ _ _ _ c.requires.fact.0.some c.touched-blocks.ensures _ c.requires.domestic _ _ _ c.loop-b-test.true c.loop-b.invariant.0 _ _ c.share_of-s.ensures) _ _ _ _ (c.share_of-s.result.at + c.share_of-s.result.len - c.share_of-s.result.at) (c.loop-b.done + c.share_of-s.result.len - c.loop-b.done) (turn_upto _ _ _ _ _ c.requires.fact.0.some c.touched-blocks.ensures _ c.requires.domestic _ _ _ c.loop-b-test.true c.loop-b.invariant.0 _ _ c.share_of-s.ensures) (omega (arith, turn_data _ _ _ _ _ c.requires.fact.0.some c.touched-blocks.ensures _ c.requires.domestic _ _ _ c.loop-b-test.true c.loop-b.invariant.0 _ _ c.share_of-s.ensures, c.requires.fact.0.fits, c.loop-b.invariant.2)) c.loop-b.invariant.1 (omega arith) (omega arith) c.copy_from_slice.ensures.after ∙ c.loop-b.invariant.2,
+  write_turn _ _ _ _ _ _ (turn_row _ _ _ _ _ c.requires.fact.0.some c.touched-blocks.ensures _ c.requires.domestic _ _ _ c.loop-b-test.true c.loop-b.invariant.0 _ _ c.share_of-s.ensures) _ _ _ _ (c.share_of-s.result.at + c.share_of-s.result.len - c.share_of-s.result.at) (c.loop-b.done + c.share_of-s.result.len - c.loop-b.done) (turn_upto _ _ _ _ _ c.requires.fact.0.some c.touched-blocks.ensures _ c.requires.domestic _ _ _ c.loop-b-test.true c.loop-b.invariant.0 _ _ c.share_of-s.ensures) (omega (arith, turn_data _ _ _ _ _ c.requires.fact.0.some c.touched-blocks.ensures _ c.requires.domestic _ _ _ c.loop-b-test.true c.loop-b.invariant.0 _ _ c.share_of-s.ensures, c.requires.fact.0.fits, c.loop-b.invariant.2)) c.loop-b.invariant.1 (omega arith) (omega arith) c.copy.ensures,
+  write_long _ _ _ _ _ _ (turn_row _ _ _ _ _ c.requires.fact.0.some c.touched-blocks.ensures _ c.requires.domestic _ _ _ c.loop-b-test.true c.loop-b.invariant.0 _ _ c.share_of-s.ensures) _ _ _ _ (c.share_of-s.result.at + c.share_of-s.result.len - c.share_of-s.result.at) (c.loop-b.done + c.share_of-s.result.len - c.loop-b.done) (turn_upto _ _ _ _ _ c.requires.fact.0.some c.touched-blocks.ensures _ c.requires.domestic _ _ _ c.loop-b-test.true c.loop-b.invariant.0 _ _ c.share_of-s.ensures) (omega (arith, turn_data _ _ _ _ _ c.requires.fact.0.some c.touched-blocks.ensures _ c.requires.domestic _ _ _ c.loop-b-test.true c.loop-b.invariant.0 _ _ c.share_of-s.ensures, c.requires.fact.0.fits, c.loop-b.invariant.2)) c.loop-b.invariant.1 (omega arith) (omega arith) c.copy.ensures ∙ c.loop-b.invariant.2,
 )
 
 pub returns : goal.returns
