@@ -82,9 +82,11 @@ pub fn broken_at<T>(answer: &Result<T, Refusal>) -> Fault
     }
 }
 
-// Sets every place of a work list, or of a part of one, to 0.
+// Sets every place of a work list, or of a part of one, to 0. A loop and no `fill`: it compiles to one memset of the whole, and of two in a row one is left.
 pub fn clear(work: &mut [u32])
     ensures { work.new ≡ replicate (length work.old) 0 }
 {
-    work.fill(0);
+    for place in work {
+        *place = 0;
+    }
 }

@@ -6,11 +6,12 @@ use Prim.Native.Nat.{ℕ, zero, suc, ◌+◌, ◌-◌, ◌≤◌, ◌<◌}
 use native.Mathlib.Omega.{arith}
 use native.Mathlib.Nat.{sub-zero}
 use lib.Dec.{eqb}
-use lib.ListN.{length, get_or, set, take, drop, length-set}
+use borrow.Author.Tests.{eq-eqb, ne_eqb}
+use lib.ListN.{length, get_or, set, take, drop, length-set, drop_of_length-le}
 use lib.Seq.{sets, drop-cons}
 use Rattle.std.specs.List.{count_by}
 use Rattle.std.proofs.lemmas.List.{drop-take}
-use Rattle.std.proofs.lemmas.List.Sums.{sum_by-cons}
+use Rattle.std.proofs.lemmas.List.Sums.{sum_by-cons, sum_by-drop_more}
 use Rattle.tree_table.specs.Field.{field}
 use Rattle.tree_table.specs.Chain.{link_at}
 use Rattle.salvage_tree.specs.Entries.{bound, met_from, collision, gone}
@@ -91,6 +92,30 @@ skip : (x n : ℕ) (work : List ℕ) → x < n → (get_or work x 0 ≡ 0 → �
 skip x n work h e =
     let q : suc x ≡ x + 1 = omega arith in
     ap (λ (k : ℕ). unmarked k x work) (next_left x n h) ∙ unmarked_not (n - (x + 1)) x work e ∙ ap (λ (y : ℕ). unmarked (n - (x + 1)) y work) q
+
+-- the marks from 1 below x are counted
+pub record Counted (marks : List ℕ) (x count : ℕ) : Type 0 where
+  pub sum : count + count_by (λ m. eqb m 0) (drop x marks) ≡ count_by (λ m. eqb m 0) (drop 1 marks)
+  pub few : count ≤ x
+
+module _ {marks : List ℕ} {x count : ℕ} (g : Counted marks x count) where
+  next : x < length marks → count_by (λ m. eqb m 0) (drop x marks) ≡ cond (eqb (get_or marks x 0) 0) 1 0 + count_by (λ m. eqb m 0) (drop (x + 1) marks)
+  next h = sum_by-drop_more (λ m. cond (eqb m 0) 1 0) marks x 0 h
+
+  pub counted_hit : {count' : ℕ} → count' ≡ count + 1 → x < length marks → get_or marks x 0 ≡ 0 → Counted marks (x + 1) count'
+  counted_hit q h e = record { sum = omega (arith, q, g.sum, next h, one (get_or marks x 0) e); few = omega (arith, q, g.few) }
+    where
+      one : (v : ℕ) → v ≡ 0 → ◌≡◌ {A = ℕ} (cond (eqb v 0) 1 0) 1
+      one v e = rw (eq-eqb v 0 e)
+
+  pub counted_skip : {count' : ℕ} → count' ≡ count → x < length marks → (get_or marks x 0 ≡ 0 → ⊥) → Counted marks (x + 1) count'
+  counted_skip q h e = record { sum = omega (arith, q, g.sum, next h, none (get_or marks x 0) e); few = omega (arith, q, g.few) }
+    where
+      none : (v : ℕ) → (v ≡ 0 → ⊥) → ◌≡◌ {A = ℕ} (cond (eqb v 0) 1 0) 0
+      none v e = rw (ne_eqb v 0 e)
+
+  pub counted_end : length marks ≤ x → count ≡ count_by (λ m. eqb m 0) (drop 1 marks)
+  counted_end h = omega (arith, g.sum, ap (count_by (λ m. eqb m 0)) (drop_of_length-le marks h))
 
 -- of k places from x on those that are 0 are as many as the entries with no mark
 free_count : (k x : ℕ) (work : List ℕ) → x + k ≤ length work → count_by (λ m. eqb m 0) (take k (drop x work)) ≡ length (unmarked k x work)

@@ -30,11 +30,17 @@ pub fn mark_gone(table: &[u8], w: usize, n: u32, work: &mut [u32])
     }
 }
 
-// How many entries from 1 on have no mark, of as many as there are marks.
+// How many entries from 1 on have no mark, of as many as there are marks. A loop over the places: it compiles to a vector loop, an iterator that skips does not.
 fn count_live(marks: &[u32]) -> usize
     ensures { result ≡ count_by (λ mark. mark == 0) (drop 1 marks.now) }
 {
-    marks.iter().skip(1).filter(|mark| **mark == 0).count()
+    let mut count = 0;
+    for x in 1..marks.len() {
+        if marks[x] == 0 {
+            count += 1;
+        }
+    }
+    count
 }
 
 // Writes the entries from 1 below n that have no mark to a list, which has room for them.

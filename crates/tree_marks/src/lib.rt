@@ -127,9 +127,7 @@ pub fn keep_gone(work: &mut [u32], off: usize, count: u32)
 {
     let end = off + tree_table::index(count);
     for mark in &mut work[off..end] {
-        if *mark != GONE {
-            *mark = 0;
-        }
+        *mark = if *mark == GONE { GONE } else { 0 };
     }
 }
 
