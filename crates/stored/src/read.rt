@@ -25,14 +25,7 @@ pub fn fill_list(list: &mut [u32], stored: &[u8]) {
 
 // Whether a buffer holds what is stored, from its first byte to its last.
 pub fn holds(buf: &[u8], stored: &[u8]) -> bool {
-    let mut i: usize = 0;
-    while i < buf.len() && i < stored.len() {
-        if buf[i] != stored[i] {
-            return false;
-        }
-        i += 1;
-    }
-    i == buf.len()
+    stored.starts_with(buf)
 }
 
 // The same as holds for a list.

@@ -1,9 +1,0 @@
--- `holds` meets its contract.
-use Rattle.std.proofs.Common.{◌-◌, ◌≤◌, length}
-use Rattle.stored.proofs.read.holds.Given as goal
-
-abbrev pub invariant-loop-i : goal.invariant-loop-i
-invariant-loop-i l = l.i ≤ length l.buf
-
-abbrev pub decreases-loop-i : goal.decreases-loop-i
-decreases-loop-i l = length l.buf - l.i
