@@ -1,6 +1,10 @@
 // Each block call by its number in oracle/stored/README.md, for the programs that read from their input what to ask.
 #![tactic(auto)]
 
+ghost use Rattle.std.specs.Prelude.{◌≡◌};
+ghost use Rattle.std.specs.List.{slice_get};
+ghost use Rattle.ask_blocks.specs.Calls.{calls};
+
 use fat_test::Counts;
 use order::Refusal;
 
@@ -54,8 +58,23 @@ const CALLS: [Call; 20] = [
 
 impl Call {
     // The call with a number, if there is one.
-    pub fn numbered(number: u32) -> Option<Call> {
+    pub fn numbered(number: u32) -> Option<Call>
+        ensures { result ≡ slice_get calls number }
+    {
         CALLS.get(number as usize).copied()
+    }
+}
+
+// The call with a number; a number that no call has asks to read.
+impl From<u32> for Call {
+    ghost use Rattle.std.specs.Prelude.{◌≡◌, get_or};
+    ghost use Rattle.ask_blocks.specs.Calls.{calls};
+    ghost use Rattle.ask_blocks.specs.declared.Call.TheVariants.{Read};
+
+    ghost from_gives = { λ number asked. asked ≡ get_or calls number Read };
+
+    fn from(number: u32) -> Call {
+        Call::numbered(number).unwrap_or(Call::Read)
     }
 }
 

@@ -3,7 +3,7 @@ ghost use Rattle.std.specs.Prelude.{◌≤◌, length};
 
 use crate::line::Line;
 use crate::{line, tell};
-use ask_blocks::{Call, Lent, Request, Said};
+use ask_blocks::{Lent, Request, Said};
 
 // What a line lends from there on: bytes of table and data, the block length, places of the work list.
 #[derive(Clone, Copy)]
@@ -63,7 +63,7 @@ fn ask(
     buf: &mut [u8],
 ) -> Said {
     let request = Request {
-        call: Call::numbered(which).unwrap_or(Call::Read),
+        call: which.into(),
         block_len: volume.block_len,
         first: l.a,
         count: l.b,

@@ -3,7 +3,7 @@ ghost use Rattle.std.specs.Prelude.{◌≤◌, length};
 
 use crate::line::Line;
 use crate::{line, tell};
-use ask_tree::{Call, Lent, Look, Request, Said};
+use ask_tree::{Lent, Request, Said};
 use tree_promises::Kind;
 
 // What a line lends from there on: bytes of hashes and tables, places of the work list and of each list of open records, the last of which is the number of
@@ -88,7 +88,7 @@ fn ask(
     let mut work = [0u32; 7];
     let mut list = [0u32; 7];
     let request = Request {
-        call: Call::numbered(which / 2).unwrap_or(Call::Look(Look::Carried)),
+        call: (which / 2).into(),
         kind: kind(which),
         inode: tell::word(l.a),
         parent: tell::word(l.b),

@@ -2,7 +2,7 @@
 ghost use Rattle.std.specs.Prelude.{◌≡◌, length};
 
 use crate::read;
-use ask_blocks::{Call, Lent, Request, Said};
+use ask_blocks::{Lent, Request, Said};
 
 // Whether the stored answer is that one, with the entry and the rule that a broken table names.
 fn answers(kept: &[u8], said: Said) -> bool
@@ -35,7 +35,7 @@ fn call(
     requires { length kept.now ≡ 408 }
 {
     let request = Request {
-        call: Call::numbered(words::get_u32(kept, 0)).unwrap_or(Call::Read),
+        call: words::get_u32(kept, 0).into(),
         block_len: read::size(kept, 24),
         first: read::size(kept, 8),
         count: read::size(kept, 16),

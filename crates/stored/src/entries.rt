@@ -2,7 +2,7 @@
 ghost use Rattle.std.specs.Prelude.{◌≡◌, length};
 
 use crate::read;
-use ask_tree::{Call, Lent, Look, Request, Said};
+use ask_tree::{Lent, Request, Said};
 use tree_promises::Kind;
 
 fn kind(kept: &[u8]) -> Kind
@@ -122,7 +122,7 @@ fn call(
     requires { length kept.now ≡ 1456 }
 {
     let request = Request {
-        call: Call::numbered(words::get_u32(kept, 0)).unwrap_or(Call::Look(Look::Carried)),
+        call: words::get_u32(kept, 0).into(),
         kind: kind(kept),
         inode: words::get_u32(kept, 12),
         parent: words::get_u32(kept, 16),
