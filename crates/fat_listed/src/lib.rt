@@ -50,7 +50,7 @@ fn passes(count: usize, block_len: usize, pos: usize, len: usize) -> bool
     left * block_len < pos % block_len + len % block_len
 }
 
-// How many blocks the first bytes of two blocks reach into, told without a division.
+// Into how many of two blocks their first `part` bytes reach: 0, 1 or 2, told without a division.
 fn spanned(part: usize, block_len: usize) -> usize
     requires { (1 ≤ block_len) × (part ≤ 2 * block_len) }
     ensures { (part ≤ result * block_len) × (result * block_len < part + block_len) }
